@@ -5,7 +5,7 @@ use Rattle.std.proofs.lemmas.Bool.{cases_lt}
 use Rattle.std.proofs.lemmas.Grind.{not_there}
 use Rattle.atomic_table.specs.Seated.{TableId}
 use Rattle.call_table.specs.declared.reply.Call.{Call}
-use Rattle.reference_model.specs.History.{calls_by}
+use Rattle.reference_model.specs.model.History.{calls_by}
 use Rattle.part_types.specs.declared.parts.CpuState.{CpuState}
 use Rattle.hypercalls.specs.declared.parts.Parts.{Parts}
 use Rattle.hypercalls.specs.Stands.{HasHistory, at_place, kept_of}

@@ -5,7 +5,7 @@ use Rattle.std.proofs.lemmas.List.Elements.{All-head, All-tail}
 use mathlib.Core.Logic.{dite}
 use native.Mathlib.Decide.{ℕ_discrete}
 use Rattle.call_table.specs.declared.reply.Call.{Call}
-use Rattle.reference_model.specs.History.{calls_by}
+use Rattle.reference_model.specs.model.History.{calls_by}
 
 abbrev one_if : Bool → ℕ
 one_if b = cond b 1 0

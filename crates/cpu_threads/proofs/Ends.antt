@@ -6,7 +6,6 @@ use native.Mathlib.Decide.{ℕ_discrete}
 use Rattle.call_table.specs.declared.reply.Call.{Call}
 use Rattle.part_table.specs.Passes.{AreHomeFrom, IsPassOf, Opened, Pass}
 use Rattle.part_table.proofs.Lists.{from, get_front, get_last, get_set_else}
-use Rattle.page_state.specs.declared.layout.Layout.{Layout as TheLayout}
 use Rattle.part_types.specs.declared.parts.CpuState.{CpuState}
 use Rattle.part_table.specs.declared.slot.Slot.{Slot}
 use Rattle.part_table.specs.Endings.{ForEach, IsEndFor, KeepsOwn, KeepsSeen, KeepsTried}
@@ -125,16 +124,17 @@ of_given_back : (passes : List (Option Pass)) (given : List Pass) (F : Pass → 
 of_given_back passes given F back each j p e = each p.knows.cpu p (back j p e)
 
 -- so the end that a table has for its passes is one for the given ones
-pub end_given : {A : Type 0} {l : TheLayout} {found : List (Slot A)} {cpus : List CpuState} (passes : List (Option Pass)) (given : List Pass) → OfGiven given (IsBack passes) → IsEndFor l found cpus (ForEach passes) → IsEndFor l found cpus (OfGiven given)
-end_given {l = l} {found = found} {cpus = cpus} passes given back e = record {
+pub end_given : {A : Type 0} {t : Opened} {found : List (Slot A)} {cpus : List CpuState} (passes : List (Option Pass)) (given : List Pass) → OfGiven given (IsBack passes) → IsEndFor t found cpus (ForEach passes) → IsEndFor t found cpus (OfGiven given)
+end_given {t = t} {found = found} {cpus = cpus} passes given back e = record {
   end = e.end;
+  goes_on = e.goes_on;
   own = of_given_back passes given (KeepsOwn cpus) back e.own;
   seen = of_given_back passes given (KeepsSeen found) back e.seen;
-  tried = of_given_back passes given (KeepsTried l found) back e.tried;
+  tried = of_given_back passes given (KeepsTried t.layout found) back e.tried;
 }
 
--- and a CPU whose pass was never handed out is as at boot
-pub end_fresh : (t : Opened) (first passes : List (Option Pass)) (cpus : List CpuState) → AreFresh t first → ForEach first (IsBack passes) → ForEach passes (KeepsOwn cpus) → AreFreshAt t.layout first cpus
+-- and a CPU whose pass was never handed out is as the table began
+pub end_fresh : (t : Opened) (first passes : List (Option Pass)) (cpus : List CpuState) → AreFresh t first → ForEach first (IsBack passes) → ForEach passes (KeepsOwn cpus) → AreFreshAt t first cpus
 end_fresh t first passes cpus fresh stays own c home =
     let p = home.0 in
     let is = fresh c p home.1 in

@@ -4,7 +4,7 @@ use Rattle.std.specs.Prelude.{Option, option_map, unwrap_or}
 use Rattle.page_state.specs.declared.layout.Layout.{Layout as TheLayout}
 use Rattle.page_state.specs.LayoutView.{layout_of}
 use Rattle.call_table.specs.declared.reply.Call.{Call}
-use Rattle.reference_model.specs.History.{calls_on}
+use Rattle.reference_model.specs.model.History.{calls_on}
 use Rattle.part_types.specs.declared.parts.CpuState.{CpuState}
 use Rattle.part_types.specs.Logs.{StoredCalls}
 use Rattle.part_table.specs.declared.slot.Slot.{Slot}
@@ -42,5 +42,5 @@ module _ {A : Type 0} (l : TheLayout) (found : List (Slot A)) (cpus : List CpuSt
       omega (arith, most, long, size, none)
 
 pub full_logs_stay : (A : Type 0) → FullLogsStay A
-full_logs_stay A l found cpus passes given h j p there i t less full =
-    full_stays l found cpus h.end _ full.0 ((h.each j p there).tried i t less full.0 full.1) full.2
+full_logs_stay A m found cpus passes given h j p there i t less full =
+    full_stays m.layout found cpus h.end _ full.0 ((h.each j p there).tried i t less full.0 full.1) full.2

@@ -7,9 +7,9 @@ use Rattle.call_table.specs.declared.reply.Call.{Call}
 use Rattle.call_table.specs.declared.step.Step.{Step}
 use Rattle.call_table.specs.declared.step.Step.TheVariants.{ShareHyp, UnshareHyp, DonateHyp, HypDonateHost, HostAbort, HostTranslate, HypTranslate, OwnerOf, Fund, Unfund, ShareGuest, UnshareGuest, DonateGuest, GuestShareHost, GuestUnshareHost, Install, Topup, ReclaimPage, ReclaimPool, FinishGuest, GuestRelax, GuestTranslate, MarkDying, VmReserve, VmOpen, VcpuLoad, VcpuPut, Teardown, VmRelease}
 use Rattle.call_table.specs.declared.step.VmId.{VmId}
-use Rattle.reference_model.specs.Parts.{guest, is_used, shared, shared_and_guest, vms, vms_of}
-use Rattle.reference_model.specs.Rules.{guest_slot, names}
-use Rattle.reference_model.specs.State.{Cpu}
+use Rattle.reference_model.specs.model.Parts.{guest, is_used, shared, shared_and_guest, vms, vms_of}
+use Rattle.reference_model.specs.model.Rules.{guest_slot, names}
+use Rattle.reference_model.specs.model.State.{Cpu}
 use Rattle.part_types.specs.View.{cpu_of}
 use Rattle.hypercalls.specs.Uses.{or_vms, parts_of}
 use Rattle.hypercalls.specs.declared.used_parts.UsedParts.TheVariants.{Nothing}

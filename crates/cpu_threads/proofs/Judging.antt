@@ -9,9 +9,9 @@ use Rattle.call_table.specs.declared.step.Step.{Step}
 use Rattle.page_state.specs.declared.layout.Layout.{Layout as TheLayout}
 use Rattle.page_state.specs.LayoutView.{layout_of}
 use Rattle.page_state.specs.Layouts.{Layout}
-use Rattle.reference_model.specs.Laws.{AgreeBeside}
-use Rattle.reference_model.specs.State.{Contents, Cpu, Guest, Reference, no_cpu, no_guest, no_shared, no_vms}
-use Rattle.reference_model.specs.Step.{foretell}
+use Rattle.reference_model.specs.claims.Laws.{AgreeBeside}
+use Rattle.reference_model.specs.model.State.{Contents, Cpu, Guest, Reference, no_cpu, no_guest, no_shared, no_vms}
+use Rattle.reference_model.specs.model.Step.{foretell}
 use Rattle.reference_model.proofs.Steps.{first-same, step_changes}
 use Rattle.part_types.specs.declared.parts.VmPart.{VmPart}
 use Rattle.part_types.specs.declared.parts.SharedPart.{SharedPart}

@@ -1,3 +1,4 @@
+pub mod AtBoot
 pub mod Tries
 pub mod Opens
 pub mod Totals

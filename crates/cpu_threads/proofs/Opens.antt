@@ -12,12 +12,12 @@ use Rattle.call_table.specs.declared.step.Step.TheVariants.{VmOpen}
 use Rattle.call_table.specs.declared.step.VmId.{VmId}
 use Rattle.page_state.specs.LayoutView.{layout_of}
 use Rattle.page_state.specs.Layouts.{Layout}
-use Rattle.reference_model.specs.Boot.{boot}
-use Rattle.reference_model.specs.Rules.{rule}
-use Rattle.reference_model.specs.Run.{Runs}
-use Rattle.reference_model.specs.State.{Reference}
-use Rattle.reference_model.specs.Step.{FindsFull, IsMade, IsRefused, IsStoredAnswer, IsWanting, Steps, used_by, rooms_by}
-use Rattle.reference_model.specs.Used.{Used}
+use Rattle.reference_model.specs.model.Boot.{boot}
+use Rattle.reference_model.specs.model.Rules.{rule}
+use Rattle.reference_model.specs.model.Run.{Runs}
+use Rattle.reference_model.specs.model.State.{Reference}
+use Rattle.reference_model.specs.model.Step.{FindsFull, IsMade, IsRefused, IsStoredAnswer, IsWanting, Steps, used_by, rooms_by}
+use Rattle.reference_model.specs.model.Used.{Used}
 use Rattle.part_table.specs.Known.{Known}
 use Rattle.cpu_threads.specs.Machines.{StoresInTheEnd}
 
@@ -44,7 +44,7 @@ unfolding rule
 opened_value l cpu slot x = refl
 
 module _ (l : Layout) (s t : Reference) (c : Call) (v : Value) (opens : c.step ≡ VmOpen) (told : c.reply ≡ Done v) where
-  by_full : (y : Used) → (q : Rattle.reference_model.specs.Used.UsedRooms) → FindsFull c (used_by c s) (rooms_by c s) y q → (vm : VmId) × (v ≡ Vm vm)
+  by_full : (y : Used) → (q : Rattle.reference_model.specs.model.Used.UsedRooms) → FindsFull c (used_by c s) (rooms_by c s) y q → (vm : VmId) × (v ≡ Vm vm)
   by_full y q f = let never : Done v ≡ Refused LogFull = sym told ∙ f.reply in cc
 
   by_answer : (y : Used) → IsMade l c.cpu c.slot c.step (used_by c s) c.reply y ⊎ (IsRefused l c.cpu c.slot c.step (used_by c s) c.reply y ⊎ IsWanting l c.cpu c.slot c.step true (used_by c s) c.reply y) → (vm : VmId) × (v ≡ Vm vm)

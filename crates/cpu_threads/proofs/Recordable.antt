@@ -6,9 +6,9 @@ use Rattle.std.proofs.Props.{props}
 use Rattle.call_table.specs.declared.reply.Call.{Call}
 use Rattle.call_table.specs.declared.step.Step.{Step}
 use Rattle.page_state.specs.Layouts.{Layout}
-use Rattle.reference_model.specs.Boot.{CanBoot}
-use Rattle.reference_model.specs.Conditions.{Legal}
-use Rattle.reference_model.specs.State.{Cpu, Reference}
+use Rattle.reference_model.specs.model.Boot.{CanBoot}
+use Rattle.reference_model.specs.help.Conditions.{Legal}
+use Rattle.reference_model.specs.model.State.{Cpu, Reference}
 use Rattle.reference_model.proofs.conditions.Keeps.{legal_keeps}
 use Rattle.reference_model.proofs.conditions.RunsLegal.{ready-usable, run_legal}
 use Rattle.part_types.specs.declared.parts.CpuState.{CpuState}

@@ -49,7 +49,7 @@ or_pass d (Some (Some p)) = p
 -- a pass that has made no call is of the table, and its CPU's
 pub fresh_theirs : (t : Opened) (passes : List (Option Pass)) → AreFresh t passes → AreTheirs t passes
 fresh_theirs t passes fresh c p e =
-    let is : p ≡ first_pass t.table t.layout c = fresh c p e in
+    let is : p ≡ first_pass t c = fresh c p e in
     (record { table = ap (λ (q : Pass). q.table) is; layout = ap (λ (q : Pass). q.knows.layout) is }, ap (λ (q : Pass). q.knows.cpu) is)
 
 pub first_fresh : (t : Opened) (n : ℕ) (passes : List (Option Pass)) → AreFirst t n passes → AreFresh t passes

@@ -5,7 +5,7 @@ use Rattle.part_types.specs.declared.parts.CpuState.{CpuState}
 use Rattle.part_table.specs.declared.slot.Slot.{Slot}
 use Rattle.part_table.specs.Endings.{IsEndFor}
 use Rattle.part_table.specs.Passes.{IsPassOf, Opened, Pass}
-use Rattle.part_table.specs.Known.{own_at_boot}
+use Rattle.part_table.specs.Beginnings.{own_in}
 
 -- F holds of each given pass
 abbrev pub OfGiven : List Pass → (Pass → Type 0) → Type 0
@@ -45,17 +45,17 @@ HasAll passes given = (c : ℕ) → c < length passes → IsOut passes c → IsG
 abbrev pub IsAtHome : List (Option Pass) → ℕ → Type 0
 IsAtHome passes c = (p : Pass) × (slice_get passes c ≡ Some (Some p))
 
--- a CPU whose pass was never handed out is as at boot, with no call
-abbrev pub AreFreshAt : TheLayout → List (Option Pass) → List CpuState → Type 0
-AreFreshAt l passes cpus = (c : ℕ) → IsAtHome passes c → slice_get cpus c ≡ Some (own_at_boot l c)
+-- a CPU whose pass was never handed out is as the table began, with no call more
+abbrev pub AreFreshAt : Opened → List (Option Pass) → List CpuState → Type 0
+AreFreshAt t passes cpus = (c : ℕ) → IsAtHome passes c → slice_get cpus c ≡ Some (own_in t.begun c)
 
 -- a pass of each CPU is given
 abbrev pub AllGiven : TheLayout → List Pass → Type 0
 AllGiven l given = (c : ℕ) → c < l.config.cpus → IsGiven given c
 
 -- there are parts and CPUs' own states that are the end of one legal history, which is each given pass's, and in which the other CPUs made no call
-abbrev pub HasEndOf : Type 0 → TheLayout → List (Option Pass) → List Pass → Type 0
-HasEndOf A l passes given = (found : List (Slot A)) × (cpus : List CpuState) × IsEndFor l found cpus (OfGiven given) × AreFreshAt l passes cpus
+abbrev pub HasEndOf : Type 0 → Opened → List (Option Pass) → List Pass → Type 0
+HasEndOf A t passes given = (found : List (Slot A)) × (cpus : List CpuState) × IsEndFor t found cpus (OfGiven given) × AreFreshAt t passes cpus
 
 -- the pass is at its CPU's place
 abbrev pub IsBack : List (Option Pass) → Pass → Type 0

@@ -10,7 +10,7 @@ use Rattle.call_table.specs.declared.step.Step.{Step}
 use Rattle.call_table.specs.declared.step.Step.TheVariants.{VmReserve, Fund, Install, VmOpen}
 use Rattle.call_table.specs.declared.step.VmId.{VmId}
 use Rattle.call_table.specs.declared.step.VmKind.{VmKind}
-use Rattle.reference_model.specs.History.{IsStored}
+use Rattle.reference_model.specs.model.History.{IsStored}
 use Rattle.part_table.specs.Known.{Known}
 use Rattle.cpu_threads.specs.Machines.{FullInTheEnd, StoresInTheEnd}
 use Rattle.cpu_threads.specs.declared.init.InitStage.{InitStage}
@@ -38,7 +38,7 @@ module _ (kind : VmKind) (vcpus pfn n : ℕ) where
   IsRefusedAt InstallStage why v w = (a b : Known) × IsMade (VmReserve kind vcpus) v a × IsMade (Fund pfn n) a b × IsCallOf Install (Refused why) b w
   IsRefusedAt Open why v w = (a b c : Known) × IsMade (VmReserve kind vcpus) v a × IsMade (Fund pfn n) a b × IsMade Install b c × IsCallOf VmOpen (Refused why) c w
 
-  -- all four are made, and the last answers the VM; or the first refusal and its stage are told
+  -- all four are made, and the last answers the VM; or the answer is the first refusal and its stage
   abbrev pub InitsVm : Result VmId (InitStage × Refusal) → Known → Known → Type 0
   InitsVm (Ok vm) v w = (a b c : Known) × IsMade (VmReserve kind vcpus) v a × IsMade (Fund pfn n) a b × IsMade Install b c × IsCallOf VmOpen (Done (Vm vm)) c w
   InitsVm (Err e) v w = IsRefusedAt e.0 e.1 v w

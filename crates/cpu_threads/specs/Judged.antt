@@ -42,7 +42,7 @@ both_in (Ok pre) (Err why) = None
 both_in (Err why) other = None
 
 module _ {A : Type 0} where
-  -- what is given to a record, by number
+  -- the parts given to a record, by number
   abbrev pub given_at : Given A → ℕ → Option (Slot A)
   given_at x zero = option_map (λ p. VmSlot p) x.vms
   given_at x (suc zero) = option_map (λ p. SharedSlot p) x.shared
@@ -81,7 +81,7 @@ module _ {A : Type 0} where
     pub guests : (k : ℕ) (p : GuestPart A) → held k ≡ Some (GuestSlot p) → IsLowGuest (guest_held p)
     pub own_low : IsLowCpu (cpu_of own)
 
-  -- A judge is asked once of the call. It is shown the record of the parts that the call uses and of its CPU's own state as they were taken, and that of them as they go home, or it is told that memory was refused to a record
+  -- A judge is asked once about the call. It sees the record of the parts that the call uses and of its CPU's own state as they were taken, and that of them as they go back, or learns that memory was refused to a record
   pub record AsksOnce {J : Type 0} (takes : J → Asked → J → Type 0) (l : TheLayout) (before : ℕ → Option (Slot A)) (own : CpuState) (c : Call) (after : ℕ → Option (Slot A)) (owned : CpuState) (from to : J) : Type 0 where
     pub asked : Asked
     pub takes_it : takes from asked to

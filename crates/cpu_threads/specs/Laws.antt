@@ -12,7 +12,7 @@ use Rattle.call_table.specs.declared.step.Step.{Step}
 use Rattle.call_table.specs.declared.step.Step.TheVariants.{VmReserve, Fund, Install, VmOpen}
 use Rattle.call_table.specs.declared.step.VmId.{VmId}
 use Rattle.call_table.specs.declared.step.VmKind.{VmKind}
-use Rattle.reference_model.specs.History.{IsStored, calls_by, calls_on}
+use Rattle.reference_model.specs.model.History.{IsStored, calls_by, calls_on}
 use Rattle.part_types.specs.declared.parts.CpuState.{CpuState}
 use Rattle.part_types.specs.Logs.{StoredCalls}
 use Rattle.ghost_spec.specs.States.{contents_in}
@@ -21,7 +21,8 @@ use Rattle.part_table.specs.declared.slot.Slot.{Slot}
 use Rattle.part_table.specs.Answered.{FindsAway, FindsLogFull, MeetsAnother, MakesCall, used_by}
 use Rattle.part_table.specs.Endings.{IsEndFor, IsEndOf}
 use Rattle.part_table.specs.Parts.{parts, part_of, uses}
-use Rattle.part_table.specs.Passes.{Pass}
+use Rattle.part_table.specs.Passes.{Opened, Pass}
+use Rattle.part_table.specs.Beginnings.{GoesOn, own_in}
 use Rattle.part_table.specs.Known.{AreFronts, Known, StartsWith, seen_at}
 use Rattle.part_table.specs.Tried.{FoundAway, FoundFull, FoundRoom, Try}
 use Rattle.cpu_threads.specs.Ends.{AreFreshAt, HasAll, IsAtHome, LacksOne, OfGiven}
@@ -36,21 +37,22 @@ pub record IsHistoryOf (l : TheLayout) (log : List Call) (p : Pass) : Type 0 whe
   pub seen : (k : ℕ) → k < parts → StartsWith (calls_on (part_of k) log) (seen_at p.knows.seen k)
   pub tried : AreFronts l.config.log (λ k. calls_on (part_of k) log) p.knows.tries
 
--- There is one legal history at whose end the parts and the CPUs are. It is each given pass's, and has no call of a CPU whose pass was never handed out
-pub record OneHistory {A : Type 0} (l : TheLayout) (found : List (Slot A)) (cpus : List CpuState) (passes : List (Option Pass)) (given : List Pass) : Type 0 where
-  pub end : IsEndOf l found cpus
-  pub each : OfGiven given (IsHistoryOf l end.left.log)
-  pub idle : (c : ℕ) → IsAtHome passes c → calls_by c end.left.log ≡ []
+-- There is one legal history at whose end the parts and the CPUs are. It goes on from what the machine began with, is each given pass's, and has no more calls of a CPU whose pass was never handed out
+pub record OneHistory {A : Type 0} (t : Opened) (found : List (Slot A)) (cpus : List CpuState) (passes : List (Option Pass)) (given : List Pass) : Type 0 where
+  pub end : IsEndOf t.layout found cpus
+  pub goes_on : GoesOn t.begun end.left.log
+  pub each : OfGiven given (IsHistoryOf t.layout end.left.log)
+  pub idle : (c : ℕ) → IsAtHome passes c → calls_by c end.left.log ≡ (own_in t.begun c).log.calls
 
--- so it is where the parts and the CPUs are what a shutdown gives: the end of a legal history, which is each given pass's, and in which the other CPUs made no call
+-- so it is where the parts and the CPUs are what a shutdown gives: the end of a legal history, which is each given pass's, and in which the other CPUs made no call more
 abbrev pub EndsInOne : Type 0 → Type 0
-EndsInOne A = (l : TheLayout) (found : List (Slot A)) (cpus : List CpuState) (passes : List (Option Pass)) (given : List Pass) → IsEndFor l found cpus (OfGiven given) → AreFreshAt l passes cpus
-    → OneHistory l found cpus passes given
+EndsInOne A = (t : Opened) (found : List (Slot A)) (cpus : List CpuState) (passes : List (Option Pass)) (given : List Pass) → IsEndFor t found cpus (OfGiven given) → AreFreshAt t passes cpus
+    → OneHistory t found cpus passes given
 
 -- where a try of a given pass found a part's log full, it is full at the end
 abbrev pub FullLogsStay : Type 0 → Type 0
-FullLogsStay A = (l : TheLayout) (found : List (Slot A)) (cpus : List CpuState) (passes : List (Option Pass)) (given : List Pass) (h : OneHistory l found cpus passes given)
-    → OfGiven given (λ p. All (λ t. FoundFull t.1 → length (calls_on (part_of t.0) h.end.left.log) ≡ l.config.log) p.knows.tries)
+FullLogsStay A = (m : Opened) (found : List (Slot A)) (cpus : List CpuState) (passes : List (Option Pass)) (given : List Pass) (h : OneHistory m found cpus passes given)
+    → OfGiven given (λ p. All (λ t. FoundFull t.1 → length (calls_on (part_of t.0) h.end.left.log) ≡ m.layout.config.log) p.knows.tries)
 
 -- what a pass has seen of a part only grows, and of a part that its call used it ends with the call
 abbrev pub SeenGrows : Type 0

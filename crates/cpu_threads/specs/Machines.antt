@@ -1,5 +1,5 @@
--- A machine, its passes, and what a call tells that is tried again.
-use Rattle.std.specs.Prelude.{◌≡◌, ◌≢◌, ℕ, ◌<◌, ◌≤◌, List, ◌++◌, flat_map, length, All, Option, Some, None, slice_get}
+-- A machine, its passes, and the answer of a call that is tried again.
+use Rattle.std.specs.Prelude.{◌≡◌, ◌≢◌, ℕ, ◌<◌, ◌≤◌, List, [], ◌++◌, flat_map, length, map, All, Option, Some, None, slice_get, slice_index_or}
 use Rattle.page_state.specs.declared.layout.Config.{Config}
 use Rattle.page_state.specs.declared.layout.Geometry.{Geometry}
 use Rattle.call_table.specs.declared.reply.Reply.{Reply}
@@ -7,13 +7,17 @@ use Rattle.call_table.specs.declared.step.Step.{Step}
 use Rattle.page_state.specs.LayoutFaults.{IsAccepted}
 use Rattle.page_state.specs.LayoutView.{layout_of}
 use Rattle.page_state.specs.Regions.{Memory}
-use Rattle.reference_model.specs.Boot.{IsCarveEnough}
+use Rattle.reference_model.specs.model.Boot.{IsCarveEnough}
 use Rattle.part_table.specs.Answered.{FindsLogFull, MakesCall, used_by}
+use Rattle.part_table.specs.declared.rule.Begun.{Begun}
+use Rattle.part_table.specs.Parts.{log_of, parts}
 use Rattle.part_table.specs.Passes.{AreFirst, IsPassOf, Opened, Pass, first_pass}
-use Rattle.part_table.specs.Known.{IsSame, Known}
+use Rattle.part_table.specs.Known.{IsSame, Known, own_at_boot}
+use Rattle.part_table.specs.Beginnings.{own_in}
+use Rattle.part_table.specs.Slots.{slots_of}
 use Rattle.part_table.specs.Tried.{EndsIn, FoundAway, Try}
 use Rattle.hypercalls.specs.declared.parts.Parts.{Parts}
-use Rattle.hypercalls.specs.Booted.{IsBooted, IsConfig, layout_for}
+use Rattle.hypercalls.specs.Booted.{IsConfig, layout_for}
 
 -- a machine: its table of parts, and by CPU the passes that weren't handed out
 pub record Machine : Type 0 where
@@ -26,7 +30,7 @@ AreTheirs t passes = (c : ℕ) (p : Pass) → slice_get passes c ≡ Some (Some 
 
 -- a pass that wasn't handed out has made no call
 abbrev pub AreFresh : Opened → List (Option Pass) → Type 0
-AreFresh t passes = (c : ℕ) (p : Pass) → slice_get passes c ≡ Some (Some p) → p ≡ first_pass t.table t.layout c
+AreFresh t passes = (c : ℕ) (p : Pass) → slice_get passes c ≡ Some (Some p) → p ≡ first_pass t c
 
 -- there is a place for each CPU
 pub record IsReady (t : Opened) (passes : List (Option Pass)) : Type 0 where
@@ -40,9 +44,20 @@ pub record HandsOut (result : Option Pass) (cpu : ℕ) (before after : List (Opt
   pub others : (j : ℕ) → j ≢ cpu → slice_get after j ≡ slice_get before j
   pub count : length after ≡ length before
 
--- the parts have booted, of some memory and configuration
-abbrev pub HaveBooted : {A : Type 0} → Parts A → Type 0
-HaveBooted p = (m : Memory) × (c : Config) × IsBooted m c p
+-- what a table of these parts begins with: their logs, and the CPUs' own states
+abbrev pub begun_of : {A : Type 0} → Parts A → Begun
+begun_of p = record { logs = map (λ x. (log_of x).calls) (slots_of p); owns = p.cpus.items }
+
+-- a machine of these parts, which begins with them, and no pass was handed out
+pub record IsMachineOf {A : Type 0} (p : Parts A) (it : Machine) : Type 0 where
+  pub layout : it.table.layout ≡ p.layout
+  pub begun : it.table.begun ≡ begun_of p
+  pub passes : AreFirst it.table p.layout.config.cpus it.passes
+
+-- it begins with no call: all logs are empty, and each CPU's own state is as at boot
+pub record BeginsAtBoot (t : Opened) : Type 0 where
+  pub logs : (k : ℕ) → k < parts → slice_index_or t.begun.logs k [] ≡ []
+  pub owns : (c : ℕ) → c < t.layout.config.cpus → own_in t.begun c ≡ own_at_boot t.layout c
 
 -- a machine that has booted, where no test failed: it is of the memory and the configuration, and no pass was handed out
 pub record IsBootedMachine (m : Memory) (c : Config) (it : Machine) : Type 0 where
@@ -51,6 +66,7 @@ pub record IsBootedMachine (m : Memory) (c : Config) (it : Machine) : Type 0 whe
   pub accepted : IsConfig c geometry
   pub enough : IsCarveEnough (layout_for m c geometry)
   pub layout : layout_of it.table.layout ≡ layout_for m c geometry
+  pub begun : BeginsAtBoot it.table
   pub passes : AreFirst it.table c.cpus it.passes
 
 -- Tries of a step, one after another, each of which found a part that another pass had, with room in the CPU's own log. None changed anything else

@@ -2,9 +2,9 @@
 use Rattle.std.specs.Prelude.{◌≡◌, ℕ, ◌+◌, ◌<◌, ◌≤◌, ◌==◌, Bool, cond, List, [], ◌∷◌, filter, get_or, length, Option, Some, None, slice_get, Vec}
 use Rattle.std.specs.Vec.{vec_capacity}
 use Rattle.call_table.specs.declared.reply.Call.{Call}
-use Rattle.reference_model.specs.Parts.{is_slot, vm_part, shared_part, guest_part}
-use Rattle.reference_model.specs.Rules.{call_uses}
-use Rattle.reference_model.specs.History.{Kept}
+use Rattle.reference_model.specs.model.Parts.{is_slot, vm_part, shared_part, guest_part}
+use Rattle.reference_model.specs.model.Rules.{call_uses}
+use Rattle.reference_model.specs.model.History.{Kept}
 use Rattle.part_table.specs.Passes.{Pass}
 use Rattle.hypercalls.specs.declared.parts.Parts.{Parts}
 use Rattle.hypercalls.specs.Stands.{kept_of, parts_layout}

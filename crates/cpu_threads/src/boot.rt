@@ -1,9 +1,9 @@
-//! Booting a machine.
-ghost use Rattle.std.specs.Prelude.{◌≡◌, IfOk, MatchResult};
-ghost use Rattle.part_table.specs.Passes.{AreFirst};
+//! Making a machine of a world, and booting one.
+ghost use Rattle.std.specs.Prelude.{IfOk, MatchResult};
 ghost use Rattle.hypercalls.specs.Booted.{IsBooted};
+ghost use Rattle.hypercalls.specs.Stands.{HasHistory};
 ghost use Rattle.world.specs.Boots.{IsNoBoot};
-ghost use Rattle.cpu_threads.specs.Machines.{HaveBooted, IsBootedMachine};
+ghost use Rattle.cpu_threads.specs.Machines.{IsBootedMachine, IsMachineOf};
 
 use crate::machine::Machine;
 use hypercalls::Parts;
@@ -28,15 +28,14 @@ fn booted_parts<A: Allocator + Copy>(
     }
 }
 
-/// The machine of parts that have booted.
+/// The machine of parts at the end of a legal history.
 fn machine_of<A: Allocator + Copy>(
     global: Global,
     alloc: A,
     parts: Parts<A>,
 ) -> Result<Machine<A>, AllocError>
-    requires booted { HaveBooted parts }
-    ensures layout { IfOk result (λ m. m.table.layout ≡ parts.layout) }
-    ensures passes { IfOk result (λ m. AreFirst m.table parts.layout.config.cpus m.passes) }
+    requires history { HasHistory parts }
+    ensures { IfOk result (IsMachineOf parts) }
 {
     let slots = Vec::with_capacity(global, 66)?;
     let (layout, slots, owns) = apart(parts, slots);
@@ -45,6 +44,15 @@ fn machine_of<A: Allocator + Copy>(
 }
 
 impl<A: Allocator + Copy> Machine<A> {
+    /// A machine of a world as it stands, with a pass for each CPU. Its history goes on from the world's: the calls that the
+    /// world has stored come first. Where memory is refused the world is dropped.
+    pub fn open(global: Global, alloc: A, world: World<A>) -> Result<Machine<A>, AllocError>
+        requires history { HasHistory world.parts }
+        ensures { IfOk result (IsMachineOf world.parts) }
+    {
+        machine_of(global, alloc, world.split())
+    }
+
     /// Boots a machine on accepted memory, with a pass for each CPU. The tests, in their order: the configuration, that
     /// the carve-out has a frame for each table, and memory for all else.
     pub fn boot(

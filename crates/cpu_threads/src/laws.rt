@@ -6,7 +6,8 @@ use std::alloc::Allocator;
 
 /// Once a machine is shut down (`Machine::shutdown`: `end`, `fresh`), there is one legal history at whose end the
 /// world is. The calls of each CPU in it are those of its given pass's list, each once, in that order and with the replies
-/// that were answered; a CPU whose pass was never handed out has none. At each part the history begins with what each
+/// that were answered; a CPU whose pass was never handed out has those that the
+/// machine began with. At each part the history begins with what each
 /// given pass had seen there, and with each log that it took.
 pub fn one_history<A: Allocator>()
     ensures { EndsInOne A }
@@ -39,7 +40,7 @@ pub fn init_calls()
     ensures { InitAdds }
 {}
 
-/// A shutdown that tells a missing pass wasn't given all.
+/// A shutdown that names a missing pass wasn't given all.
 pub fn missing()
     ensures { MissingOne }
 {}

@@ -2,7 +2,7 @@
 ghost use Rattle.std.specs.Prelude.{◌≡◌, ◌≢◌, ◌+◌, ◌<◌, ◌↔◌, [], IsTrue, IfSome, length};
 ghost use Rattle.call_table.specs.declared.reply.Refusal.TheVariants.{Contended, LogFull};
 ghost use Rattle.call_table.specs.declared.reply.Reply.TheVariants.{Refused};
-ghost use Rattle.reference_model.specs.History.{IsStored};
+ghost use Rattle.reference_model.specs.model.History.{IsStored};
 ghost use Rattle.part_table.specs.Answered.{Answers};
 ghost use Rattle.part_table.specs.Passes.{IsPassOf};
 ghost use Rattle.cpu_threads.specs.Judged.{IsJudged};

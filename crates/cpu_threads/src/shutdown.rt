@@ -65,7 +65,7 @@ fn ended<A: Allocator>(
     requires cpus { (rooms.cpus.items ≡ []) × (vec_len passes ≤ vec_capacity rooms.cpus) }
     requires guests { (rooms.guests.items ≡ []) × (64 ≤ vec_capacity rooms.guests) }
     ensures layout { result.parts.layout ≡ table.layout }
-    ensures end { IsEndFor table.layout (slots_of result.parts) result.parts.cpus.items (ForEach passes.items) }
+    ensures end { IsEndFor table (slots_of result.parts) result.parts.cpus.items (ForEach passes.items) }
 {
     let Rooms {
         found,
@@ -78,9 +78,9 @@ fn ended<A: Allocator>(
 }
 
 impl<A: Allocator> Machine<A> {
-    /// The world after the one legal history of all calls, once each pass that was handed out is given. Each CPU has the
-    /// state in which its pass ends, with the pass's calls, and each part's log begins with what each pass has seen there
-    /// (`laws::one_history`). A log that a try found full is then full (`laws::full_logs`). With it come copies of all logs,
+    /// The world after the one legal history of all calls, once each pass that was handed out is given. It goes on from the
+    /// history of the world that the machine was made of. Each CPU has the state in which its pass ends, with the pass's
+    /// calls, and each part's log begins with what each pass has seen there (`laws::one_history`). A log that a try found full is then full (`laws::full_logs`). With it come copies of all logs,
     /// for which room is taken before the machine ends. On a refusal the machine and the passes are returned.
     pub fn shutdown(
         self,
@@ -89,8 +89,8 @@ impl<A: Allocator> Machine<A> {
     ) -> Result<(World<A>, Histories), (Machine<A>, Vec<CpuPass<A>>, ShutdownFault)>
         requires pass { AreOf self.table given.items }
         ensures layout { IfOk result (λ r. r.0.parts.layout ≡ self.table.layout) }
-        ensures end { IfOk result (λ r. IsEndFor self.table.layout (slots_of r.0.parts) r.0.parts.cpus.items (OfGiven given.items)) }
-        ensures fresh { IfOk result (λ r. AreFreshAt self.table.layout self.passes r.0.parts.cpus.items) }
+        ensures end { IfOk result (λ r. IsEndFor self.table (slots_of r.0.parts) r.0.parts.cpus.items (OfGiven given.items)) }
+        ensures fresh { IfOk result (λ r. AreFreshAt self.table self.passes r.0.parts.cpus.items) }
         ensures logs { IfOk result (λ r. AreHistories r.0.parts r.1) }
         ensures all { IfOk result (λ _. HasAll self.passes given.items) }
         ensures missing { IfErr result (λ e. e.2 ≡ Missing → LacksOne self.passes given.items) }
@@ -118,7 +118,7 @@ impl<A: Allocator> Machine<A> {
     pub fn drop_with(self, given: Vec<CpuPass<A>>)
         requires pass { AreOf self.table given.items }
         requires all { AllGiven self.table.layout given.items }
-        ensures { HasEndOf A self.table.layout self.passes given.items }
+        ensures { HasEndOf A self.table self.passes given.items }
     {
         let Machine { table, passes } = self;
         let passes = all_back(&table, passes, given);

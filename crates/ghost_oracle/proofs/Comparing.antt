@@ -2,7 +2,7 @@
 use Rattle.std.proofs.Common.{◌≡◌, ℕ, ◌<◌, ap, sym, ◌∙◌, List, length, map}
 use Rattle.std.specs.Prelude.{get_or}
 use Rattle.std.proofs.lemmas.List.{get_or-map}
-use Rattle.reference_model.specs.State.{Contents}
+use Rattle.reference_model.specs.model.State.{Contents}
 use Rattle.ghost_judge.specs.Audits.{AuditAgrees}
 
 -- one state doesn't differ from itself

@@ -3,7 +3,7 @@ use Rattle.std.proofs.Common.{◌≡◌, ℕ, zero, suc, ◌-◌, ◌<◌, refl,
 use Rattle.std.specs.Prelude.{get_or, slice_get}
 use mathlib.Core.Path.{fun_ext}
 use Rattle.page_state.specs.declared.row.Row.{Row}
-use Rattle.reference_model.specs.State.{Guest, Cpu, Shared, Slot, no_guest, no_cpu, no_slot}
+use Rattle.reference_model.specs.model.State.{Guest, Cpu, Shared, Slot, no_guest, no_cpu, no_slot}
 use Rattle.std.proofs.lemmas.List.{get_or-map, length-map}
 use Rattle.part_types.specs.Logs.{StoredCalls, IsOfSize}
 use Rattle.part_types.specs.View.{vm_slots, shared_of, guest_held, cpu_of}

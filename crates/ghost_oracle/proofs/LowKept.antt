@@ -2,7 +2,7 @@
 use Rattle.std.proofs.Common.{◌≡◌, ℕ, ◌<◌, List, [], ◌∷◌, length, map, All, ap, sym, ◌∙◌, subst, arith}
 use Rattle.std.specs.Prelude.{get_or}
 use Rattle.std.proofs.lemmas.List.{get_or-map, length-map}
-use Rattle.reference_model.specs.State.{Cpu, no_cpu}
+use Rattle.reference_model.specs.model.State.{Cpu, no_cpu}
 use Rattle.part_types.specs.declared.parts.CpuState.{CpuState}
 use Rattle.part_types.specs.View.{cpu_of}
 use Rattle.ghost_spec.specs.declared.cpu.GhostCpu.{GhostCpu}

@@ -11,12 +11,12 @@ use Rattle.page_state.specs.Geometries.{pages_below}
 use Rattle.page_state.specs.Layouts.{Layout, is_memory, hyp_page}
 use Rattle.page_state.specs.Map.{is_within}
 use Rattle.page_state.proofs.Updates.{within_test}
-use Rattle.reference_model.specs.Boot.{CanBoot}
+use Rattle.reference_model.specs.model.Boot.{CanBoot}
 use Rattle.reference_model.specs.declared.changes.Loaded.{Loaded}
 use Rattle.reference_model.specs.declared.changes.Ticket.{Ticket}
-use Rattle.reference_model.specs.Conditions.{Legal, is_inside}
-use Rattle.reference_model.specs.Sound.{Place, vm_pool, table_of, hand, IsHeld}
-use Rattle.reference_model.specs.State.{Contents, Guest, Cpu, no_guest, no_cpu}
+use Rattle.reference_model.specs.help.Conditions.{Legal, is_inside}
+use Rattle.reference_model.specs.claims.Sound.{Place, vm_pool, table_of, hand, IsHeld}
+use Rattle.reference_model.specs.model.State.{Contents, Guest, Cpu, no_guest, no_cpu}
 use Rattle.reference_model.proofs.conditions.OfLegal.{shared-of, guests-of}
 use Rattle.reference_model.proofs.conditions.RunsLegal.{few-pages, ready-usable, run_legal}
 use Rattle.reference_model.proofs.conditions.Slots.{loaded-open, ticket-slot}

@@ -7,16 +7,16 @@ use Rattle.call_table.specs.declared.reply.Call.{Call}
 use Rattle.page_state.specs.Layouts.{Layout}
 use Rattle.page_state.proofs.Cases.{by_lt, by_test}
 use Rattle.page_state.proofs.Common.{same2, same4, eq-same}
-use Rattle.reference_model.specs.Boot.{boot, booted}
-use Rattle.reference_model.specs.Conditions.{Legal, IsUsable}
-use Rattle.reference_model.specs.Stored.{held_state}
-use Rattle.reference_model.specs.Parts.{guest_part, is_slot}
-use Rattle.reference_model.specs.Rules.{call_uses}
-use Rattle.reference_model.specs.Run.{Runs, IsRun}
-use Rattle.reference_model.specs.State.{Reference, no_guest, no_cpu}
-use Rattle.reference_model.specs.Laws.{guest_in, cpu_in}
-use Rattle.reference_model.specs.Step.{Steps}
-use Rattle.reference_model.specs.Used.{used_of}
+use Rattle.reference_model.specs.model.Boot.{boot, booted}
+use Rattle.reference_model.specs.help.Conditions.{Legal, IsUsable}
+use Rattle.reference_model.specs.model.Stored.{held_state}
+use Rattle.reference_model.specs.model.Parts.{guest_part, is_slot}
+use Rattle.reference_model.specs.model.Rules.{call_uses}
+use Rattle.reference_model.specs.model.Run.{Runs, IsRun}
+use Rattle.reference_model.specs.model.State.{Reference, no_guest, no_cpu}
+use Rattle.reference_model.specs.claims.Laws.{guest_in, cpu_in}
+use Rattle.reference_model.specs.model.Step.{Steps}
+use Rattle.reference_model.specs.model.Used.{used_of}
 use Rattle.reference_model.proofs.Held.{slot-low}
 use Rattle.reference_model.proofs.RoomLaws.{run_rooms}
 use Rattle.reference_model.proofs.Steps.{state_of as contents_of, all_of, whole, first-same, second-same, step_changes}

@@ -3,9 +3,9 @@ use Rattle.std.proofs.Common.{◌≡◌, ℕ, ◌<◌, List, All, Bool, true, fa
 use Rattle.std.specs.Prelude.{is_some, option_map, if◌then◌else◌}
 use mathlib.Core.Path.{fun_ext}
 use Rattle.page_state.specs.Layouts.{Layout}
-use Rattle.reference_model.specs.Parts.{uses_shared, uses_vms}
-use Rattle.reference_model.specs.State.{Guest, Slot, all_rooms, blank, put_at, no_cpu, no_guest, no_shared, no_slot, no_vms}
-use Rattle.reference_model.specs.Used.{put_back, put_guest, put_room, put_rooms}
+use Rattle.reference_model.specs.model.Parts.{uses_shared, uses_vms}
+use Rattle.reference_model.specs.model.State.{Guest, Slot, all_rooms, blank, put_at, no_cpu, no_guest, no_shared, no_slot, no_vms}
+use Rattle.reference_model.specs.model.Used.{put_back, put_guest, put_room, put_rooms}
 use Rattle.part_types.specs.declared.parts.GuestPart.{GuestPart}
 use Rattle.part_types.specs.View.{cpu_of, guest_held, shared_of, vm_slots}
 use Rattle.hypercalls.specs.Stands.{at_place}

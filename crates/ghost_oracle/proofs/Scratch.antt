@@ -5,8 +5,8 @@ use mathlib.Core.Path.{fun_ext}
 use Rattle.page_state.specs.declared.row.Row.{Row}
 use Rattle.page_state.specs.Layouts.{Layout, is_memory}
 use Rattle.page_state.specs.Rows.{advance_row}
-use Rattle.reference_model.specs.Owner.{row_of}
-use Rattle.reference_model.specs.State.{Contents, Reference, plain_row}
+use Rattle.reference_model.specs.model.Owner.{row_of}
+use Rattle.reference_model.specs.model.State.{Contents, Reference, plain_row}
 use Rattle.run_list.specs.declared.run.Run.{Run}
 use Rattle.run_list.specs.Runs.{run_map}
 use Rattle.part_types.specs.declared.parts.SharedPart.{SharedPart}

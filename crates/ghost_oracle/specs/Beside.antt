@@ -1,4 +1,4 @@
--- What stands beside the trees.
+-- The state beside the trees.
 use Rattle.std.specs.Prelude.{◌≡◌, ℕ, List, Option, Some, None, IfSome, All}
 use Rattle.hyp_pool.specs.Pools.{StoredFrames}
 use Rattle.maplets.specs.View.{KeptMaplets}

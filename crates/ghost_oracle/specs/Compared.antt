@@ -1,4 +1,4 @@
--- What walking finds, where it is told beside what is kept.
+-- What walking finds, given beside the kept state.
 use Rattle.std.specs.Prelude.{◌≡◌, unwrap_or}
 use Rattle.page_state.specs.LayoutView.{layout_of}
 use Rattle.hypercalls.specs.declared.parts.Parts.{Parts}
@@ -8,7 +8,7 @@ use Rattle.ghost_spec.specs.States.{ghost_state}
 use Rattle.ghost_oracle.specs.declared.compared.Compared.{Compared}
 use Rattle.ghost_oracle.specs.Found.{walked_state, HasRowsOf, SaysMaplets, SaysRows}
 
--- what walking finds: the other state, where there is one, and else what is kept
+-- what walking finds: the other state if there is one, otherwise the kept one
 abbrev pub walked_in : Compared → GhostLists
 walked_in c = unwrap_or c.other c.kept
 

@@ -3,8 +3,8 @@ use Rattle.std.specs.Prelude.{◌≡◌, ℕ, true, false, is_some, map}
 use Rattle.page_state.specs.declared.row.Row.{Row}
 use Rattle.page_state.specs.Layouts.{Layout, is_memory}
 use Rattle.page_state.specs.Rows.{advance_row}
-use Rattle.reference_model.specs.Owner.{row_of}
-use Rattle.reference_model.specs.State.{Shared, Contents, Reference, plain_row}
+use Rattle.reference_model.specs.model.Owner.{row_of}
+use Rattle.reference_model.specs.model.State.{Shared, Contents, Reference, plain_row}
 use Rattle.run_list.specs.Runs.{run_map}
 use Rattle.guest_component.specs.View.{runs_of}
 use Rattle.hypercalls.specs.declared.parts.Parts.{Parts}

@@ -1,5 +1,5 @@
 -- Numbers so small that their sums are numbers of 64 bits.
-use Rattle.reference_model.specs.State.{Guest, Cpu}
+use Rattle.reference_model.specs.model.State.{Guest, Cpu}
 use Rattle.ghost_spec.specs.Kept.{AreLowFrames, HasLowTables, IsSmallRange, HasLowLoad, HasLowTicket}
 
 -- the frames of a guest's pool and of its tables are small

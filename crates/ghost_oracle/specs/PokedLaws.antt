@@ -1,4 +1,4 @@
--- What a poke leaves is told whole: no two outcomes are a poke of the same word. So nothing that is said of a poke can be left out.
+-- A poke's outcome is fully determined: no two outcomes are a poke of the same word. So no clause of a poke can be left out.
 use Rattle.std.specs.Prelude.{◌≡◌, ℕ, List}
 use Rattle.page_state.specs.Trees.{Block}
 use Rattle.hypercalls.specs.declared.parts.Parts.{Parts}
@@ -15,6 +15,6 @@ pub record SaysTheSame (x y : SeenTree) : Type 0 where
 abbrev pub PokedOnce : Type 0
 PokedOnce = (b : Block) (before x y : Which → SeenTree) (which : Which) (path : List ℕ) (word : ℕ) → IsPokedTree b before x which path word → IsPokedTree b before y which path word → (tree : Which) → SaysTheSame (x tree) (y tree)
 
--- all that stands beside the trees
+-- all the state beside the trees
 abbrev pub BesideOnce : Type 0 → Type 0
 BesideOnce A = (p : Parts A) (x y : Beside) → IsBeside p x → IsBeside p y → x ≡ y

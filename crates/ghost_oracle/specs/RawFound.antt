@@ -5,7 +5,7 @@ use Rattle.page_state.specs.LayoutView.{layout_of}
 use Rattle.page_state.specs.Rows.{advance_row}
 use Rattle.page_state.specs.Trees.{Pool}
 use Rattle.call_table.specs.declared.step.VmKind.{VmKind}
-use Rattle.reference_model.specs.State.{Phase, no_slot}
+use Rattle.reference_model.specs.model.State.{Phase, no_slot}
 use Rattle.run_list.specs.Runs.{run_map}
 use Rattle.guest_component.specs.Bodies.{phase_of}
 use Rattle.guest_component.specs.View.{guest_of, runs_of}

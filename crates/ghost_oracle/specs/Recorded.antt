@@ -1,11 +1,11 @@
--- The state that a record of given parts tells: what they hold stands in it, and all else is empty.
+-- The state that a record of given parts describes: it has what they hold, and all else is empty.
 use Rattle.std.specs.Borrow.{Bor}
 use Rattle.std.specs.Option.{option_copied}
 use Rattle.std.specs.Prelude.{◌≡◌, ℕ, List, get_or, map, Option, Some, None, is_some, option_map}
 use Rattle.page_state.specs.Layouts.{Layout}
-use Rattle.reference_model.specs.Parts.{Names, uses_shared, uses_vms}
-use Rattle.reference_model.specs.State.{Contents, Rooms, Reference, all_rooms, blank, no_guest, no_shared, no_slot, no_vms, put_at}
-use Rattle.reference_model.specs.Used.{Used, UsedRooms, put_back, put_rooms}
+use Rattle.reference_model.specs.model.Parts.{Names, uses_shared, uses_vms}
+use Rattle.reference_model.specs.model.State.{Contents, Rooms, Reference, all_rooms, blank, no_guest, no_shared, no_slot, no_vms, put_at}
+use Rattle.reference_model.specs.model.Used.{Used, UsedRooms, put_back, put_rooms}
 use Rattle.ghost_spec.specs.declared.parts.GhostSlot.{GhostSlot}
 use Rattle.ghost_spec.specs.States.{slot_in}
 use Rattle.part_types.specs.declared.parts.CpuState.{CpuState}
@@ -15,7 +15,7 @@ use Rattle.part_types.specs.declared.parts.VmPart.{VmPart}
 use Rattle.part_types.specs.View.{cpu_of, guest_held, shared_of, vm_slots}
 use Rattle.hypercalls.specs.Stands.{at_place}
 
--- what is given: the VM part, the Shared part and the Guest part of a slot, each or none, and a CPU's own state
+-- the given parts: the VM part, the Shared part and the Guest part of a slot, each or none, and a CPU's own state
 pub record Given (A : Type 0) : Type 0 where
   pub vms : Option VmPart
   pub shared : Option (SharedPart A)
@@ -34,7 +34,7 @@ given_by v s g k = given (option_copied v) (option_copied s) (option_map (λ p. 
 abbrev pub AreSlotsGiven : Option (Bor VmPart) → List GhostSlot → Type 0
 AreSlotsGiven v slots = (slot : ℕ) → get_or (map slot_in slots) slot (no_slot 1) ≡ (at_place blank.vms vm_slots (option_copied v)).slot slot
 
--- a function with what the given part stands for at its number, where one is given
+-- a function with the state of the given part at its number, if one is given
 abbrev pub put_given : {P X : Type 0} → (ℕ → X) → (P → X) → Option (ℕ × P) → ℕ → X
 put_given f view None = f
 put_given f view (Some p) = put_at f p.0 (view p.1)
@@ -62,7 +62,7 @@ module _ {A : Type 0} (x : Given A) where
   abbrev pub recorded : Layout → Reference
   recorded l = record { contents = recorded_contents; rooms = recorded_rooms (all_rooms l.config.log) }
 
-  -- what is given, as what a call uses
+  -- the given parts, as those that a call uses
   abbrev pub used_given : Used
   used_given = record { vms = at_place no_vms vm_slots x.vms; shared = at_place no_shared shared_of x.shared; guest = at_place no_guest (λ g. guest_held g.1) x.guest; cpu = cpu_of x.own }
 

@@ -24,7 +24,7 @@ use std::alloc::Allocator;
 pub struct Compared {
     /// What is kept.
     pub kept: Ghost,
-    /// What walking finds. None where that is just what is kept.
+    /// What walking finds. None if that is exactly the kept state.
     pub other: Option<Ghost>,
 }
 

@@ -10,7 +10,7 @@ pub fn record_is_put_back<A: Allocator>()
     ensures { RecordsUsed A }
 {}
 
-/// What a poke leaves is told whole: the words and the map of each tree, and all that stands beside the trees.
+/// A poke's outcome is fully determined: the words and the map of each tree, and all the state beside the trees.
 pub fn poked_once<A: Allocator>()
     ensures trees { PokedOnce }
     ensures beside { BesideOnce A }

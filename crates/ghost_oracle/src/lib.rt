@@ -20,3 +20,5 @@ pub mod walk;
 pub use ghost_judge::audit::audit;
 pub use ghost_judge::disagreement::Disagreement;
 pub use ghost_judge::judge::judge;
+pub use parts::stand_from;
+pub use trees::phase_from;

@@ -1,6 +1,6 @@
 //! What isn't in tables, on lists: the VM part's slots, the CPUs' own states, and the rooms of logs.
 ghost use Rattle.std.specs.Prelude.{◌≡◌, ℕ, ◌-◌, ◌<◌, ◌≤◌, All, IfOk, IsTrue, None, get_or, length, map};
-ghost use Rattle.reference_model.specs.State.{no_cpu, no_slot};
+ghost use Rattle.reference_model.specs.model.State.{no_cpu, no_slot};
 ghost use Rattle.part_types.specs.Logs.{IsOfSize};
 ghost use Rattle.part_types.specs.View.{cpu_of};
 ghost use Rattle.vm_table.specs.View.{slot_of, stand_of, vms_of};
@@ -25,8 +25,8 @@ pub(crate) struct SlotsAndCpus {
     pub rooms: GhostRooms,
 }
 
-/// The state of a slot.
-fn stand_from(state: SlotState) -> GhostStand
+/// The stage of a slot, as lists have it.
+pub fn stand_from(state: SlotState) -> GhostStand
     ensures { stand_in result ≡ stand_of state }
 {
     match state {

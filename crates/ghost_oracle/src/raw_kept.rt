@@ -2,7 +2,7 @@
 ghost use Rattle.std.specs.Prelude.{◌≡◌, ℕ, All, IfOk, Some, get_or, length, map};
 ghost use Rattle.page_state.specs.LayoutView.{layout_of};
 ghost use Rattle.ghost_trees.specs.KeptTrees.{IsKeptTree};
-ghost use Rattle.reference_model.specs.State.{no_slot};
+ghost use Rattle.reference_model.specs.model.State.{no_slot};
 ghost use Rattle.part_types.specs.View.{cpu_of, vm_slots};
 ghost use Rattle.ghost_spec.specs.States.{contents_in, slot_in};
 ghost use Rattle.ghost_spec.specs.Views.{cpu_in};

@@ -1,8 +1,8 @@
-//! A record of given parts alone: what a walk of their trees finds, and what is in no tree.
+//! A record of given parts alone: what a walk of their trees finds, and the state that is in no tree.
 ghost use Rattle.std.specs.Prelude.{◌≡◌, ℕ, ◌*◌, ◌<◌, IfOk, IfSome, OnOk, get_or, length, map};
 ghost use Rattle.std.specs.Option.{option_copied, option_map};
 ghost use Rattle.page_state.specs.LayoutView.{layout_of};
-ghost use Rattle.reference_model.specs.State.{blank, no_cpu, put_at};
+ghost use Rattle.reference_model.specs.model.State.{blank, no_cpu, put_at};
 ghost use Rattle.part_types.specs.View.{cpu_of, guest_held, shared_of};
 ghost use Rattle.hypercalls.specs.Stands.{at_place};
 ghost use Rattle.ghost_spec.specs.Kept.{IsKeptGuest, IsKeptShared};

@@ -7,7 +7,7 @@ ghost use Rattle.table_tree.specs.View.{tables_of, tree_of};
 ghost use Rattle.guest_component.specs.View.{guest_of, runs_of as runs_kept};
 ghost use Rattle.part_types.specs.View.{guest_held};
 ghost use Rattle.hypercalls.specs.Stands.{at_place};
-ghost use Rattle.reference_model.specs.State.{no_guest};
+ghost use Rattle.reference_model.specs.model.State.{no_guest};
 ghost use Rattle.ghost_spec.specs.Used.{guests_in};
 ghost use Rattle.ghost_spec.specs.Kept.{IsKeptGuest};
 ghost use Rattle.ghost_trees.specs.KeptTrees.{IsKeptTree};
@@ -116,7 +116,7 @@ pub(crate) fn tree_with_maplets<A: Allocator>(
 }
 
 /// The phase of a guest that isn't Empty.
-pub(crate) fn phase_from(phase: Phase) -> GhostPhase
+pub fn phase_from(phase: Phase) -> GhostPhase
     ensures { phase_in result ≡ phase_of phase }
 {
     match phase {

@@ -5,18 +5,18 @@ use mathlib.Core.Option.{some, some-injective}
 use mathlib.Core.Logic.{dite}
 use native.Mathlib.Decide.{ℕ_discrete}
 use lib.ListN.{get_elem?}
-use Rattle.atomic_table.specs.Seated.{TableId}
 use Rattle.atomic_table.specs.Table.{Final, Seen}
 use Rattle.page_state.specs.declared.layout.Layout.{Layout as TheLayout}
 use Rattle.call_table.specs.declared.reply.Call.{Call}
 use Rattle.page_state.specs.LayoutView.{layout_of}
-use Rattle.reference_model.specs.History.{calls_by, calls_on}
+use Rattle.reference_model.specs.model.History.{calls_by, calls_on}
 use Rattle.part_types.specs.declared.parts.CpuState.{CpuState}
+use Rattle.part_table.specs.declared.rule.Begun.{Begun}
 use Rattle.part_table.specs.declared.rule.View.{View}
 use Rattle.part_table.specs.declared.slot.Slot.{Slot}
 use Rattle.part_table.specs.Endings.{ForEach, Gives, HasEnd, HaveEnded, IsEndFor, IsEndOf, KeepsOwn, KeepsSeen, KeepsTried, ended_of}
 use Rattle.part_table.specs.Parts.{parts, part_of, log_of, IsPart, IsOwn}
-use Rattle.part_table.specs.Passes.{AreHomeFrom, Pass}
+use Rattle.part_table.specs.Passes.{AreHomeFrom, Opened, Pass}
 use Rattle.part_table.specs.Rule.{Ended, IsLawful}
 use Rattle.part_table.specs.Known.{StartsWith, seen_at}
 use Rattle.part_table.proofs.Fronts.{found_fronts}
@@ -24,15 +24,18 @@ use Rattle.part_table.proofs.Lists.{elem_of_get, from, get_front, get_last}
 use Rattle.part_table.proofs.Pairs.{at_bound, part_same}
 use Rattle.part_table.proofs.Root.{Ends, finals}
 
-pub ended_with : (A : Type 0) (key : TheLayout) (id n : ℕ) (v : View A) (ws : List ℕ) (xs : List (Option (Slot A))) → id ≡ 0 → v.root ≡ true → length v.ended ≡ n → v.made ≡ n → Final (Seen (IsLawful key) id v) ws xs → Ends A key v.ended xs
-ended_with A key id n v ws xs first is long made f = finals A key v ws xs is (long ∙ sym made) (subst (λ (m : ℕ). Final (Seen (IsLawful key) m v) ws xs) first f)
+pub ended_with : (A : Type 0) (key : TheLayout) (b : Begun) (id n : ℕ) (v : View A) (ws : List ℕ) (xs : List (Option (Slot A))) → v.begun ≡ b → id ≡ 0 → v.root ≡ true → length v.ended ≡ n → v.made ≡ n → Final (Seen (IsLawful key) id v) ws xs → Ends A key b v.ended xs
+ended_with A key b id n v ws xs same first is long made f = subst (λ (c : Begun). Ends A key c v.ended xs) same (finals A key v ws xs is (long ∙ sym made) (subst (λ (m : ℕ). Final (Seen (IsLawful key) m v) ws xs) first f))
 
 bound : {X : Type 0} (l : List X) (c : ℕ) (x : X) (n : ℕ) → length l ≡ n → slice_get l c ≡ Some x → c < n
 bound l c x n long e = subst (λ (m : ℕ). c < m) long (at_bound l c x (elem_of_get l c x e))
 
-module _ {A : Type 0} (key : TheLayout) (table : TableId) (n : ℕ) (ended : List Ended) (xs : List (Option (Slot A))) (passes : List (Option Pass)) (cpus : List CpuState) (found : List (Slot A))
-    (f : Ends A key ended xs) (have : HaveEnded n passes ended cpus) (gives : Gives parts xs found) (home : AreHomeFrom table n 0 passes) (all : n ≡ key.config.cpus) (long : length passes ≡ n) where
-  is_end : IsEndOf key found cpus
+module _ {A : Type 0} (t : Opened) (n : ℕ) (ended : List Ended) (xs : List (Option (Slot A))) (passes : List (Option Pass)) (cpus : List CpuState) (found : List (Slot A))
+    (f : Ends A t.layout t.begun ended xs) (have : HaveEnded n passes ended cpus) (gives : Gives parts xs found) (home : AreHomeFrom t.table n 0 passes) (all : n ≡ t.layout.config.cpus) (long : length passes ≡ n) where
+  abbrev key : TheLayout
+  key = t.layout
+
+  abbrev is_end : IsEndOf key found cpus
   is_end = record {
     all = gives.0;
     count = have.1 ∙ all;
@@ -78,8 +81,8 @@ module _ {A : Type 0} (key : TheLayout) (table : TableId) (n : ℕ) (ended : Lis
       let ends = (have.2 c p (bound passes c (Some p) n long there) there).0 in
       found_fronts key found f.log p.knows.tries (λ k less. let h = f.each_part k less in (h.0, gives.1 k h.0 less h.1, h.3)) (f.tried c (ended_of p) ends)
 
-  pub end_for : IsEndFor key found cpus (ForEach passes)
-  end_for = record { end = is_end; own = keeps_own; seen = keeps_seen; tried = keeps_tried }
+  pub end_for : IsEndFor t found cpus (ForEach passes)
+  end_for = record { end = is_end; goes_on = f.goes_on; own = keeps_own; seen = keeps_seen; tried = keeps_tried }
 
 -- the parts of the first n places
 parts_of : {A : Type 0} (xs : List (Option (Slot A))) (n : ℕ) → ((k : ℕ) → k < n → (x : Slot A) × (get_elem? xs k ≡ some (Some x))) → (found : List (Slot A)) × Gives n xs found
@@ -96,11 +99,11 @@ parts_of {A = A} xs (suc n) home =
       ),
     )
 
-pub has_end : {A : Type 0} (key : TheLayout) (table : TableId) (n : ℕ) (ended : List Ended) (xs : List (Option (Slot A))) (passes : List (Option Pass)) (cpus : List CpuState)
-    → Ends A key ended xs → HaveEnded n passes ended cpus → AreHomeFrom table n 0 passes → n ≡ key.config.cpus → length passes ≡ n → HasEnd A key passes
-has_end key table n ended xs passes cpus f have home all long =
+pub has_end : {A : Type 0} (t : Opened) (n : ℕ) (ended : List Ended) (xs : List (Option (Slot A))) (passes : List (Option Pass)) (cpus : List CpuState)
+    → Ends A t.layout t.begun ended xs → HaveEnded n passes ended cpus → AreHomeFrom t.table n 0 passes → n ≡ t.layout.config.cpus → length passes ≡ n → HasEnd A t passes
+has_end t n ended xs passes cpus f have home all long =
     let found = parts_of xs parts (λ k lt. let h = f.each_part k lt in (h.0, h.1)) in (
       found.0,
       cpus,
-      end_for key table n ended xs passes cpus found.0 f have found.1 home all long,
+      end_for t n ended xs passes cpus found.0 f have found.1 home all long,
     )

@@ -6,9 +6,9 @@ use Rattle.page_state.specs.declared.layout.Layout.{Layout as TheLayout}
 use Rattle.page_state.specs.LayoutView.{layout_of}
 use Rattle.page_state.specs.Layouts.{Layout}
 use Rattle.call_table.specs.declared.reply.Call.{Call}
-use Rattle.reference_model.specs.History.{calls_on}
-use Rattle.reference_model.specs.Rules.{call_uses}
-use Rattle.reference_model.specs.State.{Reference}
+use Rattle.reference_model.specs.model.History.{calls_on}
+use Rattle.reference_model.specs.model.Rules.{call_uses}
+use Rattle.reference_model.specs.model.State.{Reference}
 use Rattle.part_types.specs.Logs.{IsOfSize, StoredCalls}
 use Rattle.part_table.specs.declared.slot.Slot.{Slot}
 use Rattle.part_table.specs.declared.slot.Slot.TheVariants.{Vm as VmSlot, Shared as SharedSlot, Guest as GuestSlot}

@@ -13,12 +13,12 @@ use Rattle.page_state.specs.declared.layout.Layout.{Layout as TheLayout}
 use Rattle.call_table.specs.declared.reply.Call.{Call}
 use Rattle.page_state.specs.LayoutView.{layout_of}
 use Rattle.page_state.specs.Layouts.{Layout}
-use Rattle.reference_model.specs.Boot.{CanBoot, boot}
-use Rattle.reference_model.specs.History.{IsStored, calls_on, calls_by}
-use Rattle.reference_model.specs.Rules.{call_uses}
-use Rattle.reference_model.specs.Run.{IsRun}
-use Rattle.reference_model.specs.State.{Reference}
-use Rattle.reference_model.specs.Step.{Steps}
+use Rattle.reference_model.specs.model.Boot.{CanBoot, boot}
+use Rattle.reference_model.specs.model.History.{IsStored, calls_on, calls_by}
+use Rattle.reference_model.specs.model.Rules.{call_uses}
+use Rattle.reference_model.specs.model.Run.{IsRun}
+use Rattle.reference_model.specs.model.State.{Reference}
+use Rattle.reference_model.specs.model.Step.{Steps}
 use Rattle.part_types.specs.declared.parts.CpuState.{CpuState}
 use Rattle.part_types.specs.Logs.{StoredCalls}
 use Rattle.part_table.specs.declared.rule.View.{View}
@@ -26,9 +26,11 @@ use Rattle.part_table.specs.declared.slot.Slot.{Slot}
 use Rattle.part_table.specs.Parts.{parts, part_of, uses, log_of, IsPart, IsOwn}
 use Rattle.part_table.specs.Does.{Does}
 use Rattle.part_table.proofs.Left.{one_cpu}
+use Rattle.part_table.proofs.Beginning.{goes_longer}
 use Rattle.part_table.proofs.Fronts.{fronts_longer, fronts_missed, fronts_took}
+use Rattle.part_table.specs.Beginnings.{own_in}
 use Rattle.part_table.specs.Rule.{AreFrontsIn, Hands, held_at, seen_with, StandsAfter, Knows, Rooted, IsLawful, taking, missing, releasing, took, Standing, returned, stored, entered, storing, tail, known_of}
-use Rattle.part_table.specs.Known.{at, seen_at, StartsWith, Extends, own_at_boot}
+use Rattle.part_table.specs.Known.{at, seen_at, StartsWith, Extends}
 use Rattle.part_table.proofs.Pairs.{at_same, at_other, set_at, at_bound, part_same, still_held, seats, picked_more, picked_same, picked_longer, runs_more, after_seen, unused_seen}
 
 pub either_bool : (b : Bool) → (b ≡ true) ⊎ (b ≡ false)
@@ -93,6 +95,7 @@ module _ (A : Type 0) (key : TheLayout) where
           layout = o.layout;
           count = length-set s.views id w ∙ o.count;
           fresh = o.fresh;
+          goes_on = o.goes_on;
           few = o.few;
           ended = λ c e at. let k = o.ended c e at in (k.0, k.1, ended_else w c k.2);
           seen = o.seen;
@@ -263,8 +266,9 @@ module _ (A : Type 0) (key : TheLayout) where
         off = o.off;
         layout = o.layout;
         count = o.count;
-        fresh = λ j le. let other : j ≢ c.cpu = λ is. omega (arith, is, by) in
-            ((picked_same (λ (d : Call). eqb d.cpu j) r.log c (ne_eqb c.cpu j (λ is. other (sym is))) ∙ (o.fresh j le).0), gone.5 j (own_at_boot key j) other (o.fresh j le).1);
+        fresh = λ j le below. let other : j ≢ c.cpu = λ is. omega (arith, is, by) in
+            ((o.fresh j le below).0 ∙ sym (picked_same (λ (d : Call). eqb d.cpu j) r.log c (ne_eqb c.cpu j (λ is. other (sym is)))), gone.5 j (own_in v.begun j) other (o.fresh j le below).1);
+        goes_on = goes_longer v.begun r.log c o.goes_on;
         few = o.few;
         seen = λ j z at_j i. picked_longer (call_uses (part_of i)) r.log c (seen_at z.1 i) (o.seen j z at_j i);
         tried = λ j z at_j. fronts_longer key r.log c z.2 (o.tried j z at_j);

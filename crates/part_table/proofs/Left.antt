@@ -7,8 +7,8 @@ use Rattle.page_state.specs.declared.layout.Layout.{Layout as TheLayout}
 use Rattle.page_state.specs.LayoutView.{layout_of}
 use Rattle.page_state.specs.Layouts.{Layout}
 use Rattle.call_table.specs.declared.reply.Call.{Call}
-use Rattle.reference_model.specs.History.{calls_by, calls_on}
-use Rattle.reference_model.specs.State.{Reference}
+use Rattle.reference_model.specs.model.History.{calls_by, calls_on}
+use Rattle.reference_model.specs.model.State.{Reference}
 use Rattle.part_types.specs.declared.parts.CpuState.{CpuState}
 use Rattle.part_table.specs.declared.slot.Slot.{Slot}
 use Rattle.part_table.specs.Does.{AreLeft, IsLeft, only_cpu}
@@ -38,7 +38,7 @@ module _ {A : Type 0} {l : Layout} {f : ℕ → Option (Slot A)} (cpu : ℕ) (ow
 pub part_left : {A : Type 0} {l : Layout} {owns : ℕ → Option CpuState} {f : ℕ → Option (Slot A)} (h : AreLeft l owns f) (k : ℕ) (x : Slot A) → f k ≡ Some x → IsPart l h.state k x
 part_left h k x e = (h.parts k x e).0
 
-there : {X : Type 0} (xs : List X) (k : ℕ) → k < length xs → (x : X) × (slice_get xs k ≡ Some x)
+pub there : {X : Type 0} (xs : List X) (k : ℕ) → k < length xs → (x : X) × (slice_get xs k ≡ Some x)
 there [] k less = absurd (omega arith)
 there (x ∷ xs) zero less = (x, refl)
 there (x ∷ xs) (suc k) less = there xs k (omega arith)

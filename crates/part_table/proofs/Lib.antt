@@ -2,6 +2,7 @@ pub mod Stepping
 pub mod SteppingByNumber
 pub mod SteppingOn
 pub mod Pairs
+pub mod Beginning
 pub mod Left
 pub mod Fronts
 pub mod Lists

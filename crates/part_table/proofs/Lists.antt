@@ -5,12 +5,10 @@ use mathlib.Core.Option.{some}
 use mathlib.Core.Logic.{dite}
 use native.Mathlib.Decide.{ℕ_discrete}
 use lib.ListN.{get_elem?}
-use Rattle.atomic_table.specs.Seated.{TableId}
-use Rattle.page_state.specs.declared.layout.Layout.{Layout as TheLayout}
 use Rattle.atomic_table.proofs.Lists.{at_longer}
 use Rattle.part_types.specs.declared.parts.CpuState.{CpuState}
 use Rattle.part_table.specs.Endings.{HaveEnded}
-use Rattle.part_table.specs.Passes.{AreFirst, Pass, first_pass}
+use Rattle.part_table.specs.Passes.{AreFirst, Opened, Pass, first_pass}
 use Rattle.part_table.specs.Rule.{Ended}
 
 module _ {X : Type 0} where
@@ -52,13 +50,12 @@ set_false (y ∷ ys) zero = refl
 set_false (y ∷ ys) (suc i) = set_false ys i
 
 -- one pass more, each before its CPU's first call
-pub first_more : (table : TableId) (l : TheLayout) (n : ℕ) (passes : List (Option Pass)) (p : Pass) → AreFirst (record { table = table; layout = l }) n passes → p ≡ first_pass table l n
-    → AreFirst (record { table = table; layout = l }) (n + 1) (passes ++ Some p ∷ [])
-first_more table l n passes p old new = (
+pub first_more : (t : Opened) (n : ℕ) (passes : List (Option Pass)) (p : Pass) → AreFirst t n passes → p ≡ first_pass t n → AreFirst t (n + 1) (passes ++ Some p ∷ [])
+first_more t n passes p old new = (
   length-append passes (Some p ∷ []) ∙ ap (λ m. m + 1) old.0,
   λ c lt. dite (ℕ_discrete c n)
-      (λ is. get_last passes (Some p) c (is ∙ sym old.0) ∙ ap (λ (q : Pass). Some (Some q)) (new ∙ ap (first_pass table l) (sym is)))
-      (λ ne. get_front passes (Some p ∷ []) (Some (first_pass table l c)) c (old.1 c (omega arith))),
+      (λ is. get_last passes (Some p) c (is ∙ sym old.0) ∙ ap (λ (q : Pass). Some (Some q)) (new ∙ ap (first_pass t) (sym is)))
+      (λ ne. get_front passes (Some p ∷ []) (Some (first_pass t c)) c (old.1 c (omega arith))),
 )
 
 -- one pass more has ended

@@ -6,7 +6,7 @@ use Rattle.page_state.specs.LayoutView.{layout_of}
 use Rattle.call_table.specs.declared.reply.Call.{Call}
 use Rattle.call_table.specs.declared.reply.Reply.{Reply}
 use Rattle.call_table.specs.declared.step.Step.{Step}
-use Rattle.reference_model.specs.History.{IsStored}
+use Rattle.reference_model.specs.model.History.{IsStored}
 use Rattle.part_types.specs.declared.parts.CpuState.{CpuState}
 use Rattle.part_types.specs.Logs.{StoredCalls}
 use Rattle.part_table.specs.declared.slot.Slot.{Slot}

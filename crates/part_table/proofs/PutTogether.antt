@@ -11,9 +11,9 @@ use Rattle.part_types.specs.declared.parts.GuestPart.{GuestPart}
 use Rattle.page_state.specs.declared.layout.Layout.{Layout as TheLayout}
 use Rattle.page_state.specs.LayoutView.{layout_of}
 use Rattle.page_state.specs.Layouts.{Layout}
-use Rattle.reference_model.specs.History.{calls_on}
-use Rattle.reference_model.specs.Parts.{vm_part, shared_part, guest_part}
-use Rattle.reference_model.specs.State.{Reference, no_guest, no_cpu}
+use Rattle.reference_model.specs.model.History.{calls_on}
+use Rattle.reference_model.specs.model.Parts.{vm_part, shared_part, guest_part}
+use Rattle.reference_model.specs.model.State.{Reference, no_guest, no_cpu}
 use Rattle.part_types.specs.declared.parts.CpuState.{CpuState}
 use Rattle.part_types.specs.Numbers.{AreNumbered}
 use Rattle.part_types.specs.View.{guest_held, cpu_of}

@@ -1,7 +1,6 @@
 -- What the root does: it makes the views of the CPUs, takes them in, and learns the history once all have ended.
-use Rattle.std.proofs.Common.{◌≡◌, ◌≢◌, ℕ, zero, suc, ◌+◌, ◌<◌, List, [], ◌∷◌, ◌++◌, length, set, true, false, true≢false, refl, sym, ap, ◌∙◌, subst, ⊎_elim, arith, length-set, length-append}
-use Rattle.std.specs.Prelude.{Option, Some, None, slice_index, All}
-use Rattle.std.proofs.lemmas.List.Elements.{All-nil}
+use Rattle.std.proofs.Common.{◌≡◌, ◌≢◌, ℕ, zero, suc, ◌+◌, ◌<◌, List, [], ◌∷◌, ◌++◌, append-nil, length, map, set, true, false, true≢false, refl, sym, ap, ◌∙◌, subst, ⊎_elim, arith, length-set, length-append}
+use Rattle.std.specs.Prelude.{Option, Some, None, slice_get, slice_index, slice_index_or, All}
 use mathlib.Core.Option.{some, some-ne-none, some-injective}
 use mathlib.Core.Logic.{dite}
 use native.Mathlib.Decide.{ℕ_discrete}
@@ -12,39 +11,29 @@ use Rattle.atomic_table.proofs.Lists.{at_set, set_else, at_longer, at_map}
 use Rattle.page_state.specs.declared.layout.Layout.{Layout as TheLayout}
 use Rattle.call_table.specs.declared.reply.Call.{Call}
 use Rattle.page_state.specs.LayoutView.{layout_of}
-use Rattle.reference_model.specs.Boot.{CanBoot, boot, booted}
-use Rattle.reference_model.specs.History.{IsStored, calls_by, calls_on}
-use Rattle.reference_model.specs.Run.{IsRun}
-use Rattle.reference_model.specs.State.{Reference}
+use Rattle.reference_model.specs.model.Boot.{CanBoot}
+use Rattle.reference_model.specs.model.History.{IsStored, calls_by, calls_on}
+use Rattle.reference_model.specs.model.Run.{IsRun}
+use Rattle.reference_model.specs.model.State.{Reference}
+use Rattle.part_types.specs.declared.parts.CpuState.{CpuState}
+use Rattle.part_table.specs.declared.rule.Begun.{Begun}
+use Rattle.part_table.specs.declared.rule.Opening.{Opening}
 use Rattle.part_table.specs.declared.rule.View.{View}
 use Rattle.part_table.specs.declared.slot.Slot.{Slot}
 use Rattle.part_table.specs.Parts.{parts, part_of, log_of, IsPart, IsOwn}
-use Rattle.part_table.specs.Does.{IsLeft, none_at}
+use Rattle.part_table.specs.Does.{AreLeft}
+use Rattle.part_table.specs.Endings.{IsEndIn}
+use Rattle.part_table.proofs.Beginning.{get_mapped, logs_at}
 use Rattle.part_table.proofs.Fronts.{fronts_none}
-use Rattle.part_table.proofs.Left.{one_cpu}
+use Rattle.part_table.proofs.Left.{each_part, one_cpu, own_left, there}
+use Rattle.part_table.proofs.Lists.{elem_of_get, or_of_get}
+use Rattle.part_table.specs.Beginnings.{AreLeftFirst, GoesOn, begun_in, logs_in, no_own, own_in}
 use Rattle.part_table.specs.Rule.{AreFrontsIn, Ended, held_at, Knows, Rooted, IsLawful, IsIdle, nobody, rooted, one_more, newcomer, with_end}
-use Rattle.part_table.specs.Known.{StartsWith, seen_at, own_at_boot}
+use Rattle.part_table.specs.Known.{StartsWith, seen_at}
 use Rattle.part_table.proofs.Pairs.{set_at, at_bound, at_end, seats, still_held}
 
 idle_is : {A : Type 0} → (x : Slot A) (o : Option (Slot A)) → o ≡ None → o ≡ Some x → ⊥
 idle_is x o a b = let never : None ≡ Some x = sym a ∙ b in absurd cc
-
--- before its first call a CPU's own state stands in the boot state
-pub fresh_stands : (key : TheLayout) (c : ℕ) → IsOwn (layout_of key) (boot (layout_of key)) c (own_at_boot key c)
-unfolding booted
-fresh_stands key c = record { id = refl; content = refl; room = refl; size = omega arith }
-
--- a pass before its first call is at rest
-pub fresh_rest : (A : Type 0) (key : TheLayout) (c : ℕ) → CanBoot (layout_of key) → IsLeft {A = A} (layout_of key) c (own_at_boot key c) none_at
-fresh_rest A key c can = record {
-  ready = can;
-  log = [];
-  state = boot (layout_of key);
-  run = record { cpus = All-nil (λ (d : Call). d.cpu < key.config.cpus); leads = refl };
-  stored = All-nil (λ (d : Call). IsStored d.reply);
-  cpus = one_cpu (λ n k. (k.log.calls ≡ calls_by n []) × IsOwn (layout_of key) (boot (layout_of key)) n k) c (own_at_boot key c) (refl, fresh_stands key c);
-  parts = λ j x q. absurd cc;
-}
 
 module _ (A : Type 0) (key : TheLayout) where
   abbrev Rule : State (Option (Slot A)) (View A) → Type 0
@@ -72,7 +61,7 @@ module _ (A : Type 0) (key : TheLayout) where
       let vs : List (View A) = set s.views 0 left in
       let mine = r.each_seat 0 v here in
       let long : length vs ≡ v.made + 1 = length-set s.views 0 left ∙ o.count in
-      let fresh = o.fresh v.made (omega arith) in record {
+      let fresh = o.fresh v.made (omega arith) few_made in record {
         ready = r.ready;
         log = r.log;
         state = r.state;
@@ -91,8 +80,8 @@ module _ (A : Type 0) (key : TheLayout) where
               layout = λ _. of;
               known = λ _. few_made;
               seat = λ _. sym long;
-              mine = λ _. sym fresh.0;
-              own = λ _. subst (λ (l : TheLayout). IsOwn (layout_of key) r.state v.made (own_at_boot l v.made)) (sym of) fresh.1;
+              mine = λ _. fresh.0;
+              own = λ _. fresh.1;
               seen = λ _ k. (calls_on (part_of k) r.log, refl);
               tried = λ _. fronts_none key r.log;
               held = λ k x e. absurd (idle_is x None refl e);
@@ -104,7 +93,8 @@ module _ (A : Type 0) (key : TheLayout) where
               off = o.off;
               layout = o.layout;
               count = length-append vs (right ∷ []) ∙ ap (λ n. n + 1) long;
-              fresh = λ c le. o.fresh c (omega arith);
+              fresh = λ c le below. o.fresh c (omega arith) below;
+              goes_on = o.goes_on;
               few = let f = o.few in omega arith;
               seen = o.seen;
               tried = o.tried;
@@ -155,6 +145,7 @@ module _ (A : Type 0) (key : TheLayout) where
               layout = o.layout;
               count = length-set vs other nobody ∙ (length-set s.views 0 both ∙ o.count);
               fresh = o.fresh;
+              goes_on = o.goes_on;
               few = let l = length-append v.ended ((w.own, w.seen, w.tries) ∷ []) in omega arith;
               seen = λ c e at k. ⊎_elim
                   (λ old. o.seen c e old k)
@@ -185,7 +176,7 @@ module _ (A : Type 0) (key : TheLayout) where
       }
 
   -- the history that stands once all CPUs have ended: every part is at home, as after it, and what each had seen, and each log that it took, begins its parts
-  pub record Ends (ended : List Ended) (xs : List (Option (Slot A))) : Type 0 where
+  pub record Ends (b : Begun) (ended : List Ended) (xs : List (Option (Slot A))) : Type 0 where
     pub ready : CanBoot (layout_of key)
     pub log : List Call
     pub state : Reference
@@ -195,6 +186,7 @@ module _ (A : Type 0) (key : TheLayout) where
     pub each_cpu : (c : ℕ) (e : Ended) → get_elem? ended c ≡ some e → (e.0.log.calls ≡ calls_by c log) × IsOwn (layout_of key) state c e.0
     pub seen : (c : ℕ) (e : Ended) → get_elem? ended c ≡ some e → (k : ℕ) → StartsWith (calls_on (part_of k) log) (seen_at e.1 k)
     pub tried : (c : ℕ) (e : Ended) → get_elem? ended c ≡ some e → AreFrontsIn key log e.2
+    pub goes_on : GoesOn b log
 
   in_list : (l : List Ended) (c : ℕ) → c < length l → (e : Ended) × (get_elem? l c ≡ some e)
   in_list [] c lt = absurd (omega arith)
@@ -205,7 +197,7 @@ module _ (A : Type 0) (key : TheLayout) where
   on_false v all s r at o zero u e = ap (λ (z : View A). z.on) (some-injective u v (sym e ∙ at)) ∙ o.off
   on_false v all s r at o (suc c) u e = let lt = at_bound s.views (suc c) u e in let count = o.count in let h = in_list v.ended c (omega arith) in (o.ended c h.0 h.1).2 u (ap (get_elem? s.views) (omega arith) ∙ e)
 
-  pub finals : (v : View A) (ws : List ℕ) (xs : List (Option (Slot A))) → v.root ≡ true → length v.ended ≡ v.made → Final (Seen Rule 0 v) ws xs → Ends v.ended xs
+  pub finals : (v : View A) (ws : List ℕ) (xs : List (Option (Slot A))) → v.root ≡ true → length v.ended ≡ v.made → Final (Seen Rule 0 v) ws xs → Ends v.begun v.ended xs
   finals v ws xs is all f =
       let s = f.0 in let r = f.1.0 in let o = r.root v f.1.1 is in record {
         ready = r.ready;
@@ -219,27 +211,65 @@ module _ (A : Type 0) (key : TheLayout) where
         each_cpu = λ c e at. let k = o.ended c e at in (k.0, k.1);
         seen = o.seen;
         tried = o.tried;
+        goes_on = o.goes_on;
       }
 
-  pub opens : (l : TheLayout) → l ≡ key → CanBoot (layout_of key) → (ws : List ℕ) (xs : List (Option (Slot A))) → length ws ≡ parts → length xs ≡ parts
-      → ((k : ℕ) → k < parts → (slice_index ws k ≡ 0) × ((x : Slot A) × (get_elem? xs k ≡ some (Some x)) × IsPart (layout_of key) (boot (layout_of key)) k x × ((log_of x).calls ≡ []))) → Rule (opening ws xs (rooted l))
-  opens l same can ws xs wide deep ready = record {
-    ready = can;
-    log = [];
-    state = boot (layout_of key);
+module _ (A : Type 0) (k : Opening A) (xs : List (Option (Slot A))) (same : k.slots.value.items ≡ xs) (e : IsEndIn k.layout xs k.owns.value.items) where
+  abbrev leaves : AreLeft (layout_of k.layout) (λ c. slice_get k.owns.value.items c) (λ j. slice_get e.found j)
+  leaves = e.end.left
+
+  -- what lies in a slot
+  in_slot : (j : ℕ) (x : Slot A) → slice_get e.found j ≡ Some x → get_elem? xs j ≡ some (Some x)
+  in_slot j x here = ap (λ (ys : List (Option (Slot A))). get_elem? ys j) e.slots_are ∙ elem_of_get (map (λ (y : Slot A). Some y) e.found) j (Some x) (get_mapped e.found j x here)
+
+  -- the own state with which a CPU begins
+  first_own : (c : ℕ) → c < k.layout.config.cpus → ((own_in (begun_in k) c).log.calls ≡ calls_by c leaves.log) × IsOwn (layout_of k.layout) leaves.state c (own_in (begun_in k) c)
+  first_own c below =
+      let count : length k.owns.value.items ≡ k.layout.config.cpus = e.end.count in
+      let h = there k.owns.value.items c (omega arith) in
+      let is : own_in (begun_in k) c ≡ h.0 = or_of_get k.owns.value.items c no_own h.0 h.1 in
+      subst (λ (o : CpuState). (o.log.calls ≡ calls_by c leaves.log) × IsOwn (layout_of k.layout) leaves.state c o) (sym is) (leaves.cpus c h.0 h.1)
+
+  pub left_first : AreLeftFirst A k.layout (begun_in k)
+  left_first c below = record {
+    ready = leaves.ready;
+    log = leaves.log;
+    state = leaves.state;
+    run = leaves.run;
+    stored = leaves.stored;
+    cpus = one_cpu (λ n o. (o.log.calls ≡ calls_by n leaves.log) × IsOwn (layout_of k.layout) leaves.state n o) c (own_in (begun_in k) c) (first_own c below);
+    parts = λ j x q. absurd cc;
+  }
+
+  begins : GoesOn (begun_in k) leaves.log
+  begins = record {
+    first = leaves.log;
+    after = [];
+    log_is = sym (append-nil leaves.log);
+    on = λ j below. let x = each_part e.end j below in
+        sym x.3 ∙ sym (logs_at e.found j x.0 x.1) ∙ ap (λ (ys : List (Option (Slot A))). slice_index_or (logs_in ys) j []) (sym e.slots_are ∙ sym same);
+    by = λ c o here. sym (leaves.cpus c o here).0;
+  }
+
+  pub opens : (ws : List ℕ) → length ws ≡ parts → ((j : ℕ) → slice_index ws j ≡ 0) → IsLawful k.layout (opening ws xs (rooted k))
+  opens ws wide zero_words = record {
+    ready = leaves.ready;
+    log = leaves.log;
+    state = leaves.state;
     holder = λ _. 0;
-    run = record { cpus = All-nil (λ (c : Call). c.cpu < key.config.cpus); leads = refl };
-    stored = All-nil (λ (c : Call). IsStored c.reply);
+    run = leaves.run;
+    stored = leaves.stored;
     wide = wide;
-    deep = length-map xs (λ (y : Option (Slot A)). some y) ∙ deep;
-    at_home = λ k lt z. let h = (ready k lt).1 in (h.0, at_map (λ (y : Option (Slot A)). some y) xs k (Some h.0) h.1, (h.2, h.3));
-    taken = λ k lt nz. absurd (nz (ready k lt).0);
+    deep = length-map xs (λ (y : Option (Slot A)). some y) ∙ ap (λ (ys : List (Option (Slot A))). length ys) e.slots_are ∙ length-map e.found (λ (y : Slot A). Some y) ∙ e.end.all;
+    at_home = λ j lt z. let x = each_part e.end j lt in (x.0, at_map (λ (y : Option (Slot A)). some y) xs j (Some x.0) (in_slot j x.0 x.1), (x.2, x.3));
+    taken = λ j lt nz. absurd (nz (zero_words j));
     each_seat = each;
-    root = λ u e up. subst (λ (v : View A). Rooted key (rooted l ∷ []) [] (boot (layout_of key)) v) (some-injective (rooted l) u e) record {
+    root = λ u f up. subst (λ (v : View A). Rooted k.layout (rooted k ∷ []) leaves.log leaves.state v) (some-injective (rooted k) u f) record {
       off = refl;
-      layout = same;
+      layout = refl;
       count = refl;
-      fresh = λ c le. (refl, fresh_stands key c);
+      fresh = λ c le below. first_own c below;
+      goes_on = begins;
       few = omega arith;
       ended = λ c e at. absurd (some-ne-none e (sym at));
       seen = λ c e at. absurd (some-ne-none e (sym at));
@@ -247,6 +277,10 @@ module _ (A : Type 0) (key : TheLayout) where
     };
   }
     where
-      each : (j : ℕ) (v : View A) → get_elem? (rooted l ∷ []) j ≡ some v → Knows key ws (λ _. 0) [] (boot (layout_of key)) j v
-      each zero v e = subst (Knows key ws (λ _. 0) [] (boot (layout_of key)) 0) (some-injective (rooted l) v e) (off_knows ws (λ _. 0) [] (boot (layout_of key)) 0 (rooted l) refl (λ k x e. absurd (idle_is x None refl e)))
-      each (suc j) v e = absurd (some-ne-none v (sym e))
+      each : (j : ℕ) (v : View A) → get_elem? (rooted k ∷ []) j ≡ some v → Knows k.layout ws (λ _. 0) leaves.log leaves.state j v
+      each zero v f = subst (Knows k.layout ws (λ _. 0) leaves.log leaves.state 0) (some-injective (rooted k) v f) (off_knows A k.layout ws (λ _. 0) leaves.log leaves.state 0 (rooted k) refl (λ j x g. absurd (idle_is x None refl g)))
+      each (suc j) v f = absurd (some-ne-none v (sym f))
+
+-- a CPU begins with the own state of its number
+pub first_id : (A : Type 0) (l : TheLayout) (b : Begun) → AreLeftFirst A l b → (c : ℕ) → c < l.config.cpus → (own_in b c).id ≡ c
+first_id A l b left c below = (own_left c (own_in b c) (left c below)).id

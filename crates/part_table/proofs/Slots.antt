@@ -4,10 +4,10 @@ use Rattle.std.specs.Prelude.{Option, Some, None}
 use Rattle.page_state.specs.declared.layout.Layout.{Layout as TheLayout}
 use Rattle.call_table.specs.declared.step.Step.{Step}
 use Rattle.page_state.specs.LayoutView.{layout_of}
-use Rattle.reference_model.specs.Parts.{Names, uses_vms, uses_shared}
-use Rattle.reference_model.specs.Rules.{names, guest_slot}
-use Rattle.reference_model.specs.State.{Contents, Cpu}
-use Rattle.reference_model.specs.Used.{used_of}
+use Rattle.reference_model.specs.model.Parts.{Names, uses_vms, uses_shared}
+use Rattle.reference_model.specs.model.Rules.{names, guest_slot}
+use Rattle.reference_model.specs.model.State.{Contents, Cpu}
+use Rattle.reference_model.specs.model.Used.{used_of}
 use Rattle.reference_model.proofs.Rely.{reached_relies}
 use Rattle.part_types.specs.declared.parts.CpuState.{CpuState}
 use Rattle.part_types.specs.View.{cpu_of}

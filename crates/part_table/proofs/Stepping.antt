@@ -7,12 +7,12 @@ use Rattle.page_state.proofs.Common.{eq-self}
 use Rattle.call_table.specs.declared.reply.Call.{Call}
 use Rattle.call_table.specs.declared.step.Step.{Step}
 use Rattle.page_state.specs.Layouts.{Layout}
-use Rattle.reference_model.specs.Parts.{Names, is_slot, uses_vms, uses_shared}
-use Rattle.reference_model.specs.Rules.{names}
-use Rattle.reference_model.specs.Reached.{IsReached}
-use Rattle.reference_model.specs.State.{Vms, Shared, Guest, Cpu, Reference, no_vms, no_shared, no_guest}
-use Rattle.reference_model.specs.Step.{Steps, StepsOn, rooms_by, with_used}
-use Rattle.reference_model.specs.Used.{Used, UsedRooms, used_of, put_back, rooms_of, put_rooms, guest_at, put_guest, room_at, put_room}
+use Rattle.reference_model.specs.model.Parts.{Names, is_slot, uses_vms, uses_shared}
+use Rattle.reference_model.specs.model.Rules.{names}
+use Rattle.reference_model.specs.model.Reached.{IsReached}
+use Rattle.reference_model.specs.model.State.{Vms, Shared, Guest, Cpu, Reference, no_vms, no_shared, no_guest}
+use Rattle.reference_model.specs.model.Step.{Steps, StepsOn, rooms_by, with_used}
+use Rattle.reference_model.specs.model.Used.{Used, UsedRooms, used_of, put_back, rooms_of, put_rooms, guest_at, put_guest, room_at, put_room}
 use Rattle.part_types.specs.declared.parts.VmPart.{VmPart}
 use Rattle.part_types.specs.declared.parts.SharedPart.{SharedPart}
 use Rattle.part_types.specs.declared.parts.GuestPart.{GuestPart}
@@ -28,7 +28,7 @@ use Rattle.part_table.specs.Does.{Does, HasMemoryFor, IsLeft}
 use Rattle.guest_component.specs.Wants.{WantsNoMemory}
 use Rattle.part_types.specs.Roomy.{IsRoomy}
 use Rattle.reference_model.specs.declared.changes.Changes.{Changes}
-use Rattle.reference_model.specs.Decides.{decides}
+use Rattle.reference_model.specs.model.Decides.{decides}
 use Rattle.part_table.proofs.Left.{own_left, part_left}
 use Rattle.part_table.specs.Parts.{uses, log_of, IsPart, IsOwn, IsVms, IsShared, IsGuest}
 

@@ -4,8 +4,8 @@ use Rattle.std.proofs.lemmas.Bool.Decides.{nat_tests}
 use Rattle.page_state.proofs.Cases.{by_eq}
 use Rattle.call_table.specs.declared.reply.Call.{Call}
 use Rattle.page_state.specs.Layouts.{Layout}
-use Rattle.reference_model.specs.Parts.{is_slot}
-use Rattle.reference_model.specs.State.{Reference}
+use Rattle.reference_model.specs.model.Parts.{is_slot}
+use Rattle.reference_model.specs.model.State.{Reference}
 use Rattle.part_types.specs.declared.parts.VmPart.{VmPart}
 use Rattle.part_types.specs.declared.parts.SharedPart.{SharedPart}
 use Rattle.part_types.specs.declared.parts.GuestPart.{GuestPart}

@@ -7,9 +7,9 @@ use Rattle.page_state.specs.declared.layout.Layout.{Layout as TheLayout}
 use Rattle.call_table.specs.declared.reply.Call.{Call}
 use Rattle.page_state.specs.LayoutView.{layout_of}
 use Rattle.page_state.specs.Layouts.{Layout}
-use Rattle.reference_model.specs.Boot.{CanBoot}
-use Rattle.reference_model.specs.History.{IsStored, calls_by}
-use Rattle.reference_model.specs.Run.{IsRun}
+use Rattle.reference_model.specs.model.Boot.{CanBoot}
+use Rattle.reference_model.specs.model.History.{IsStored, calls_by}
+use Rattle.reference_model.specs.model.Run.{IsRun}
 use Rattle.part_types.specs.declared.parts.CpuState.{CpuState}
 use Rattle.part_types.specs.Lent.{with_call}
 use Rattle.part_types.specs.Logs.{StoredCalls}

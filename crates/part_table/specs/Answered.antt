@@ -1,11 +1,11 @@
--- What the answer to a call tells.
+-- The answer to a call.
 use Rattle.std.specs.Prelude.{◌≡◌, ◌≢◌, ◌⊎◌, ℕ, List, [], ◌∷◌, ◌++◌, None}
 use Rattle.call_table.specs.declared.reply.Call.{Call}
 use Rattle.call_table.specs.declared.reply.Refusal.TheVariants.{Contended, LogFull}
 use Rattle.call_table.specs.declared.reply.Reply.{Reply}
 use Rattle.call_table.specs.declared.reply.Reply.TheVariants.{Refused}
 use Rattle.call_table.specs.declared.step.Step.{Step}
-use Rattle.reference_model.specs.History.{IsStored}
+use Rattle.reference_model.specs.model.History.{IsStored}
 use Rattle.part_table.specs.Parts.{numbers_for}
 use Rattle.part_table.specs.Does.{IsCalled}
 use Rattle.part_table.specs.Known.{Adds, IsSame, Known}
@@ -48,7 +48,7 @@ pub record FindsLogFull (step : Step) (v w : Known) : Type 0 where
   pub tried : w.tries ≡ v.tries ++ tries
   pub full : ((v.own.log.room ≡ 0) × (tries ≡ [])) ⊎ ((v.own.log.room ≢ 0) × EndsIn FoundFull (used_by step v) tries)
 
--- What the reply to one try tells: a stored call was made; with Contended another pass has a part that the step uses, and no other reply was given where one was met so; with LogFull a log that would store the call is full
+-- The reply to one try: a stored call was made; with Contended another pass has a part that the step uses, and no other reply is given if one was met so; with LogFull a log that would store the call is full
 pub record Answers (step : Step) (reply : Reply) (v w : Known) : Type 0 where
   pub stored : IsStored reply → MakesCall step reply v w
   pub contended : reply ≡ Refused Contended → FindsAway step v w

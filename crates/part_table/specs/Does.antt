@@ -1,19 +1,19 @@
--- What one call does to the parts that it uses and to its CPU's own state, whatever else stands beside them.
+-- What one call does to the parts that it uses and to its CPU's own state, whatever the rest of the state is.
 use Rattle.std.specs.Prelude.{◌≡◌, ◌≢◌, ℕ, ◌+◌, false, true, cond, eqb, length, All, List, Option, Some, None, Ok}
 use Rattle.call_table.specs.declared.reply.Call.{Call}
 use Rattle.call_table.specs.declared.reply.Refusal.TheVariants.{NoMemory}
 use Rattle.call_table.specs.declared.reply.Reply.TheVariants.{Refused}
 use Rattle.call_table.specs.declared.step.Step.{Step}
 use Rattle.page_state.specs.Layouts.{Layout}
-use Rattle.reference_model.specs.Boot.{CanBoot}
-use Rattle.reference_model.specs.History.{IsStored, calls_on, calls_by}
+use Rattle.reference_model.specs.model.Boot.{CanBoot}
+use Rattle.reference_model.specs.model.History.{IsStored, calls_on, calls_by}
 use Rattle.reference_model.specs.declared.changes.Changes.{Changes}
-use Rattle.reference_model.specs.Decides.{decides}
-use Rattle.reference_model.specs.Rules.{guest_slot, names}
-use Rattle.reference_model.specs.Run.{IsRun}
-use Rattle.reference_model.specs.State.{Reference}
-use Rattle.reference_model.specs.Step.{Steps}
-use Rattle.reference_model.specs.Used.{used_of}
+use Rattle.reference_model.specs.model.Decides.{decides}
+use Rattle.reference_model.specs.model.Rules.{guest_slot, names}
+use Rattle.reference_model.specs.model.Run.{IsRun}
+use Rattle.reference_model.specs.model.State.{Reference}
+use Rattle.reference_model.specs.model.Step.{Steps}
+use Rattle.reference_model.specs.model.Used.{used_of}
 use Rattle.guest_component.specs.Wants.{WantsNoMemory}
 use Rattle.part_types.specs.declared.parts.CpuState.{CpuState}
 use Rattle.part_types.specs.Lent.{with_call}
@@ -44,7 +44,7 @@ module _ {A : Type 0} where
   abbrev pub pair_at : ℕ → Slot A → Slot A → ℕ → Option (Slot A)
   pair_at v shared guest = both_at (v + 2) guest 1 shared
 
-  -- There is one legal history, and what is kept is as at its end: CPUs' own states by number, each with its calls, and parts by number, each with the calls on it. What isn't kept may be anything
+  -- There is one legal history, and all that is kept is as at its end: CPUs' own states by number, each with its calls, and parts by number, each with the calls on it. Parts that aren't kept may be anything
   pub record AreLeft (l : Layout) (owns : ℕ → Option CpuState) (kept : ℕ → Option (Slot A)) : Type 0 where
     pub ready : CanBoot l
     pub log : List Call
@@ -64,11 +64,11 @@ module _ {A : Type 0} where
   HasMemoryFor h (SharedSlot p) = IsRoomy h p
   HasMemoryFor h (GuestSlot p) = WantsNoMemory h p.guest
 
-  -- memory can be wanted for a call on these parts, in a state: what is decided can need a growth
+  -- memory may run out for a call on these parts, in a state: the decided changes may need a growth
   abbrev pub CanWantFor : Layout → Call → (ℕ → Option (Slot A)) → Reference → Type 0
   CanWantFor l c parts s = (h : Changes) → decides l c.cpu c.slot c.step (used_of (names c.step) c.slot c.cpu s.contents) ≡ Ok h → ((k : ℕ) (x : Slot A) → parts k ≡ Some x → HasMemoryFor h x) → ⊥
 
-  -- The call is the reference step on the parts that it uses and on its CPU's own state, in each state in which these stand: nothing else of the state changes. It is stored in the log of each part that it uses, and in its CPU's. Memory is wanted only where it can be
+  -- The call is the reference step on the parts that it uses and on its CPU's own state, in each state that has these: nothing else of the state changes. It is stored in the log of each part that it uses, and in its CPU's. Memory runs out only where it may
   pub record Does (l : Layout) (c : Call) (before : ℕ → Option (Slot A)) (own : CpuState) (after : ℕ → Option (Slot A)) (owned : CpuState) : Type 0 where
     pub stored : IsStored c.reply
     pub mine : owned.log ≡ with_call c own.log

@@ -1,26 +1,22 @@
--- What a table begins with, and what is left at the end.
+-- The parts that a table begins with, and those left at the end.
 use Rattle.std.specs.Prelude.{◌≡◌, ℕ, ◌<◌, Bool, false, List, [], ◌∷◌, ◌++◌, length, map, All, Option, Some, option_map, slice_get, slice_index_or, unwrap_or}
 use mathlib.Core.Option.{some}
 use lib.ListN.{get_elem?}
 use Rattle.page_state.specs.declared.layout.Layout.{Layout as TheLayout}
 use Rattle.call_table.specs.declared.reply.Call.{Call}
 use Rattle.page_state.specs.LayoutView.{layout_of}
-use Rattle.reference_model.specs.Boot.{CanBoot, boot}
-use Rattle.reference_model.specs.History.{IsStored, calls_by, calls_on}
-use Rattle.reference_model.specs.Run.{IsRun}
-use Rattle.reference_model.specs.State.{Reference}
+use Rattle.reference_model.specs.model.Boot.{CanBoot, boot}
+use Rattle.reference_model.specs.model.History.{IsStored, calls_by, calls_on}
+use Rattle.reference_model.specs.model.Run.{IsRun}
+use Rattle.reference_model.specs.model.State.{Reference}
 use Rattle.part_types.specs.declared.parts.CpuState.{CpuState}
 use Rattle.part_table.specs.declared.slot.Slot.{Slot}
 use Rattle.part_table.specs.Parts.{parts, part_of, log_of, IsPart, IsOwn}
 use Rattle.part_table.specs.Does.{AreLeft}
-use Rattle.part_table.specs.Passes.{Pass}
+use Rattle.part_table.specs.Passes.{Opened, Pass}
+use Rattle.part_table.specs.Beginnings.{GoesOn}
 use Rattle.part_table.specs.Rule.{Ended}
 use Rattle.part_table.specs.Known.{AreFronts, StartsWith, seen_at}
-
--- each of 66 places has its part as at boot, with an empty log
-pub record IsRow {A : Type 0} (l : TheLayout) (xs : List (Option (Slot A))) : Type 0 where
-  pub all : length xs ≡ parts
-  pub each : (k : ℕ) → k < parts → (x : Slot A) × (get_elem? xs k ≡ some (Some x)) × IsPart (layout_of l) (boot (layout_of l)) k x × ((log_of x).calls ≡ [])
 
 -- one legal history leaves all: the 66 parts, by number, and the CPUs' own states, by number
 pub record IsEndOf {A : Type 0} (l : TheLayout) (found : List (Slot A)) (cpus : List CpuState) : Type 0 where
@@ -28,7 +24,13 @@ pub record IsEndOf {A : Type 0} (l : TheLayout) (found : List (Slot A)) (cpus : 
   pub count : length cpus ≡ l.config.cpus
   pub left : AreLeft (layout_of l) (λ c. slice_get cpus c) (λ k. slice_get found k)
 
--- at its CPU's place of the list stands the state in which the pass ends, with all its calls
+-- so it is where each part lies in its slot
+pub record IsEndIn {A : Type 0} (l : TheLayout) (slots : List (Option (Slot A))) (cpus : List CpuState) : Type 0 where
+  pub found : List (Slot A)
+  pub slots_are : slots ≡ map (λ x. Some x) found
+  pub end : IsEndOf l found cpus
+
+-- its CPU's place of the list has the state in which the pass ends, with all its calls
 abbrev pub KeepsOwn : List CpuState → Pass → Type 0
 KeepsOwn cpus p = slice_get cpus p.knows.cpu ≡ Some p.knows.own
 
@@ -48,16 +50,17 @@ KeepsTried l found p = AreFronts l.config.log (calls_at found) p.knows.tries
 abbrev pub ForEach : List (Option Pass) → (Pass → Type 0) → Type 0
 ForEach passes F = (c : ℕ) (p : Pass) → slice_get passes c ≡ Some (Some p) → F p
 
--- The parts and the CPUs' own states are the end of one legal history, and it is each pass's: its CPU has the state in which it ends, with all its calls, and each part's log begins with what it has seen of the part and with each log of it that it took
-pub record IsEndFor {A : Type 0} (l : TheLayout) (found : List (Slot A)) (cpus : List CpuState) (Each : (Pass → Type 0) → Type 0) : Type 0 where
-  pub end : IsEndOf l found cpus
+-- The parts and the CPUs' own states are the end of one legal history, which goes on from what the table began with, and it is each pass's: its CPU has the state in which it ends, with all its calls, and each part's log begins with what it has seen of the part and with each log of it that it took
+pub record IsEndFor {A : Type 0} (t : Opened) (found : List (Slot A)) (cpus : List CpuState) (Each : (Pass → Type 0) → Type 0) : Type 0 where
+  pub end : IsEndOf t.layout found cpus
+  pub goes_on : GoesOn t.begun end.left.log
   pub own : Each (KeepsOwn cpus)
   pub seen : Each (KeepsSeen found)
-  pub tried : Each (KeepsTried l found)
+  pub tried : Each (KeepsTried t.layout found)
 
 -- there are such parts and states
-abbrev pub HasEnd : Type 0 → TheLayout → List (Option Pass) → Type 0
-HasEnd A l passes = (found : List (Slot A)) × (cpus : List CpuState) × IsEndFor l found cpus (ForEach passes)
+abbrev pub HasEnd : Type 0 → Opened → List (Option Pass) → Type 0
+HasEnd A t passes = (found : List (Slot A)) × (cpus : List CpuState) × IsEndFor t found cpus (ForEach passes)
 
 -- what the root keeps of a pass that ends
 abbrev pub ended_of : Pass → Ended

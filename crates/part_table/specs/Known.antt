@@ -1,12 +1,12 @@
 -- What a pass knows of the table and of its own calls.
-use Rattle.std.specs.Prelude.{◌≡◌, ℕ, ◌<◌, true, false, cond, eqb, List, [], ◌∷◌, ◌++◌, slice_get, All, Option, Some, None}
+use Rattle.std.specs.Prelude.{◌≡◌, ℕ, ◌<◌, true, false, cond, eqb, List, [], ◌∷◌, ◌++◌, All, Option, Some, None}
 use Rattle.page_state.specs.declared.layout.Layout.{Layout as TheLayout}
 use Rattle.call_table.specs.declared.reply.Call.{Call}
 use Rattle.page_state.specs.LayoutView.{layout_of}
-use Rattle.reference_model.specs.Boot.{CanBoot}
-use Rattle.reference_model.specs.History.{IsStored, calls_on, calls_by}
-use Rattle.reference_model.specs.Run.{IsRun}
-use Rattle.reference_model.specs.State.{Reference}
+use Rattle.reference_model.specs.model.Boot.{CanBoot}
+use Rattle.reference_model.specs.model.History.{IsStored, calls_on, calls_by}
+use Rattle.reference_model.specs.model.Run.{IsRun}
+use Rattle.reference_model.specs.model.State.{Reference}
 use Rattle.part_types.specs.declared.parts.CpuState.{CpuState}
 use Rattle.part_types.specs.Lent.{with_call}
 use Rattle.part_types.specs.Logs.{StoredCalls, IsOfSize}
@@ -41,10 +41,6 @@ AreFronts most calls tries = All (λ t. (log : StoredCalls) → t.1 ≡ Some log
 -- a CPU's own state before its first call
 abbrev pub own_at_boot : TheLayout → ℕ → CpuState
 own_at_boot l cpu = record { id = cpu; loaded = None; hand = None; ticket = None; log = record { calls = []; room = l.config.log } }
-
--- those of all CPUs, by number
-abbrev pub AreOwnAtBoot : TheLayout → List CpuState → Type 0
-AreOwnAtBoot l ks = (cpu : ℕ) (k : CpuState) → slice_get ks cpu ≡ Some k → k ≡ own_at_boot l cpu
 
 -- there is a legal history that ends with the call. The pass's own state, with its list, is left by it, and what it has seen of the parts that the call used are the history's parts of them
 pub record Extends (c : Call) (w : Known) : Type 0 where

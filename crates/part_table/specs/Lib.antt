@@ -2,6 +2,7 @@ pub mod Parts
 pub mod Slots
 pub mod Does
 pub mod Known
+pub mod Beginnings
 pub mod Rule
 pub mod Tried
 pub mod Answered

@@ -1,11 +1,11 @@
--- The 66 parts by number, and how what a slot of the table holds stands in a reference state.
+-- The 66 parts by number, and how a slot of the table relates to a reference state.
 use Rattle.std.specs.Prelude.{◌≡◌, ℕ, zero, suc, ◌+◌, Bool, List, [], ◌∷◌}
 use Rattle.call_table.specs.declared.reply.Call.{Call}
 use Rattle.call_table.specs.declared.step.Step.{Step}
 use Rattle.page_state.specs.Layouts.{Layout}
-use Rattle.reference_model.specs.Parts.{Part, vm_part, shared_part, guest_part}
-use Rattle.reference_model.specs.Rules.{call_uses}
-use Rattle.reference_model.specs.State.{Reference}
+use Rattle.reference_model.specs.model.Parts.{Part, vm_part, shared_part, guest_part}
+use Rattle.reference_model.specs.model.Rules.{call_uses}
+use Rattle.reference_model.specs.model.State.{Reference}
 use Rattle.part_types.specs.declared.parts.VmPart.{VmPart}
 use Rattle.part_types.specs.declared.parts.SharedPart.{SharedPart}
 use Rattle.part_types.specs.declared.parts.GuestPart.{GuestPart}
@@ -66,25 +66,25 @@ module _ {A : Type 0} where
   HoldsGuest other = ⊥
 
 module _ (l : Layout) (s : Reference) where
-  -- the VM part stands in a state: what it holds and its log's room are the state's
+  -- the VM part is that of a state: its contents and its log's room are the state's
   pub record IsVms (p : VmPart) : Type 0 where
     pub content : vm_slots p ≡ s.contents.vms
     pub room : p.log.room ≡ s.rooms.vms
     pub size : IsOfSize l.config.log p.log
 
-  -- the Shared part stands in a state, and is of the layout
+  -- the Shared part is that of a state, and of the layout
   pub record IsShared {A : Type 0} (p : SharedPart A) : Type 0 where
     pub content : shared_of p ≡ s.contents.shared
     pub room : p.log.room ≡ s.rooms.shared
     pub suits : SharedSuits l p
 
-  -- the Guest part of a slot stands in a state, and is of the layout
+  -- the Guest part of a slot is that of a state, and of the layout
   pub record IsGuest {A : Type 0} (v : ℕ) (p : GuestPart A) : Type 0 where
     pub content : guest_held p ≡ s.contents.guest v
     pub room : p.log.room ≡ s.rooms.guest v
     pub suits : GuestSuits l p
 
-  -- the part of a number stands in a state: it is of its kind, and holds what the state has there
+  -- the part of a number is that of a state: it is of its kind, and holds what the state has there
   abbrev pub IsPart : {A : Type 0} → ℕ → Slot A → Type 0
   IsPart zero (VmSlot p) = IsVms p
   IsPart zero other = ⊥
@@ -93,7 +93,7 @@ module _ (l : Layout) (s : Reference) where
   IsPart (suc (suc v)) (GuestSlot p) = IsGuest v p
   IsPart (suc (suc v)) other = ⊥
 
-  -- a CPU's own state, which has its number, stands in a state
+  -- a CPU's own state, which has its number, is that of a state
   pub record IsOwn (cpu : ℕ) (own : CpuState) : Type 0 where
     pub id : own.id ≡ cpu
     pub content : cpu_of own ≡ s.contents.cpu cpu

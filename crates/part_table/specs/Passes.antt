@@ -3,8 +3,11 @@ use Rattle.std.specs.Prelude.{◌≡◌, ℕ, zero, suc, ◌<◌, ◌≤◌, tru
 use Rattle.atomic_table.specs.Seated.{TableId}
 use Rattle.page_state.specs.declared.layout.Layout.{Layout as TheLayout}
 use Rattle.part_table.specs.Parts.{parts}
+use Rattle.part_table.specs.declared.rule.Begun.{Begun}
+use Rattle.part_table.specs.declared.rule.Opening.{Opening}
+use Rattle.part_table.specs.Beginnings.{begun_in, own_in}
 use Rattle.part_table.specs.Rule.{Hands, Seated, held_at}
-use Rattle.part_table.specs.Known.{Known, own_at_boot}
+use Rattle.part_table.specs.Known.{Known}
 
 -- the table that it is of, what it knows, and the numbers of the parts that it holds
 pub record Pass : Type 0 where
@@ -20,18 +23,30 @@ numbers_below (suc n) = n ∷ numbers_below n
 unfoldable pub numbers_held : {A : Type 0} → Hands A → List ℕ
 numbers_held h = filter (λ k. is_some (held_at h k)) (numbers_below parts)
 
--- a pass of a CPU before its first call
-abbrev pub first_pass : TableId → TheLayout → ℕ → Pass
-first_pass table l cpu = record { table = table; knows = record { layout = l; cpu = cpu; own = own_at_boot l cpu; seen = []; tries = [] }; holds = [] }
-
--- a table of parts: which it is, and its layout
+-- a table of parts: which it is, its layout, and what it begins with
 pub record Opened : Type 0 where
   pub table : TableId
   pub layout : TheLayout
+  pub begun : Begun
+
+abbrev pub opened_as : TableId → TheLayout → Begun → Opened
+opened_as table l b = record { table = table; layout = l; begun = b }
+
+-- the table of what it was told
+abbrev pub opened_in : {A : Type 0} → TableId → Opening A → Opened
+opened_in table k = opened_as table k.layout (begun_in k)
+
+-- what a CPU's pass knows before its first call
+abbrev pub first_known : Opened → ℕ → Known
+first_known t cpu = record { layout = t.layout; cpu = cpu; own = own_in t.begun cpu; seen = []; tries = [] }
+
+-- and the pass
+abbrev pub first_pass : Opened → ℕ → Pass
+first_pass t cpu = record { table = t.table; knows = first_known t cpu; holds = [] }
 
 -- each of the first n CPUs has its pass at its place, before its first call
 abbrev pub AreFirst : Opened → ℕ → List (Option Pass) → Type 0
-AreFirst t n passes = (length passes ≡ n) × ((c : ℕ) → c < n → slice_get passes c ≡ Some (Some (first_pass t.table t.layout c)))
+AreFirst t n passes = (length passes ≡ n) × ((c : ℕ) → c < n → slice_get passes c ≡ Some (Some (first_pass t c)))
 
 -- the pass is of this table
 pub record IsPassOf (t : Opened) (p : Pass) : Type 0 where
@@ -47,13 +62,14 @@ abbrev pub AreHomeFrom : TableId → ℕ → ℕ → List (Option Pass) → Type
 AreHomeFrom table n c passes = (j : ℕ) → c ≤ j → j < n → IsThere table passes j
 
 -- the root's seat of an open table
-pub record IsReady {A : Type 0} (table : TableId) (key : TheLayout) (root_table : TableId) (root : ℕ) (me : Seated A) (layout : TheLayout) : Type 0 where
+pub record IsReady {A : Type 0} (table : TableId) (key : Opening A) (root_table : TableId) (root : ℕ) (me : Seated A) (layout : TheLayout) : Type 0 where
   pub words : table.words ≡ parts
   pub slots : table.slots ≡ parts
-  pub key_is : key ≡ layout
+  pub key_is : key.layout ≡ layout
   pub same : root_table ≡ table
   pub first : root ≡ 0
   pub empty : me.1 ≡ []
   pub rooted : me.0.root ≡ true
+  pub begun : me.0.begun ≡ begun_in key
   pub made : me.0.made ≡ layout.config.cpus
   pub none : me.0.ended ≡ []

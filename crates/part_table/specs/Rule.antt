@@ -12,17 +12,20 @@ use Rattle.call_table.specs.declared.reply.Reply.TheVariants.{Done}
 use Rattle.call_table.specs.declared.reply.Value.TheVariants.{Nothing}
 use Rattle.call_table.specs.declared.step.Step.TheVariants.{Unfund}
 use Rattle.page_state.specs.LayoutView.{layout_of}
-use Rattle.reference_model.specs.Boot.{CanBoot}
-use Rattle.reference_model.specs.History.{IsStored, calls_on, calls_by}
-use Rattle.reference_model.specs.Run.{IsRun}
-use Rattle.reference_model.specs.State.{Reference}
+use Rattle.reference_model.specs.model.Boot.{CanBoot}
+use Rattle.reference_model.specs.model.History.{IsStored, calls_on, calls_by}
+use Rattle.reference_model.specs.model.Run.{IsRun}
+use Rattle.reference_model.specs.model.State.{Reference}
 use Rattle.part_types.specs.declared.parts.CpuState.{CpuState}
 use Rattle.part_types.specs.Logs.{StoredCalls}
+use Rattle.part_table.specs.declared.rule.Begun.{Begun}
+use Rattle.part_table.specs.declared.rule.Opening.{Opening}
 use Rattle.part_table.specs.declared.rule.View.{View}
 use Rattle.part_table.specs.declared.slot.Slot.{Slot}
 use Rattle.part_table.specs.Parts.{parts, part_of, log_of, IsPart, IsOwn}
 use Rattle.part_table.specs.Does.{IsLeft, none_at}
-use Rattle.part_table.specs.Known.{at, seen_at, AreFronts, Known, StartsWith, own_at_boot, Extends}
+use Rattle.part_table.specs.Known.{at, seen_at, AreFronts, Known, StartsWith, Extends}
+use Rattle.part_table.specs.Beginnings.{GoesOn, begun_in, no_layout, no_own, own_in}
 
 -- parts by number; none: no longer held
 abbrev pub Hands : Type 0 → Type 0
@@ -59,18 +62,19 @@ module _ {A : Type 0} (key : TheLayout) (ws : List ℕ) (holder : ℕ → ℕ) (
     pub tried : v.on ≡ true → AreFrontsIn key log v.tries
     pub held : (k : ℕ) (x : Slot A) → held_at v.held k ≡ Some x → (v.on ≡ true) × (k < parts) × (slice_index ws k ≢ 0) × (holder k ≡ j) × StandsAfter k x
 
--- what the root knows: how many CPUs have a seat, of the first ones, which have ended, their states, what they have seen and tried, and that the others are as at boot
+-- what the root knows: how many CPUs have a seat, of the first ones, which have ended, their states, what they have seen and tried, that the others are as they began, and that the history goes on from what the table began with
 pub record Rooted {A : Type 0} (key : TheLayout) (views : List (View A)) (log : List Call) (state : Reference) (v : View A) : Type 0 where
   pub off : v.on ≡ false
   pub layout : v.layout ≡ key
   pub count : length views ≡ v.made + 1
-  pub fresh : (c : ℕ) → v.made ≤ c → (calls_by c log ≡ []) × IsOwn (layout_of key) state c (own_at_boot key c)
+  pub fresh : (c : ℕ) → v.made ≤ c → c < key.config.cpus → ((own_in v.begun c).log.calls ≡ calls_by c log) × IsOwn (layout_of key) state c (own_in v.begun c)
+  pub goes_on : GoesOn v.begun log
   pub few : length v.ended ≤ v.made
   pub ended : (c : ℕ) (e : Ended) → get_elem? v.ended c ≡ some e → (e.0.log.calls ≡ calls_by c log) × IsOwn (layout_of key) state c e.0 × ((u : View A) → get_elem? views (c + 1) ≡ some u → u.on ≡ false)
   pub seen : (c : ℕ) (e : Ended) → get_elem? v.ended c ≡ some e → (k : ℕ) → StartsWith (calls_on (part_of k) log) (seen_at e.1 k)
   pub tried : (c : ℕ) (e : Ended) → get_elem? v.ended c ≡ some e → AreFrontsIn key log e.2
 
--- The rule: a word says whether its part is taken, a taken part is held by just one seat, and there is a legal history at whose end all parts and all CPUs' own states stand. What a pass has seen of a part begins its log, and so does each log that it took, also once the pass has ended
+-- The rule: a word says whether its part is taken, a taken part is held by exactly one seat, and there is a legal history that ends in all parts and all CPUs' own states. What a pass has seen of a part begins its log, and so does each log that it took, also once the pass has ended
 pub record IsLawful {A : Type 0} (key : TheLayout) (s : State (Option (Slot A)) (View A)) : Type 0 where
   pub ready : CanBoot (layout_of key)
   pub log : List Call
@@ -85,29 +89,23 @@ pub record IsLawful {A : Type 0} (key : TheLayout) (s : State (Option (Slot A)) 
   pub each_seat : (j : ℕ) (v : View A) → get_elem? s.views j ≡ some v → Knows key s.words holder log state j v
   pub root : (v : View A) → get_elem? s.views 0 ≡ some v → v.root ≡ true → Rooted key s.views log state v
 
-abbrev pub no_layout : TheLayout
-no_layout = record { map = record { regions = []; carve = record { first = record { 0 = 0 }; count = 0 } }; config = record { cpus = 0; log = 0; geometry = 39 }; geometry = Bits39; known = refl }
-
-abbrev pub no_own : CpuState
-no_own = own_at_boot no_layout 0
-
 abbrev pub no_call : Call
 no_call = record { cpu = 0; number = 0; step = Unfund; reply = Done Nothing; slot = None }
 
 -- the view of a seat of nobody
 abbrev pub nobody : {A : Type 0} → View A
-nobody = record { on = false; layout = no_layout; cpu = 0; own = no_own; seen = []; held = []; tries = []; root = false; made = 0; ended = [] }
+nobody = record { on = false; layout = no_layout; cpu = 0; own = no_own; seen = []; held = []; tries = []; root = false; begun = record { logs = []; owns = [] }; made = 0; ended = [] }
 
 -- the root's view, before a CPU has a seat
-abbrev pub rooted : {A : Type 0} → TheLayout → View A
-rooted key = record nobody { layout = key; root = true }
+abbrev pub rooted : {A : Type 0} → Opening A → View A
+rooted k = record nobody { layout = k.layout; root = true; begun = begun_in k }
 
 abbrev pub one_more : {A : Type 0} → View A → View A
 one_more v = record v { made = v.made + 1 }
 
 -- the view of the next CPU
 abbrev pub newcomer : {A : Type 0} → View A → View A
-newcomer v = record nobody { on = true; layout = v.layout; cpu = v.made; own = own_at_boot v.layout v.made }
+newcomer v = record nobody { on = true; layout = v.layout; cpu = v.made; own = own_in v.begun v.made }
 
 -- the root has taken in the view of a CPU that ends, with what it has seen and tried
 abbrev pub with_end : {A : Type 0} → View A → View A → View A
@@ -122,16 +120,16 @@ abbrev pub nowhere : {A : Type 0} → View A
 nowhere = record nobody { on = true }
 
 -- the root's, once each CPU has a seat
-abbrev pub all_made : {A : Type 0} → TheLayout → View A
-all_made key = record (rooted key) { made = key.config.cpus }
+abbrev pub all_made : {A : Type 0} → Opening A → View A
+all_made k = record (rooted k) { made = k.layout.config.cpus }
 
 -- the root's seat before a pass is joined: of n CPUs with a seat, of which none has ended, and nothing is in hand
 abbrev pub IsRootOf : {A : Type 0} → ℕ → ℕ → Seated A → Type 0
 IsRootOf n id me = (id ≡ 0) × (me.0.root ≡ true) × (me.0.ended ≡ []) × (me.0.made ≡ n) × (me.1 ≡ [])
 
--- a seat is the root's as before, of the same table and of as many CPUs
+-- a seat is the root's as before, of the same table, which began with the same, and of as many CPUs
 abbrev pub StaysRoot : {A : Type 0} → TableId → Seated A → TableId → ℕ → Seated A → Type 0
-StaysRoot table m same id n = (same ≡ table) × (id ≡ 0) × (n.0.root ≡ true) × (n.0.made ≡ m.0.made)
+StaysRoot table m same id n = (same ≡ table) × (id ≡ 0) × (n.0.root ≡ true) × (n.0.made ≡ m.0.made) × (n.0.begun ≡ m.0.begun)
 
 -- what two seats of one CPU would come to
 abbrev pub clash : {A : Type 0} → View A → View A → View A
@@ -141,7 +139,7 @@ clash v w = nowhere
 abbrev pub never : {A : Type 0} → Step (Option (Slot A)) → Seated A → ℕ → Seated A → Type 0
 never st m r n = ⊥
 
--- the part k is in hand, and it is told with which log it was taken
+-- the part k is in hand, with the log that it was taken with
 abbrev pub taking : {A : Type 0} → View A → ℕ → Slot A → View A
 taking v k x = record v { held = (k, Some x) ∷ v.held; tries = v.tries ++ (k, Some (log_of x)) ∷ [] }
 
@@ -153,7 +151,7 @@ missing v k = record v { tries = v.tries ++ (k, None) ∷ [] }
 abbrev pub releasing : {A : Type 0} → View A → ℕ → View A
 releasing v k = record v { held = (k, None) ∷ v.held }
 
--- what the pass holds, and its CPU's own state, stand where a run ends
+-- the parts that the pass holds, and its CPU's own state, are those of the end of a run
 abbrev pub Standing : {A : Type 0} → View A → Type 0
 Standing v = IsLeft (layout_of v.layout) v.cpu v.own (held_at v.held)
 
@@ -208,6 +206,6 @@ IsInSlotAsHeld {A = A} m k = (x : Slot A) × (m.1 ≡ (k, Some x) ∷ tail m.1) 
 abbrev pub IsIdle : {A : Type 0} → View A → Type 0
 IsIdle v = (k : ℕ) → held_at v.held k ≡ None
 
--- a pass's own state stands where a run ends
+-- a pass's own state is that of the end of a run
 abbrev pub AtRest : {A : Type 0} → View A → Type 0
 AtRest {A = A} v = IsLeft {A = A} (layout_of v.layout) v.cpu v.own none_at

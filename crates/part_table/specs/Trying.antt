@@ -8,7 +8,7 @@ use Rattle.call_table.specs.declared.reply.Refusal.TheVariants.{LogFull as log_f
 use Rattle.call_table.specs.declared.reply.Reply.{Reply}
 use Rattle.call_table.specs.declared.reply.Reply.TheVariants.{Refused}
 use Rattle.call_table.specs.declared.step.Step.{Step}
-use Rattle.reference_model.specs.History.{IsStored}
+use Rattle.reference_model.specs.model.History.{IsStored}
 use Rattle.part_types.specs.declared.parts.CpuState.{CpuState}
 use Rattle.part_table.specs.declared.rule.View.{View}
 use Rattle.part_table.specs.declared.slot.Slot.{Slot}
@@ -49,7 +49,7 @@ module _ {A : Type 0} where
     pub own_room : own.log.room ≢ 0
     pub rooms : (k : ℕ) (x : Slot A) → lent k ≡ Some x → (log_of x).room ≢ 0
 
-  -- What taking the part k tells: it is in hand, with its log as a try, this log begins with what the pass had seen of it, and a run leaves all that is in hand
+  -- After the part k is taken: it is in hand, with its log as a try, this log begins with what the pass had seen of it, and a run leaves all parts in hand
   pub record HasTaken (k : ℕ) (x : Slot A) (m n : Seated A) : Type 0 where
     pub is : n ≡ (taking m.0 k x, (k, None) ∷ m.1)
     pub begun : StartsWith (log_of x).calls (seen_at m.0.seen k)
@@ -67,7 +67,7 @@ TriesOf ks (Stored c) v w = (ts : List Try) × (w.tries ≡ v.tries ++ ts) × Al
 TriesOf ks Contended v w = (ts : List Try) × (w.tries ≡ v.tries ++ ts) × EndsIn FoundAway ks ts
 TriesOf ks LogFull v w = (ts : List Try) × (w.tries ≡ v.tries ++ ts) × EndsIn FoundFull ks ts
 
--- what one try of a step tells: a stored call is the step's, and where none is stored nothing changed
+-- the answer of one try of a step: a stored call is the step's, and if none is stored nothing changed
 abbrev pub Tells : Step → List ℕ → Tried → Known → Known → Type 0
 Tells step ks (Stored c) v w = IsCalled v.cpu v.own step c × IsStored c.reply × Adds c v w × TriesOf ks (Stored c) v w
 Tells step ks Contended v w = IsSame v w × TriesOf ks Contended v w
@@ -86,7 +86,7 @@ WhereStored Contended F = Unit {0}
 WhereStored LogFull F = Unit {0}
 
 module _ {A T : Type 0} (tells : TheLayout → (ℕ → Option (Slot A)) → CpuState → Call → (ℕ → Option (Slot A)) → CpuState → T → T → Type 0) (step : Step) where
-  -- what a maker tells of a try: a call that is stored was made, and else nothing was told
+  -- what a maker reports of a try: a call that is stored was made; otherwise it reported nothing
   abbrev pub MakesOf : List ℕ → Tried → Known → Known → T → T → Type 0
   MakesOf ks (Stored c) v w from to = Makes tells step ks v w c from to
   MakesOf ks Contended v w from to = to ≡ from

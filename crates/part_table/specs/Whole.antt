@@ -1,17 +1,11 @@
 -- All parts, as the slots of a table by number.
 use Rattle.std.specs.Prelude.{List, [], ◌∷◌, Option}
-use Rattle.page_state.specs.declared.layout.Config.{Config}
-use Rattle.page_state.specs.declared.layout.Layout.{Layout as TheLayout}
-use Rattle.page_state.specs.LayoutView.{layout_of}
-use Rattle.page_state.specs.Regions.{Memory}
-use Rattle.reference_model.specs.Boot.{CanBoot}
 use Rattle.part_types.specs.declared.parts.CpuState.{CpuState}
 use Rattle.hypercalls.specs.declared.parts.Parts.{Parts}
 use Rattle.part_table.specs.declared.slot.Slot.{Slot}
 use Rattle.part_table.specs.declared.slot.Slot.TheVariants.{Vm as VmSlot, Shared as SharedSlot, Guest as GuestSlot}
-use Rattle.part_table.specs.Endings.{IsRow}
-use Rattle.part_table.specs.Known.{AreOwnAtBoot}
-use Rattle.hypercalls.specs.Booted.{IsBooted}
+use Rattle.part_table.specs.Endings.{IsEndIn}
+use Rattle.hypercalls.specs.Stands.{HasHistory}
 
 module _ {A : Type 0} where
   -- slots of guests alone
@@ -26,12 +20,6 @@ module _ {A : Type 0} where
   AreParts (VmSlot v ∷ (SharedSlot s ∷ xs)) = AreGuests xs
   AreParts other = ⊥
 
--- what is asked of parts and of the CPUs' own states where a table is opened: they are as at boot
-pub record AreAtBoot {A : Type 0} (l : TheLayout) (slots : List (Option (Slot A))) (cpus : List CpuState) : Type 0 where
-  pub ready : CanBoot (layout_of l)
-  pub row : IsRow l slots
-  pub owns : AreOwnAtBoot l cpus
-
--- parts that have booted are so
-abbrev pub BootsAtBoot : {A : Type 0} → Parts A → List (Option (Slot A)) → List CpuState → Type 0
-BootsAtBoot p slots cpus = (m : Memory) (c : Config) → IsBooted m c p → AreAtBoot p.layout slots cpus
+-- where there is a legal history of the parts, what lies in the slots and the CPUs' own states are its end
+abbrev pub EndsInSlots : {A : Type 0} → Parts A → List (Option (Slot A)) → List CpuState → Type 0
+EndsInSlots p slots cpus = HasHistory p → IsEndIn p.layout slots cpus

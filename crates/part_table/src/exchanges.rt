@@ -5,19 +5,18 @@ ghost use Rattle.part_table.specs.Parts.{parts};
 ghost use Rattle.part_table.specs.Rule.{IsInHand, IsInSlot, IsInSlotAsHeld, held_at, known_of, releasing, missing, storing, tail};
 ghost use Rattle.part_table.specs.Trying.{CanStore, HasTaken};
 
-use crate::rule::{Deed, Enter, Law, Return, Store, Take, View};
+use crate::rule::{Deed, Enter, Law, Opening, Return, Store, Take, View};
 use crate::slot::Slot;
 use atomic_table::{Seat, Table};
 use call_table::Call;
-use page_state::Layout;
 use part_types::CpuState;
 use std::alloc::{Allocator, Global};
 use std::marker::Brand;
 
 /// The parts' words, and the parts that are at home.
-pub type SlotTable<A> = Table<Option<Slot<A>>, View<A>, Layout, Law, Global>;
+pub type SlotTable<A> = Table<Option<Slot<A>>, View<A>, Opening<A>, Law, Global>;
 
-/// The right to step on the table, with what is known.
+/// The right to step on the table, with the pass's knowledge.
 pub type PartSeat<A> = Seat<Option<Slot<A>>, View<A>>;
 
 /// Takes a part, unless another pass has it.

@@ -81,7 +81,7 @@ pub trait Maker<T, G: Gate> {
         ensures told { tells layout.now (pair_at v shared guest) cpu.old result.2 (pair_at v result.0 result.1) cpu.new told.old told.new };
 }
 
-/// Makes the step, and tells nothing.
+/// Makes the step, and reports nothing.
 pub struct Plain;
 
 impl<T, G: Gate> Maker<T, G> for Plain {

@@ -1,6 +1,6 @@
 //! What a CPU carries.
 ghost use Rattle.std.specs.Prelude.{◌≡◌, ◌+◌, ◌<◌, [], length};
-ghost use Rattle.reference_model.specs.History.{IsStored};
+ghost use Rattle.reference_model.specs.model.History.{IsStored};
 ghost use Rattle.part_table.specs.Answered.{Answers};
 ghost use Rattle.part_table.specs.Parts.{parts};
 ghost use Rattle.part_table.specs.Trying.{MakesFor};

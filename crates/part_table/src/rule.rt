@@ -7,6 +7,21 @@ use part_types::{CpuState, Log};
 use std::alloc::Allocator;
 use std::collections::LinkedList;
 use std::marker::{Brand, PhantomData};
+use std::snapshot::Snapshot;
+
+/// What a table is told when it is made: its layout, and the parts and the CPUs' own states with which it begins.
+#[derive(Drop)]
+pub struct Opening<A: Allocator> {
+    pub layout: Layout,
+    pub slots: Snapshot<Vec<Option<Slot<A>>>>,
+    pub owns: Snapshot<Vec<CpuState>>,
+}
+
+/// What a table begins with: the log of each part, by number, and the CPUs' own states. No value of it is made.
+pub struct Begun {
+    pub logs: LinkedList<LinkedList<Call>>,
+    pub owns: LinkedList<CpuState>,
+}
 
 /// What a pass knows, or the root, from which passes come. No value of it is made. A list of pairs represents a function
 /// of a part's number: the first pair of a number counts.
@@ -24,6 +39,8 @@ pub struct View<A: Allocator> {
     /// Each part that was tried, with its log as it was taken, or none where another pass had it.
     pub tries: LinkedList<(u64, Option<Log>)>,
     pub root: bool,
+    /// Of the root: what the table began with.
+    pub begun: Begun,
     /// Of the root: how many CPUs have a pass.
     pub made: u64,
     /// Of the root: each CPU's own state at the end, what its pass has seen of each part's log, and what it tried.
@@ -39,10 +56,10 @@ pub struct View<A: Allocator> {
 /// The rule of the table: there is one legal history.
 pub struct Law;
 
-impl<A: Allocator> TableRule<Option<Slot<A>>, View<A>, Layout> for Law {
+impl<A: Allocator> TableRule<Option<Slot<A>>, View<A>, Opening<A>> for Law {
     ghost use Rattle.part_table.specs.Rule.{IsLawful, rooted};
 
-    ghost holds = { IsLawful };
+    ghost holds = { λ k. IsLawful k.layout };
 
     ghost first = { rooted };
 }
@@ -76,7 +93,8 @@ pub trait Deed {
 }
 
 impl Deed for Brand {
-    ghost use Rattle.part_table.specs.Rule.{no_call, no_own};
+    ghost use Rattle.part_table.specs.Beginnings.{no_own};
+    ghost use Rattle.part_table.specs.Rule.{no_call};
 
     ghost call = { no_call };
 

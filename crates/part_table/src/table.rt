@@ -1,21 +1,20 @@
-//! The table of the 66 parts: it is opened as at boot, gives each CPU its pass, and is closed once all passes are back.
+//! The table of the 66 parts: it is opened at the end of a legal history, gives each CPU its pass, and is closed once all
+//! passes are back.
 ghost use Rattle.std.specs.Prelude.{◌≡◌, ◌≢◌, ℕ, ◌<◌, ◌≤◌, [], ◌∷◌, ◌++◌, true, length, slice_get, IfOk};
 ghost use Rattle.std.specs.Vec.{vec_capacity, vec_len};
 ghost use Rattle.std.specs.Slots.{slots_items, slots_filled, slots_len, IsFull};
-ghost use Rattle.page_state.specs.LayoutView.{layout_of};
-ghost use Rattle.reference_model.specs.Boot.{CanBoot};
-ghost use Rattle.part_table.specs.Endings.{AllHome, ForEach, Gives, HasEnd, HasJoined, HaveEnded, IsEndFor, IsRow, emptied_to, owns_of};
+ghost use Rattle.part_table.specs.Endings.{AllHome, ForEach, Gives, HasEnd, HasJoined, HaveEnded, IsEndFor, IsEndIn, emptied_to, owns_of};
 ghost use Rattle.part_table.specs.Parts.{parts};
-ghost use Rattle.part_table.specs.Passes.{AreFirst, AreHomeFrom, IsPassOf, IsThere, Pass, first_pass};
+ghost use Rattle.part_table.specs.Passes.{AreFirst, AreHomeFrom, IsPassOf, IsThere, Pass, first_pass, opened_as, opened_in};
+ghost use Rattle.part_table.specs.Beginnings.{AreLeftFirst, begun_in, logs_in, own_in};
 ghost use Rattle.part_table.specs.Rule.{IsRootOf, StaysRoot, all_made, one_more, rooted};
-ghost use Rattle.part_table.specs.Known.{AreOwnAtBoot, own_at_boot};
 
 use crate::exchanges::{PartSeat, SlotTable};
 use crate::gate::Gate;
 use crate::maker::{Maker, Plain};
 use crate::pass::CpuPass;
 use crate::room::push_in_room;
-use crate::rule::{Clash, Root};
+use crate::rule::{Clash, Opening, Root};
 use crate::slot::Slot;
 use atomic_table::{Closed, Table};
 use call_table::{Reply, Step};
@@ -23,6 +22,7 @@ use page_state::Layout;
 use part_types::CpuState;
 use std::alloc::{AllocError, Allocator, Global};
 use std::marker::Model;
+use std::snapshot::Snapshot;
 
 /// The parts of a world under one table of words. Contracts see which table it is, and its layout.
 #[derive(Drop)]
@@ -35,10 +35,11 @@ pub struct PartTable<A: Allocator> {
 
 impl<A: Allocator> Model for PartTable<A> {
     ghost use Rattle.part_table.specs.Passes.{IsReady, Opened};
+    ghost use Rattle.part_table.specs.Beginnings.{begun_in};
 
     ghost Value = { Opened };
 
-    ghost view = { λ t. record { table = t.table.shared.table_id; layout = t.layout } };
+    ghost view = { λ t. record { table = t.table.shared.table_id; layout = t.layout; begun = begun_in t.table.shared.key } };
 
     ghost invariant = { λ t. IsReady t.table.shared.table_id t.table.shared.key t.root.table_id t.root.id t.root.me t.layout };
 }
@@ -46,16 +47,16 @@ impl<A: Allocator> Model for PartTable<A> {
 /// The words and slots of the table.
 fn new_table<A: Allocator>(
     global: Global,
-    layout: &Layout,
+    opening: &Opening<A>,
     slots: Vec<Option<Slot<A>>>,
 ) -> Result<(SlotTable<A>, PartSeat<A>), AllocError>
-    requires row { IsRow layout.now slots.items }
-    requires ready { CanBoot (layout_of layout.now) }
-    ensures table { IfOk result (λ t. (t.0.shared.table_id.words ≡ parts) × (t.0.shared.table_id.slots ≡ parts) × (t.0.shared.key ≡ layout.now)) }
-    ensures root { IfOk result (λ t. (t.1.table_id ≡ t.0.shared.table_id) × (t.1.id ≡ 0) × (t.1.me ≡ (rooted layout.now, []))) }
+    requires end { IsEndIn opening.now.layout slots.items opening.now.owns.value.items }
+    requires slots { opening.now.slots.value ≡ slots }
+    ensures table { IfOk result (λ t. (t.0.shared.table_id.words ≡ parts) × (t.0.shared.table_id.slots ≡ parts) × (t.0.shared.key ≡ opening.now)) }
+    ensures root { IfOk result (λ t. (t.1.table_id ≡ t.0.shared.table_id) × (t.1.id ≡ 0) × (t.1.me ≡ (rooted opening.now, []))) }
 {
     let words = [0u64; 66];
-    match Table::new(global, &words, slots, layout) {
+    match Table::new(global, &words, slots, opening) {
         Ok(made) => Ok(made),
         Err(_) => Err(AllocError),
     }
@@ -64,12 +65,13 @@ fn new_table<A: Allocator>(
 /// The pass of the next CPU.
 fn new_pass<A: Allocator>(table: &SlotTable<A>, root: &mut PartSeat<A>, own: CpuState) -> CpuPass<A>
     requires table { (root.old.table_id ≡ table.now.shared.table_id) × (table.now.shared.table_id.words ≡ parts) }
-    requires root { (root.old.id ≡ 0) × (root.old.me.0.root ≡ true) × (root.old.me.0.made ≡ own.id) × (root.old.me.0.layout ≡ table.now.shared.key) }
-    requires known { own.id < table.now.shared.key.config.cpus }
-    requires ready { CanBoot (layout_of table.now.shared.key) }
-    requires own { own ≡ own_at_boot table.now.shared.key own.id }
+    requires root { (root.old.id ≡ 0) × (root.old.me.0.root ≡ true) × (root.old.me.0.made ≡ own.id) × (root.old.me.0.layout ≡ table.now.shared.key.layout) }
+    requires begun { root.old.me.0.begun ≡ begun_in table.now.shared.key }
+    requires known { own.id < table.now.shared.key.layout.config.cpus }
+    requires left { AreLeftFirst A table.now.shared.key.layout (begun_in table.now.shared.key) }
+    requires own { own ≡ own_in (begun_in table.now.shared.key) own.id }
     ensures root { (root.new.table_id ≡ root.old.table_id) × (root.new.id ≡ 0) × (root.new.me ≡ (one_more root.old.me.0, root.old.me.1)) }
-    ensures pass { result ≡ first_pass root.old.table_id table.now.shared.key own.id }
+    ensures pass { result ≡ first_pass (opened_in root.old.table_id table.now.shared.key) own.id }
 {
     let seat = table.shared.split_seat::<Root>(root);
     CpuPass { seat, own }
@@ -84,12 +86,12 @@ fn new_passes<A: Allocator>(
 ) -> Vec<Option<CpuPass<A>>>
     requires table { (root.old.table_id ≡ table.now.shared.table_id) × (table.now.shared.table_id.words ≡ parts) }
     requires root { (root.old.id ≡ 0) × (root.old.me ≡ (rooted table.now.shared.key, [])) }
-    requires ready { CanBoot (layout_of table.now.shared.key) }
-    requires count { vec_len owns ≡ table.now.shared.key.config.cpus }
-    requires owns { AreOwnAtBoot table.now.shared.key owns.items }
+    requires left { AreLeftFirst A table.now.shared.key.layout (begun_in table.now.shared.key) }
+    requires count { vec_len owns ≡ table.now.shared.key.layout.config.cpus }
+    requires owns { owns ≡ table.now.shared.key.owns.value }
     requires room { (passes.items ≡ []) × (vec_len owns ≤ vec_capacity passes) }
     ensures root { (root.new.table_id ≡ root.old.table_id) × (root.new.id ≡ 0) × (root.new.me ≡ (all_made table.now.shared.key, [])) }
-    ensures passes { AreFirst (record { table = root.old.table_id; layout = table.now.shared.key }) (vec_len owns) result.items }
+    ensures passes { AreFirst (opened_in root.old.table_id table.now.shared.key) (vec_len owns) result.items }
 {
     let count = owns.len();
     for _made in 0..count {
@@ -101,8 +103,8 @@ fn new_passes<A: Allocator>(
 }
 
 impl<A: Allocator> PartTable<A> {
-    /// A table of parts that are as at boot, and the passes of all CPUs, by number. Requires the CPUs' own states, as at
-    /// boot. `alloc` is where the tables of all trees lie.
+    /// A table of parts and CPUs' own states, which stand at the end of a legal history, and the passes of all CPUs, by
+    /// number. `alloc` is where the tables of all trees lie.
     pub fn open(
         global: Global,
         alloc: A,
@@ -110,20 +112,25 @@ impl<A: Allocator> PartTable<A> {
         slots: Vec<Option<Slot<A>>>,
         owns: Vec<CpuState>,
     ) -> Result<(PartTable<A>, Vec<Option<CpuPass<A>>>), AllocError>
-        requires row { IsRow layout slots.items }
-        requires ready { CanBoot (layout_of layout) }
-        requires owns { (vec_len owns ≡ layout.config.cpus) × AreOwnAtBoot layout owns.items }
+        requires end { IsEndIn layout slots.items owns.items }
         ensures layout { IfOk result (λ t. t.0.layout ≡ layout) }
+        ensures begun { IfOk result (λ t. t.0.begun ≡ record { logs = logs_in slots.items; owns = owns.items }) }
         ensures passes { IfOk result (λ t. AreFirst t.0 layout.config.cpus t.1.items) }
     {
         let count = owns.len();
         let Ok(passes) = Vec::with_capacity(global, count) else {
             return Err(AllocError);
         };
-        let Ok((table, mut root)) = new_table(global, &layout, slots) else {
+        let opening = Opening {
+            layout,
+            slots: Snapshot::of(&slots),
+            owns: Snapshot::of(&owns),
+        };
+        let Ok((table, mut root)) = new_table(global, &opening, slots) else {
             return Err(AllocError);
         };
         let passes = new_passes(&table, &mut root, owns, passes);
+        let Opening { layout, .. } = opening;
         let table = PartTable {
             table,
             root,
@@ -155,7 +162,7 @@ impl<A: Allocator> PartTable<A> {
         requires home { AreHomeFrom self.table (vec_len passes) 0 passes.items }
         requires room { (cpus.items ≡ []) × (vec_len passes ≤ vec_capacity cpus) × (found.items ≡ []) × (parts ≤ vec_capacity found) }
         ensures layout { result.1 ≡ self.layout }
-        ensures end { IsEndFor self.layout result.2.items result.3.items (ForEach passes.items) }
+        ensures end { IsEndFor self result.2.items result.3.items (ForEach passes.items) }
     {
         let PartTable {
             table,
@@ -172,7 +179,7 @@ impl<A: Allocator> PartTable<A> {
     pub fn drop_with(self, passes: Vec<Option<CpuPass<A>>>)
         requires count { vec_len passes ≡ self.layout.config.cpus }
         requires home { AreHomeFrom self.table (vec_len passes) 0 passes.items }
-        ensures { HasEnd A self.layout passes.items }
+        ensures { HasEnd A self passes.items }
     {
         let PartTable {
             table,
@@ -188,7 +195,7 @@ impl<A: Allocator> PartTable<A> {
 
 impl<A: Allocator + Copy> PartTable<A> {
     ghost use Rattle.std.specs.Prelude.{◌≡◌, ◌+◌, [], length};
-    ghost use Rattle.reference_model.specs.History.{IsStored};
+    ghost use Rattle.reference_model.specs.model.History.{IsStored};
     ghost use Rattle.part_table.specs.Answered.{Answers};
     ghost use Rattle.part_table.specs.Made.{IsMade};
     ghost use Rattle.part_table.specs.Passes.{IsPassOf};
@@ -205,7 +212,7 @@ impl<A: Allocator + Copy> PartTable<A> {
         self.try_step_by(gate, &Plain, pass, step, &mut ())
     }
 
-    /// The same where a maker makes the step. It does so once, where the call is stored, and else tells nothing.
+    /// The same where a maker makes the step. It does so once, if the call is stored; otherwise it reports nothing.
     pub fn try_step_by<T, G: Gate, M: Maker<T, G>>(
         &self,
         gate: &G,
@@ -349,9 +356,9 @@ fn drop_all<A: Allocator>(
 )
     requires table { (root.table_id ≡ table.shared.table_id) × (table.shared.table_id.words ≡ parts) × (table.shared.table_id.slots ≡ parts) }
     requires root { IsRootOf (vec_len passes) root.id root.me }
-    requires all { vec_len passes ≡ table.shared.key.config.cpus }
+    requires all { vec_len passes ≡ table.shared.key.layout.config.cpus }
     requires home { AreHomeFrom root.table_id (vec_len passes) 0 passes.items }
-    ensures { HasEnd A table.shared.key passes.items }
+    ensures { HasEnd A (opened_as root.table_id table.shared.key.layout root.me.0.begun) passes.items }
 {
     join_each(&table, &mut root, passes);
     let mut closed = table.close_with(root);
@@ -369,10 +376,10 @@ fn end<A: Allocator>(
 ) -> (Vec<Slot<A>>, Vec<CpuState>)
     requires table { (root.table_id ≡ table.shared.table_id) × (table.shared.table_id.words ≡ parts) × (table.shared.table_id.slots ≡ parts) }
     requires root { IsRootOf (vec_len passes) root.id root.me }
-    requires all { vec_len passes ≡ table.shared.key.config.cpus }
+    requires all { vec_len passes ≡ table.shared.key.layout.config.cpus }
     requires home { AreHomeFrom root.table_id (vec_len passes) 0 passes.items }
     requires room { (cpus.items ≡ []) × (vec_len passes ≤ vec_capacity cpus) × (found.items ≡ []) × (parts ≤ vec_capacity found) }
-    ensures { IsEndFor table.shared.key result.0.items result.1.items (ForEach passes.items) }
+    ensures { IsEndFor (opened_as root.table_id table.shared.key.layout root.me.0.begun) result.0.items result.1.items (ForEach passes.items) }
 {
     let cpus = join_all(&table, &mut root, passes, cpus);
     let mut closed = table.close_with(root);

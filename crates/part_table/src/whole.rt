@@ -4,7 +4,7 @@ ghost use Rattle.std.specs.Vec.{vec_capacity, vec_len};
 ghost use Rattle.hypercalls.specs.Stands.{HasHistory};
 ghost use Rattle.part_table.specs.Endings.{IsEndOf};
 ghost use Rattle.part_table.specs.Slots.{slots_of};
-ghost use Rattle.part_table.specs.Whole.{AreGuests, AreParts, BootsAtBoot};
+ghost use Rattle.part_table.specs.Whole.{AreGuests, AreParts, EndsInSlots};
 
 use crate::room::push_in_room;
 use crate::slot::Slot;
@@ -56,7 +56,7 @@ pub fn apart<A: Allocator>(
     ensures layout { result.0 ≡ parts.layout }
     ensures slots { result.1.items ≡ map (λ x. Some x) (slots_of parts) }
     ensures cpus { result.2 ≡ parts.cpus }
-    ensures booted { BootsAtBoot parts result.1.items result.2.items }
+    ensures end { EndsInSlots parts result.1.items result.2.items }
 {
     let Parts {
         layout,

@@ -49,7 +49,7 @@ fn boots<R: AllocGlobal + Print>(rt: &R, course: &Course, map: &MemoryMap, confi
         && tell(rt, "machine", booted.map(|it| it.1))
 }
 
-/// Makes one step, and tells of it.
+/// Makes one step, and reports it.
 fn make_one<R: AllocGlobal + Print>(rt: &R, world: &mut World<Global>, asked: Asked) -> bool {
     let Asked { line, cpu, step } = asked;
     if cpu >= world.cpus() {

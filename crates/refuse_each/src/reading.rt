@@ -24,7 +24,7 @@ pub fn read_all<R: Input + AllocGlobal>(rt: &R) -> Option<Course>
     Some(course)
 }
 
-/// The memory and the configuration that a trace tells.
+/// The memory and the configuration of a trace.
 pub fn told(global: Global, course: &Course) -> Option<(MemoryMap, Config)> {
     let settings = &course.settings;
     let map = MemoryMap::new(global, settings.regions.as_slice(), settings.carve?).ok()?;

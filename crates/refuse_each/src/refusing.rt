@@ -30,7 +30,7 @@ pub fn refuse_all(global: Global) {
     let _ = is_refused(global, ALL);
 }
 
-/// Ends refusing, and tells whether a request was refused.
+/// Ends refusing, and returns whether a request was refused.
 pub fn has_met(global: Global) -> bool {
     is_refused(global, MET)
 }
@@ -51,7 +51,7 @@ pub fn by_memory<T: Drop, E: Drop>(answer: Result<T, E>) -> Came {
     }
 }
 
-/// Makes a call with each of its requests refused in turn, until a try is refused none, and tells how many were. None where a
+/// Makes a call with each of its requests refused in turn, until a try is refused none, and returns how many were. None if a
 /// try that was refused a request came to anything but NoMemory, or the last one isn't done.
 pub fn in_turn<F: FnMut() -> Came>(global: Global, mut call: F) -> Option<usize>
     requires { F.IsAlwaysCallable call }

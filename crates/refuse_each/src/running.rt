@@ -99,7 +99,7 @@ fn is_right(global: Global, ran: Ran) -> Option<bool> {
     Some((reached.wanting == 1) == met && reached.wanting < 2)
 }
 
-/// Runs all steps until a run is refused no request, and tells how many were. None where one goes wrong.
+/// Runs all steps until a run is refused no request, and returns how many were. None if one goes wrong.
 pub fn run_in_turn(
     global: Global,
     course: &Course,

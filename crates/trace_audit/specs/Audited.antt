@@ -37,7 +37,7 @@ use Rattle.world.specs.declared.World.{World}
 use Rattle.world.specs.declared.raw.RawWorld.{RawWorld}
 use Rattle.trace_audit.specs.Paths.{path_on, poke_in, which_of}
 
--- where an audited trace stands: as a replayed one does, and, once a word was poked, the poked world. No machine is there any more then
+-- the progress of an audited trace: that of a replayed one, and, once a word was poked, the poked world. There is no machine any more then
 pub record Audited (A : Type 0) : Type 0 where
   pub session : Standing
   pub poked : Option (RawWorld A)
@@ -60,7 +60,7 @@ module _ {A : Type 0} where
   abbrev pub allowed : Audited A → Allows
   allowed a = allowed_where a.poked (is_some a.session.machine) a.session.started
 
-  -- a world of these trees of which one word was set: `kept` says what stands beside the trees
+  -- a world of these trees of which one word was set: `kept` has the state beside the trees
   pub record IsPoked (geometry : Geometry) (before : Which → SeenTree) (kept : Beside → Type 0) (poke : Poke) (path : List ℕ) (world : RawWorld A) : Type 0 where
     pub trees : IsPokedTree (block_of geometry path) before (raw_trees world.parts) (which_of poke.tree) path poke.word
     pub beside : kept (raw_beside_of world.parts)
@@ -112,7 +112,7 @@ module _ {A : Type 0} where
   abbrev pub RunsLine : ℕ → List ℕ → Audited A → Answer → Audited A → Type 0
   RunsLine number bytes old answer new = Follows number (said (allowed old) old.session.told bytes) old answer new
 
-  -- what is found of a poked world: what it keeps, what a walk of all its words finds, and the first difference, which is none exactly where all is the same
+  -- the findings of a poked world: its kept state, what a walk of all its words finds, and the first difference, which is none exactly if both are the same
   pub record ComparesWalk (parts : RawParts A) (found : Option Disagreement) : Type 0 where
     pub kept : Ghost
     pub walked : Ghost

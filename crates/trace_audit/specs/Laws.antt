@@ -48,7 +48,7 @@ pub record AreFoundIn {A : Type 0} (parts : RawParts A) (kept walked : Ghost) : 
   pub walked_is : IsRawFound Words parts walked
   pub walked_rows : (f : ℕ) → (contents_in walked).shared.row f ≡ scratch_rows (layout_of parts.layout) (contents_in walked) f
 
--- the end of a report tells no difference, and there is none
+-- the end of a report has no difference, and there is none
 pub record TellsNone (steps : ℕ) (lines : List ReportLine) (kept walked : Ghost) : Type 0 where
   pub lines_are : lines ≡ report.End steps 0 ∷ []
   pub agrees : AuditAgrees (contents_in kept) (contents_in walked)
@@ -60,12 +60,12 @@ pub record TellsFirst (steps : ℕ) (lines : List ReportLine) (kept walked : Gho
   pub differs : AuditAgrees (contents_in kept) (contents_in walked) → ⊥
   pub first : IsFirstDifference (contents_in kept) (contents_in walked) found
 
--- the end of the report of a poked world tells a difference just where what the world keeps isn't what the walk finds
+-- the end of the report of a poked world has a difference exactly if the world's kept state isn't what the walk finds
 abbrev pub AuditTells : Type 0 → Type 0
 AuditTells A = (a : Audited A) (world : RawWorld A) (lines : List ReportLine) (outcome : Outcome) → a.poked ≡ Some world → Ends a lines outcome
     → (kept : Ghost) × (walked : Ghost) × AreFoundIn world.parts kept walked × (TellsNone a.session.steps lines kept walked ⊎ TellsFirst a.session.steps lines kept walked)
 
--- a poked world has all trees but one of others, and what stands beside trees is as `kept` says
+-- a poked world has all trees but one of others, and the state beside the trees is as `kept` says
 pub record KeepsAllBut {A : Type 0} (trees : Which → SeenTree) (kept : Beside → Type 0) (world : RawWorld A) : Type 0 where
   pub which : Which
   pub others : (other : Which) → (other ≡ which → ⊥) → raw_trees world.parts other ≡ trees other

@@ -1,4 +1,4 @@
--- Where an audit of code stands.
+-- The progress of an audit of code.
 use Rattle.trace_text.specs.View.{standing_of}
 use Rattle.trace_audit.specs.declared.poked.Audit.{Audit}
 use Rattle.trace_audit.specs.Audited.{Audited}

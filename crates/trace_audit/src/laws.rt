@@ -3,17 +3,17 @@ ghost use Rattle.trace_audit.specs.Laws.{AuditReplays, AuditTells, FirstKeeps, N
 
 use std::alloc::Allocator;
 
-/// An audit of a trace without a poke has the report of a replay, and tells no disagreement.
+/// An audit of a trace without a poke has the report of a replay, and no disagreement.
 pub fn audit_replays<A: Allocator>()
     ensures { AuditReplays A }
 {}
 
-/// The report of a poked world tells a difference just where there is one, and then the first.
+/// The report of a poked world has a difference exactly if there is one, and then the first.
 pub fn audit_tells<A: Allocator>()
     ensures { AuditTells A }
 {}
 
-/// A poke leaves each tree but one, and all that stands beside the trees.
+/// A poke leaves each tree but one, and all the state beside the trees.
 pub fn poke_keeps<A: Allocator>()
     ensures first { FirstKeeps A }
     ensures next { NextKeeps A }

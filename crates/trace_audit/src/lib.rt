@@ -1,4 +1,4 @@
-//! Audits: a trace is carried out, its pokes too, and then what is kept is compared with what a walk of all words finds.
+//! Audits: a trace is carried out, its pokes too, and then the kept state is compared with what a walk of all words finds.
 #![tactic(auto)]
 
 mod auditing;

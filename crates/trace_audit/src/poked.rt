@@ -42,7 +42,7 @@ impl<A: Allocator + Copy> Audit<A> {
         }
     }
 
-    /// What `audit` allows where the trace stands.
+    /// What `audit` allows at this point of the trace.
     fn allows(&self) -> Allows
         ensures { result ≡ allowed (audited_of self.now) }
     {
@@ -56,7 +56,7 @@ impl<A: Allocator + Copy> Audit<A> {
         }
     }
 
-    /// Carries out the line of this number, and tells what it reports. Of a line of over 256 bytes any 257 serve.
+    /// Carries out the line of this number, and returns its report. Of a line of over 256 bytes any 257 serve.
     pub fn run(&mut self, number: u64, line: &[u8]) -> Result<Reported, Stop>
         requires few { (standing_of self.old.session).steps < 2 ^ 62 }
         requires ready { IsReady self.old.session }

@@ -1,23 +1,40 @@
 -- The calls that each CPU's pass has made are its calls in the history at whose end the machine is.
-use Rattle.std.proofs.Common.{◌≡◌, ℕ, refl, sym, ap, subst, ◌∙◌, inl, inr, List, [], ◌∷◌, ◌++◌, filter, map, Option, Some, slice_get, arith}
+use Rattle.std.proofs.Common.{◌≡◌, ℕ, ◌<◌, ◌==◌, suc, refl, sym, ap, subst, ◌∙◌, inl, inr, List, [], ◌∷◌, ◌++◌, All, drop, filter, length, map, Option, Some, slice_get, arith}
 use Rattle.std.proofs.lemmas.List.{append_assoc, append-nil}
+use Rattle.std.proofs.lemmas.List.Elements.{filter-append}
+use Rattle.page_state.specs.Layouts.{Layout}
 use Rattle.page_state.specs.LayoutView.{layout_of}
+use Rattle.page_state.proofs.Cases.{by_lt}
 use Rattle.call_table.specs.declared.reply.Call.{Call}
 use Rattle.call_table.specs.declared.reply.Reply.{Reply}
 use Rattle.call_table.specs.declared.step.Step.{Step}
+use Rattle.reference_model.specs.model.Boot.{boot}
+use Rattle.reference_model.specs.model.History.{IsStored, calls_by, calls_on}
+use Rattle.reference_model.specs.model.Parts.{Part, guest_part, shared_part, vm_part}
+use Rattle.reference_model.specs.model.Rules.{call_uses}
+use Rattle.reference_model.specs.model.Run.{IsRun, Runs}
+use Rattle.reference_model.specs.model.State.{Reference}
+use Rattle.reference_model.specs.model.Step.{Steps}
+use Rattle.reference_model.proofs.Ends.{parts_run}
+use Rattle.reference_model.proofs.Steps.{end_once}
 use Rattle.part_types.specs.declared.parts.CpuState.{CpuState}
 use Rattle.part_table.specs.declared.slot.Slot.{Slot}
 use Rattle.part_table.specs.Endings.{IsEndFor}
-use Rattle.part_table.specs.Passes.{Opened, Pass}
+use Rattle.part_table.specs.Parts.{part_of}
+use Rattle.part_table.specs.Passes.{Opened, Pass, first_known}
 use Rattle.part_table.specs.Known.{Known}
+use Rattle.part_table.specs.Beginnings.{no_own, own_in}
+use Rattle.part_table.proofs.Left.{there}
+use Rattle.part_table.proofs.Lists.{or_of_get}
 use Rattle.cpu_threads.specs.Ends.{AllGiven, AreOf, OfGiven}
 use Rattle.cpu_threads.specs.Machines.{FullInTheEnd, StoresInTheEnd}
+use Rattle.cpu_threads.proofs.Full.{end_fronts}
 use Rattle.trace_race.proofs.FullLogs.{made_in}
 use Rattle.trace_race.proofs.Kept.{kept_cases}
-use Rattle.cpu_threads.proofs.Full.{end_fronts}
 use Rattle.trace_race.proofs.Made.{at_place, map-append}
+use Rattle.trace_race.proofs.Past.{behind_all, front_by, front_none, no_guest_calls, none_by, split}
 use Rattle.trace_race.specs.declared.course.Asked.{Asked}
-use Rattle.trace_race.specs.Made.{AreDone, IsCpus, Makes, OneHistory, answers_of, first_known, is_stored}
+use Rattle.trace_race.specs.Made.{AreDone, AreMade, CallsIn, FindsFull, IsCpus, MakeAll, Makes, OneHistory, answers_of, is_stored, stored_in}
 
 -- what is told of a call
 abbrev pub told : Call → Step × Reply
@@ -63,28 +80,110 @@ all_of t steps replies passes done cpu less =
     let there = at_place passes cpu (let n = done.count in omega (arith, n, less)) in
     record { place = cpu; pass = there.0; there = there.1; cpu = (done.each cpu there.0 there.1).cpu_is }
 
--- the one history
-pub one_history : {A : Type 0} (t : Opened) (steps : List Asked) (replies : List Reply) (passes : List Pass) (found : List (Slot A)) (cpus : List CpuState)
-    → AreDone t steps replies passes → IsEndFor t.layout found cpus (OfGiven passes) → OneHistory (layout_of t.layout) steps replies
-one_history t steps replies passes parts cpus done end = record {
-  key = t.layout;
-  key_is = refl;
-  log = end.end.left.log;
-  end = end.end.left.state;
-  run = end.end.left.run;
-  stored = end.end.left.stored;
-  each = λ cpu less. each cpu (at_place passes cpu (let n = done.count in omega (arith, n, less)));
-}
-  where
-    each : (cpu : ℕ) → (p : Pass) × (slice_get passes cpu ≡ Some p) → IsCpus t.layout cpu (answers_of cpu steps replies) end.end.left.log
-    each cpu found =
-        let p = found.0 in
-        let one = done.each cpu p found.1 in
-        let state : slice_get cpus cpu ≡ Some p.knows.own = subst (λ (c : ℕ). slice_get cpus c ≡ Some p.knows.own) one.cpu_is (end.own cpu p found.1) in
-        let calls = (end.end.left.cpus cpu p.knows.own state).0 in
-        record {
-          calls = ap (map told) (sym calls) ∙ made_calls (first_known t.layout cpu) p.knows (answers_of cpu steps replies) one.makes;
-          last = p.knows;
-          makes = made_in t.layout parts cpus end.end cpu p.knows (answers_of cpu steps replies) one.makes state (end_fronts t.layout parts cpus end.end p.knows.tries (end.tried cpu p found.1));
-          own = sym calls;
-        }
+-- calls in another order of the same parts and CPUs are full where these are
+module _ (l : Layout) (V W : List Call) (on : (p : Part) → calls_on p V ≡ calls_on p W) (by : (cpu : ℕ) → calls_by cpu V ≡ calls_by cpu W) where
+  full_as : (step : Step) (v : Known) → FindsFull l W step v → FindsFull l V step v
+  full_as step v (inl e) = inl (ap (λ (cs : List Call). length cs) (by v.cpu) ∙ e)
+  full_as step v (inr e) = inr (e.0, e.1, ap (λ (cs : List Call). length cs) (on (part_of e.0)) ∙ e.2)
+
+  makes_as : (v w : Known) (answers : List (Step × Reply)) → MakeAll (CallsIn l W) v answers w → MakeAll (CallsIn l V) v answers w
+  makes_as v w [] made = made
+  makes_as v w (a ∷ more) made = (
+    made.0,
+    record { answered = made.1.answered; stored = made.1.stored; full = λ e. let f = made.1.full e in (f.0, full_as a.0 v f.1) },
+    makes_as made.0 w more made.2,
+  )
+
+-- a list without its front
+cut : {X : Type 0} (xs ys zs : List X) → xs ++ ys ≡ xs ++ zs → ys ≡ zs
+cut [] ys zs e = e
+cut (x ∷ xs) ys zs e = cut xs ys zs (ap (λ l. drop 1 l) e)
+
+module _ {A : Type 0} (t : Opened) (start : ℕ) (steps : List Asked) (replies : List Reply) (passes : List Pass) (found : List (Slot A)) (cpus : List CpuState)
+    (made : AreMade t start steps replies passes) (end : IsEndFor t found cpus (OfGiven passes)) where
+  abbrev l : Layout
+  l = layout_of t.layout
+
+  abbrev first : List Call
+  first = stored_in made.begun.calls
+
+  abbrev after : List Call
+  after = end.goes_on.after
+
+  abbrev whole : List Call
+  whole = end.end.left.log
+
+  abbrev last : Reference
+  last = end.end.left.state
+
+  -- what comes first in the machine's history are the calls of the world that it was made of
+  same_on : (p : Part) → calls_on p first ≡ calls_on p end.goes_on.first
+  same_on vm_part = made.begun.logs 0 (omega arith) ∙ sym (end.goes_on.on 0 (omega arith))
+  same_on shared_part = made.begun.logs 1 (omega arith) ∙ sym (end.goes_on.on 1 (omega arith))
+  same_on (guest_part v) = by_lt v 64
+      (λ less. made.begun.logs (suc (suc v)) (omega (arith, less)) ∙ sym (end.goes_on.on (suc (suc v)) (omega (arith, less))))
+      (λ past. no_guest_calls l made.begun.ready first made.begun.at made.begun.stored_run v past
+      ∙ sym (front_none (guest_part v) end.goes_on.first after (ap (calls_on (guest_part v)) (sym end.goes_on.log_is) ∙ no_guest_calls l made.begun.ready whole last end.end.left.run v past)))
+
+  same_by : (cpu : ℕ) → calls_by cpu first ≡ calls_by cpu end.goes_on.first
+  same_by cpu = by_lt cpu t.layout.config.cpus
+      (λ less.
+      let k = there t.begun.owns cpu (let n = made.begun.count in omega (arith, n, less)) in
+      (made.begun.owns cpu less).0 ∙ ap (λ (o : CpuState). o.log.calls) (or_of_get t.begun.owns cpu no_own k.0 k.1) ∙ sym (end.goes_on.by cpu k.0 k.1))
+      (λ past. none_by t.layout.config.cpus first made.begun.stored_run.cpus cpu past
+      ∙ sym (front_by cpu end.goes_on.first after (ap (calls_by cpu) (sym end.goes_on.log_is) ∙ none_by t.layout.config.cpus whole end.end.left.run.cpus cpu past)))
+
+  all_on : (p : Part) → calls_on p (first ++ after) ≡ calls_on p whole
+  all_on p = filter-append (call_uses p) first after ∙ ap (λ cs. cs ++ calls_on p after) (same_on p) ∙ sym (filter-append (call_uses p) end.goes_on.first after) ∙ ap (calls_on p) (sym end.goes_on.log_is)
+
+  all_by : (cpu : ℕ) → calls_by cpu (first ++ after) ≡ calls_by cpu whole
+  all_by cpu = filter-append (λ (c : Call). c.cpu == cpu) first after ∙ ap (λ cs. cs ++ calls_by cpu after) (same_by cpu) ∙ sym (filter-append (λ (c : Call). c.cpu == cpu) end.goes_on.first after) ∙ ap (calls_by cpu) (sym end.goes_on.log_is)
+
+  -- so the steps before `start`, in the trace's order, and then the calls of the machine are a run
+  run : IsRun l (first ++ after) last
+  run = parts_run l whole (first ++ after) last end.end.left.run all_on all_by
+
+  goes : Runs (Steps l) made.begun.at after last
+  goes =
+      let s = split (Steps l) first after (boot l) last run.leads in
+      subst (λ (u : Reference). Runs (Steps l) u after last) (end_once l first s.0 made.begun.at (record { cpus = made.begun.stored_run.cpus; leads = s.1 }) made.begun.stored_run) s.2
+
+  each : (cpu : ℕ) → cpu < t.layout.config.cpus → (p : Pass) × (slice_get passes cpu ≡ Some p) → IsCpus t.layout cpu (answers_of cpu (drop start steps) (drop start replies)) made.begun.at first after
+  each cpu less given =
+      let p = given.0 in
+      let answers = answers_of cpu (drop start steps) (drop start replies) in
+      let one = made.done.each cpu p given.1 in
+      let state : slice_get cpus cpu ≡ Some p.knows.own = subst (λ (c : ℕ). slice_get cpus c ≡ Some p.knows.own) one.cpu_is (end.own cpu p given.1) in
+      let calls : p.knows.own.log.calls ≡ calls_by cpu whole = (end.end.left.cpus cpu p.knows.own state).0 in
+      let begun = made.begun.owns cpu less in
+      let parted : calls_by cpu whole ≡ calls_by cpu first ++ calls_by cpu after = sym (all_by cpu) ∙ filter-append (λ (c : Call). c.cpu == cpu) first after in
+      let both : map told (calls_by cpu first) ++ map told (calls_by cpu after) ≡ map told (calls_by cpu first) ++ kept answers =
+      sym (map-append told (calls_by cpu first) (calls_by cpu after)) ∙ ap (map told) (sym (calls ∙ parted)) ∙ made_calls (first_known t cpu) p.knows answers one.makes
+      ∙ ap (λ (cs : List Call). map told cs ++ kept answers) (sym begun.0) in
+      record {
+        calls = cut (map told (calls_by cpu first)) (map told (calls_by cpu after)) (kept answers) both;
+        first = own_in t.begun cpu;
+        first_is = begun.1;
+        first_calls = sym begun.0;
+        last = p.knows;
+        makes = makes_as l (first ++ after) whole all_on all_by (first_known t cpu) p.knows answers
+            (made_in t found cpus end.end cpu p.knows answers begun.1.size one.makes state (end_fronts t.layout found cpus end.end p.knows.tries (end.tried cpu p given.1)));
+        own = all_by cpu ∙ sym calls;
+      }
+
+  -- the one history
+  pub one_history : OneHistory (layout_of t.layout) start steps replies
+  one_history = record {
+    key = t.layout;
+    key_is = refl;
+    first = made.begun.calls;
+    asked = made.begun.asked;
+    at = made.begun.at;
+    begins = made.begun.run;
+    log = after;
+    end = last;
+    goes = goes;
+    run = run;
+    stored = behind_all (λ (c : Call). IsStored c.reply) end.goes_on.first after (subst (All (λ c. IsStored c.reply)) end.goes_on.log_is end.end.left.stored);
+    each = λ cpu less. each cpu less (at_place passes cpu (let n = made.done.count in omega (arith, n, less)));
+  }

@@ -12,7 +12,7 @@ use Rattle.part_types.specs.declared.parts.CpuState.{CpuState}
 use Rattle.part_table.specs.Known.{Known, StartsWith}
 use Rattle.cpu_threads.specs.Machines.{StoresInTheEnd}
 use Rattle.trace_race.specs.Laws.{FullAfter}
-use Rattle.trace_race.specs.Made.{CallsIn, FindsFull, MakeAll, first_known, is_stored}
+use Rattle.trace_race.specs.Made.{CallsIn, FindsFull, MakeAll, is_stored, known_with}
 use Rattle.trace_race.proofs.Ends.{one_stored, told}
 use Rattle.trace_race.proofs.Kept.{kept_cases}
 
@@ -76,6 +76,11 @@ module _ (l : Layout) (log : List Call) where
       (r.0, more_on v made.0 r.0 a before (one_more a v made.0 made.1) r.1, r.2, r.3)
 
 pub full_after : FullAfter
-full_after key cpu before after step log is =
-    let r = full_here (layout_of key) log (first_known key cpu) is.last before after step is.makes in
-    (r.0, r.1.cpu, r.1.told_is, subst (λ (cs : List Call). StartsWith cs r.0.own.log.calls) (sym is.own) r.2, r.3)
+full_after key cpu before after step at first log is =
+    let r = full_here (layout_of key) (first ++ log) (known_with key cpu is.first) is.last before after step is.makes in (
+      r.0,
+      r.1.cpu,
+      r.1.told_is ∙ ap (λ cs. map told cs ++ kept before) is.first_calls,
+      subst (λ (cs : List Call). StartsWith cs r.0.own.log.calls) (sym is.own) r.2,
+      r.3,
+    )

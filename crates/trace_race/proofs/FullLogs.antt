@@ -8,8 +8,8 @@ use Rattle.page_state.specs.LayoutView.{layout_of}
 use Rattle.call_table.specs.declared.reply.Call.{Call}
 use Rattle.call_table.specs.declared.reply.Reply.{Reply}
 use Rattle.call_table.specs.declared.step.Step.{Step}
-use Rattle.reference_model.specs.History.{calls_by, calls_on}
-use Rattle.reference_model.specs.Rules.{guest_slot, names}
+use Rattle.reference_model.specs.model.History.{calls_by, calls_on}
+use Rattle.reference_model.specs.model.Rules.{guest_slot, names}
 use Rattle.part_types.specs.declared.parts.CpuState.{CpuState}
 use Rattle.part_types.specs.Logs.{IsOfSize, StoredCalls}
 use Rattle.part_types.specs.Lent.{with_call}
@@ -25,7 +25,9 @@ use Rattle.cpu_threads.proofs.Full.{full_stays}
 use Rattle.cpu_threads.proofs.Tries.{same_on}
 use Rattle.cpu_threads.specs.Machines.{FullInTheEnd, StoresInTheEnd}
 use Rattle.trace_race.proofs.Kept.{kept_cases}
-use Rattle.trace_race.specs.Made.{Calls, CallsIn, FindsFull, MakeAll, Makes, first_known}
+use Rattle.part_table.specs.Passes.{Opened, first_known}
+use Rattle.part_table.specs.Beginnings.{own_in}
+use Rattle.trace_race.specs.Made.{Calls, CallsIn, FindsFull, MakeAll, Makes}
 
 -- what a pass knows after calls: it has tried more, and made more
 record IsLater (most : ℕ) (v w : Known) : Type 0 where
@@ -157,6 +159,6 @@ module _ {A : Type 0} (l : TheLayout) (found : List (Slot A)) (cpus : List CpuSt
       )
 
 -- the calls of a pass, in the history at whose end it is
-pub made_in : {A : Type 0} (l : TheLayout) (found : List (Slot A)) (cpus : List CpuState) (end : IsEndOf l found cpus) (cpu : ℕ) (last : Known) (answers : List (Step × Reply)) → Makes (first_known l cpu) answers last
-    → slice_get cpus cpu ≡ Some last.own → AreFronts l.config.log (λ k. calls_on (part_of k) end.left.log) last.tries → MakeAll (CallsIn (layout_of l) end.left.log) (first_known l cpu) answers last
-made_in l found cpus end cpu last answers made here fronts = all_in l found cpus end cpu last here fronts (first_known l cpu) answers refl (omega arith) made
+pub made_in : {A : Type 0} (t : Opened) (found : List (Slot A)) (cpus : List CpuState) (end : IsEndOf t.layout found cpus) (cpu : ℕ) (last : Known) (answers : List (Step × Reply)) → IsOfSize t.layout.config.log (own_in t.begun cpu).log → Makes (first_known t cpu) answers last
+    → slice_get cpus cpu ≡ Some last.own → AreFronts t.layout.config.log (λ k. calls_on (part_of k) end.left.log) last.tries → MakeAll (CallsIn (layout_of t.layout) end.left.log) (first_known t cpu) answers last
+made_in t found cpus end cpu last answers size made here fronts = all_in t.layout found cpus end cpu last here fronts (first_known t cpu) answers refl size made

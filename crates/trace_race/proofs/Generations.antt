@@ -10,21 +10,21 @@ use Rattle.call_table.specs.declared.step.Step.{Step}
 use Rattle.call_table.specs.declared.step.Step.TheVariants.{Install, FinishGuest, MarkDying, VmReserve, VmOpen, Teardown, VmRelease}
 use Rattle.call_table.specs.declared.step.VmId.{VmId}
 use Rattle.page_state.specs.Layouts.{Layout}
-use Rattle.page_state.proofs.Common.{and-both, not-false}
+use Rattle.page_state.proofs.Common.{and-both}
 use Rattle.reference_model.specs.declared.changes.Changes.{Changes}
 use Rattle.reference_model.specs.declared.changes.SlotChange.{SlotChange}
 use Rattle.reference_model.specs.declared.changes.SlotChange.TheVariants.{Keep as KeepSlots, Reserve, Open, Close, Release, Load, Unload}
 use Rattle.reference_model.specs.declared.changes.Ticket.{Ticket}
 use Rattle.reference_model.specs.declared.changes.Update.{Update}
 use Rattle.reference_model.specs.declared.changes.Update.TheVariants.{Keep, Becomes}
-use Rattle.reference_model.specs.Boot.{boot, booted}
-use Rattle.reference_model.specs.Changes.{updated, vms_by}
-use Rattle.reference_model.specs.Parts.{lacks_slot, uses_vms}
-use Rattle.reference_model.specs.Rules.{rule, names, guest_slot}
-use Rattle.reference_model.specs.State.{Contents, Cpu, Reference, Slot, Vms, closing, no_slot, no_vms, opened, put_at, reserved}
-use Rattle.reference_model.specs.Step.{answer, changed, fails, foretell, is_full, made, predict, stored, with_rows}
-use Rattle.reference_model.specs.Used.{Used, UsedRooms, put_back, rooms_of, used_of}
-use Rattle.reference_model.specs.VmRules.{is_open, next_slot, stand_eq}
+use Rattle.reference_model.specs.model.Boot.{boot, booted}
+use Rattle.reference_model.specs.model.Changes.{updated, vms_by}
+use Rattle.reference_model.specs.model.Parts.{lacks_slot, uses_vms}
+use Rattle.reference_model.specs.model.Rules.{rule, names, guest_slot}
+use Rattle.reference_model.specs.model.State.{Contents, Cpu, Reference, Slot, Vms, closing, no_slot, no_vms, opened, put_at, reserved}
+use Rattle.reference_model.specs.model.Step.{answer, changed, fails, foretell, is_full, made, predict, stored, with_rows}
+use Rattle.reference_model.specs.model.Used.{Used, UsedRooms, put_back, rooms_of, used_of}
+use Rattle.reference_model.specs.model.VmRules.{is_open, next_slot, stand_eq}
 use Rattle.reference_model.proofs.conditions.Slots.{put-fact}
 use Rattle.reference_model.proofs.conditions.Tests.{passed}
 use Rattle.ghost_judge.specs.declared.disagreement.Disagreement.{Disagreement}
@@ -81,9 +81,9 @@ module _ (n : ℕ) (some : 1 ≤ n) where
   used_low true z h = h
   used_low false z h = λ v. some
 
-  open_low : (vm : VmId) (y : Slot) → not (is_open vm y) ≡ false → y.generation ≤ n → vm.generation ≤ n
+  open_low : (vm : VmId) (y : Slot) → is_open vm y ≡ true → y.generation ≤ n → vm.generation ≤ n
   open_low vm y e low =
-      let same = (and-both (stand_eq y.stand opened) (y.generation == vm.generation) (not-false (is_open vm y) e)).1 in
+      let same = (and-both (stand_eq y.stand opened) (y.generation == vm.generation) e).1 in
       grind (arith, nat_tests)
 
   module _ (l : Layout) (cpu : ℕ) (slot : Option ℕ) (x : Used) (slots : AreLow x.vms) (ticket : Low x.cpu.ticket) where
@@ -94,7 +94,7 @@ module _ (n : ℕ) (some : 1 ≤ n) where
     modest MarkDying h = record { slot = tt; ticket = vm_low x.cpu.ticket ticket }
     modest (VmReserve kind i) h = record { slot = tt; ticket = slots (next_slot x) }
     modest VmOpen h = record { slot = tt; ticket = tt }
-    modest (Teardown vm) h = record { slot = tt; ticket = open_low vm (x.vms.slot vm.slot) (passed l.depth (rule l cpu slot (Teardown vm) x) (lacks_slot (names (Teardown vm)) slot) x h).no_vm (slots vm.slot) }
+    modest (Teardown vm) h = record { slot = tt; ticket = open_low vm (x.vms.slot vm.slot) (passed l.depth (rule l cpu slot (Teardown vm) x) (lacks_slot (names (Teardown vm)) slot) x h).has_vm (slots vm.slot) }
     modest VmRelease h = record { slot = vm_low x.cpu.ticket ticket; ticket = tt }
     modest step h = record { slot = tt; ticket = tt }
 

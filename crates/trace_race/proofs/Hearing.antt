@@ -3,7 +3,7 @@ use Rattle.std.proofs.Common.{◌≡◌, ℕ, ◌+◌, ⊎_elim, ◌∙◌, ◌+
 use Rattle.page_state.proofs.Cases.{by_lt}
 use Rattle.call_table.specs.declared.reply.Reply.{Reply}
 use Rattle.call_table.specs.declared.step.Step.{Step}
-use Rattle.reference_model.specs.History.{IsStored}
+use Rattle.reference_model.specs.model.History.{IsStored}
 use Rattle.part_types.specs.declared.parts.CpuState.{CpuState}
 use Rattle.part_table.specs.Known.{Known}
 use Rattle.cpu_threads.specs.Machines.{FullInTheEnd, StoresInTheEnd}

@@ -12,16 +12,16 @@ use Rattle.call_table.specs.declared.reply.Refusal.TheVariants.{LogFull, NoMemor
 use Rattle.call_table.specs.declared.reply.Reply.{Reply}
 use Rattle.call_table.specs.declared.reply.Reply.TheVariants.{Done, Refused}
 use Rattle.call_table.specs.declared.step.Step.{Step}
-use Rattle.reference_model.specs.History.{IsStored}
-use Rattle.reference_model.specs.Boot.{boot}
-use Rattle.reference_model.specs.Run.{Runs}
-use Rattle.reference_model.specs.Parts.{Names, uses_shared, uses_vms}
-use Rattle.reference_model.specs.Used.{Used, put_back, put_room, put_rooms, room_at, rooms_of, used_of}
-use Rattle.reference_model.specs.State.{Contents, Reference, Rooms, put_at}
-use Rattle.reference_model.specs.Step.{Steps, answer, foretell, is_full, predict, stored, rooms_by}
+use Rattle.reference_model.specs.model.History.{IsStored}
+use Rattle.reference_model.specs.model.Boot.{boot}
+use Rattle.reference_model.specs.model.Run.{Runs}
+use Rattle.reference_model.specs.model.Parts.{Names, uses_shared, uses_vms}
+use Rattle.reference_model.specs.model.Used.{Used, put_back, put_room, put_rooms, room_at, rooms_of, used_of}
+use Rattle.reference_model.specs.model.State.{Contents, Reference, Rooms, put_at}
+use Rattle.reference_model.specs.model.Step.{Steps, answer, foretell, is_full, predict, stored, rooms_by}
 use Rattle.reference_model.proofs.Steps.{refusal_keeps}
 use Rattle.ghost_judge.specs.Judgements.{JudgeAgrees, is_done}
-use Rattle.reference_model.specs.Rules.{may_grow, names, guest_slot}
+use Rattle.reference_model.specs.model.Rules.{may_grow, names, guest_slot}
 use Rattle.call_table.specs.declared.reply.Refusal.TheVariants as refusals
 use Rattle.ghost_judge.proofs.JudgedSteps.{step_agrees}
 use Rattle.ghost_judge.specs.declared.disagreement.Disagreement.{Disagreement}

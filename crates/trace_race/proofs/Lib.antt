@@ -15,3 +15,5 @@ pub mod Threads
 pub mod NotFull
 pub mod FullAfter
 pub mod OneCpu
+pub mod Begun
+pub mod Past

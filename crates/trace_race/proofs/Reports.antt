@@ -23,7 +23,7 @@ use Rattle.trace_text.proofs.ReplayLemmas.{appends_lines, appends_none}
 use Rattle.trace_text.specs.declared.session.Stop.{Stop}
 use Rattle.trace_race.specs.Booted.{StopsBoot, boot_told}
 use Rattle.trace_race.specs.declared.course.Asked.{Asked}
-use Rattle.trace_race.specs.Courses.{Asking, course_of, nothing_asked}
+use Rattle.trace_race.specs.Courses.{Asking, course_of, in_order_of, nothing_asked}
 use Rattle.page_state.specs.Layouts.{Layout}
 use Rattle.ghost_judge.specs.declared.disagreement.Disagreement.{Disagreement}
 use Rattle.trace_reader.specs.declared.outcome.EngineFault.{EngineFault}
@@ -55,10 +55,10 @@ none_told : (judged : List Disagreement) (audited : Option Disagreement) (n : �
 none_told judged audited n steps no_judged no_audited count =
     ap (λ ds. found_lines ds audited n) no_judged ∙ (ap (λ o. found_lines [] o n) no_audited ∙ ap (λ k. found_lines [] None k) count)
 
-pub made_ends : (l : Layout) (steps : List Asked) (replies : List Reply) (judged : List Disagreement) (audited : Option Disagreement) (n : ℕ) (old mid new : Option (List ℕ)) (outcome : Outcome) → judged ≡ [] → audited ≡ None → n ≡ length steps
-    → OneHistory l steps replies → Appends old mid (text_of_report (step_lines steps replies))
-    → (outcome ≡ outcome_of (length judged + length (audited_lines audited))) × Appends mid new (text_of_report (found_lines judged audited n)) → StepsEnd l steps replies old new outcome
-made_ends l steps replies judged audited n old mid new outcome no_judged no_audited count one told found =
+pub made_ends : (l : Layout) (start : ℕ) (steps : List Asked) (replies : List Reply) (judged : List Disagreement) (audited : Option Disagreement) (n : ℕ) (old mid new : Option (List ℕ)) (outcome : Outcome) → judged ≡ [] → audited ≡ None → n ≡ length steps
+    → OneHistory l start steps replies → Appends old mid (text_of_report (step_lines steps replies))
+    → (outcome ≡ outcome_of (length judged + length (audited_lines audited))) × Appends mid new (text_of_report (found_lines judged audited n)) → StepsEnd l start steps replies old new outcome
+made_ends l start steps replies judged audited n old mid new outcome no_judged no_audited count one told found =
     let clean : outcome ≡ outcomes.Clean = found.0 ∙ (ap (λ o. outcome_of (length judged + length (audited_lines o))) no_audited ∙ ap (λ (ds : List Disagreement). outcome_of (length ds + 0)) no_judged) in
     (clean, one, appends_lines old mid new (step_lines steps replies) (report.End (length steps) 0 ∷ []) told (subst (λ ls. Appends mid new (text_of_report ls)) (none_told judged audited n steps no_judged no_audited count) found.1))
 
@@ -77,34 +77,34 @@ made_fails steps replies old new front = front_first old new (step_lines steps r
 
 -- ---- behind the boot line
 
-pub run_ends : (m : Machine) (steps : List Asked) (replies : List Reply) (line : Response) (old mid new : Option (List ℕ)) (outcome : Outcome) → line ≡ boot_told m → length replies ≡ length steps
-    → Appends old mid (text_of_report (report.Response line ∷ [])) → StepsEnd m.layout steps replies mid new outcome → RunEnds m steps old new outcome
-run_ends m steps replies line old mid new outcome is count first rest =
-    (rest.0, replies, count, rest.1, appends_lines old mid new (report.Response (boot_told m) ∷ []) (lines_behind steps replies) (subst (λ l. Appends old mid (text_of_report (report.Response l ∷ []))) is first) rest.2)
+pub run_ends : (m : Machine) (a : Asking) (replies : List Reply) (line : Response) (old mid new : Option (List ℕ)) (outcome : Outcome) → line ≡ boot_told m → length replies ≡ length a.steps
+    → Appends old mid (text_of_report (report.Response line ∷ [])) → StepsEnd m.layout (in_order_of a) a.steps replies mid new outcome → RunEnds m a old new outcome
+run_ends m a replies line old mid new outcome is count first rest =
+    (rest.0, replies, count, rest.1, appends_lines old mid new (report.Response (boot_told m) ∷ []) (lines_behind a.steps replies) (subst (λ l. Appends old mid (text_of_report (report.Response l ∷ []))) is first) rest.2)
 
-pub run_begins : (m : Machine) (steps : List Asked) (replies : List Reply) (line : Response) (old mid new : Option (List ℕ)) → line ≡ boot_told m → length replies ≡ length steps → OneHistory m.layout steps replies
-    → Appends old mid (text_of_report (report.Response line ∷ [])) → WritesFront (lines_behind steps replies) mid new → RunBegins m steps old new
-run_begins m steps replies line old mid new is count one first rest =
-    inr (replies, count, one, front_behind old mid new (report.Response (boot_told m) ∷ []) (lines_behind steps replies) (subst (λ l. Appends old mid (text_of_report (report.Response l ∷ []))) is first) rest)
+pub run_begins : (m : Machine) (a : Asking) (replies : List Reply) (line : Response) (old mid new : Option (List ℕ)) → line ≡ boot_told m → length replies ≡ length a.steps → HasOneHistory m a replies
+    → Appends old mid (text_of_report (report.Response line ∷ [])) → WritesFront (lines_behind a.steps replies) mid new → RunBegins m a old new
+run_begins m a replies line old mid new is count one first rest =
+    inr (replies, count, one, front_behind old mid new (report.Response (boot_told m) ∷ []) (lines_behind a.steps replies) (subst (λ l. Appends old mid (text_of_report (report.Response l ∷ []))) is first) rest)
 
 -- the boot line alone
-pub run_halts : (m : Machine) (steps : List Asked) (line : Response) (old mid : Option (List ℕ)) → line ≡ boot_told m → Appends old mid (text_of_report (report.Response line ∷ [])) → RunBegins m steps old mid
-run_halts m steps line old mid is first = inl (front_behind old mid mid (report.Response (boot_told m) ∷ []) [] (subst (λ l. Appends old mid (text_of_report (report.Response l ∷ []))) is first) (0, appends_none mid))
+pub run_halts : (m : Machine) (a : Asking) (line : Response) (old mid : Option (List ℕ)) → line ≡ boot_told m → Appends old mid (text_of_report (report.Response line ∷ [])) → RunBegins m a old mid
+run_halts m a line old mid is first = inl (front_behind old mid mid (report.Response (boot_told m) ∷ []) [] (subst (λ l. Appends old mid (text_of_report (report.Response l ∷ []))) is first) (0, appends_none mid))
 
 -- a front of it
-pub run_fails : (m : Machine) (steps : List Asked) (line : Response) (old new : Option (List ℕ)) → line ≡ boot_told m → WritesFront (report.Response line ∷ []) old new → RunBegins m steps old new
-run_fails m steps line old new is front = inl (subst (λ l. WritesFront (report.Response l ∷ []) old new) is front)
+pub run_fails : (m : Machine) (a : Asking) (line : Response) (old new : Option (List ℕ)) → line ≡ boot_told m → WritesFront (report.Response line ∷ []) old new → RunBegins m a old new
+run_fails m a line old new is front = inl (subst (λ l. WritesFront (report.Response l ∷ []) old new) is front)
 
 -- ---- what a whole trace asks for
 
-race_of : (Ran : Machine → List Asked → List Reply → Type 0) (a : Asking) (number : ℕ) (carve : PageRange) (lines : List ReportLine) (outcome : Outcome) → a.boot ≡ Some number → a.told.carve ≡ Some carve
+race_of : (Ran : Machine → Asking → List Reply → Type 0) (a : Asking) (number : ℕ) (carve : PageRange) (lines : List ReportLine) (outcome : Outcome) → a.boot ≡ Some number → a.told.carve ≡ Some carve
     → IsNoRun a carve number lines outcome ⊎ IsRun Ran a carve lines outcome → IsRaceOf Ran a lines outcome
 race_of Ran a number carve lines outcome boot there run =
     subst (λ b. MatchOption b (IsIdle lines outcome) (λ number. MatchOption a.told.carve (IsIdle lines outcome) (λ carve. IsNoRun a carve number lines outcome ⊎ IsRun Ran a carve lines outcome))) (sym boot)
     (subst (λ o. MatchOption o (IsIdle lines outcome) (λ carve. IsNoRun a carve number lines outcome ⊎ IsRun Ran a carve lines outcome)) (sym there) run)
 
 pub race_ends : (a : Asking) (number : ℕ) (carve : PageRange) (m : Machine) (old new : Option (List ℕ)) (outcome : Outcome) → a.boot ≡ Some number → a.told.carve ≡ Some carve → IsBootOf (memory_of a.told.regions carve) (config_of a.told) m
-    → RunEnds m a.steps old new outcome → TellsRace (Ok a) old new outcome
+    → RunEnds m a old new outcome → TellsRace (Ok a) old new outcome
 race_ends a number carve m old new outcome boot there booted ends = (
   lines_of_run m a.steps ends.1,
   race_of HasOneHistory a number carve _ outcome boot there (inr record { machine = m; booted = booted; replies = ends.1; count = ends.2; ran = ends.3; lines_are = refl; outcome_is = ends.0 }),
@@ -112,7 +112,7 @@ race_ends a number carve m old new outcome boot there booted ends = (
 )
 
 pub race_begins : (a : Asking) (number : ℕ) (carve : PageRange) (m : Machine) (old new : Option (List ℕ)) → a.boot ≡ Some number → a.told.carve ≡ Some carve → IsBootOf (memory_of a.told.regions carve) (config_of a.told) m
-    → RunBegins m a.steps old new → TellsBegun (Ok a) old new
+    → RunBegins m a old new → TellsBegun (Ok a) old new
 race_begins a number carve m old new boot there booted (inl front) = inr (
   report.Response (boot_told m) ∷ [],
   inr record { number = number; carve = carve; boot = boot; carve_is = there; machine = m; booted = booted; lines_are = refl },
@@ -151,7 +151,7 @@ pub fault_begins : (r : Read) (line : ℕ) (fault : Fault) (old new : Option (Li
 fault_begins r line fault old new is front = subst (λ (x : Read). TellsBegun (asked_in x) old new) (sym is) (inr (report.Fault line fault ∷ [], refl, front))
 
 -- no boot
-idle_of : (Ran : Machine → List Asked → List Reply → Type 0) (a : Asking) (lines : List ReportLine) (outcome : Outcome) → (a.boot ≡ None) ⊎ (a.told.carve ≡ None) → IsIdle lines outcome → IsRaceOf Ran a lines outcome
+idle_of : (Ran : Machine → Asking → List Reply → Type 0) (a : Asking) (lines : List ReportLine) (outcome : Outcome) → (a.boot ≡ None) ⊎ (a.told.carve ≡ None) → IsIdle lines outcome → IsRaceOf Ran a lines outcome
 idle_of Ran a lines outcome (inl none) idle = rw none idle
 idle_of Ran a lines outcome (inr none) idle = by_boot a.boot
   where

@@ -1,11 +1,12 @@
--- A booted machine beside the model's boot state (profile).
+-- A booted world beside the model's boot state (profile).
 use Rattle.std.specs.Prelude.{◌≡◌, ⊤, Result, MatchResult}
 use Rattle.page_state.specs.declared.layout.Config.{Config}
 use Rattle.page_state.specs.LayoutView.{layout_of}
 use Rattle.page_state.specs.Regions.{Memory}
 use Rattle.ghost_spec.specs.declared.state.Ghost.{Ghost}
 use Rattle.ghost_spec.specs.States.{ghost_state}
-use Rattle.part_table.specs.Passes.{AreFirst}
+use Rattle.hypercalls.specs.Booted.{IsBooted}
+use Rattle.hypercalls.specs.Stands.{parts_layout}
 use Rattle.trace_lines.specs.declared.line.TreeName.TheVariants.{Host, Hyp}
 use Rattle.trace_lines.specs.declared.response.Response.{Response}
 use Rattle.trace_lines.specs.declared.response.Response.TheVariants as responses
@@ -23,17 +24,17 @@ machine_in g = record { layout = layout_of g.layout; state = ghost_state g }
 abbrev pub boot_told : Machine → Response
 boot_told m = responses.Boot (tables_told m Host) (tables_told m Hyp) (free_told m)
 
--- why there is no machine: the layout's fault or the boot's, or memory was refused beside it
+-- why there is no world: the layout's fault or the boot's, or memory was refused beside it
 abbrev pub StopsBoot : Memory → Config → Stop → Type 0
 StopsBoot memory config (stops.Fault fault) = IsNoWorld (stops.Fault fault) memory config
 StopsBoot memory config stops.NoMemory = ⊤
 
--- all of this memory and configuration: the model's machine that boots on them, its boot line, and a machine of its layout with no pass handed out
+-- all of this memory and configuration: the model's machine that boots on them, its boot line, and a world of its layout that has booted on them
 pub record IsBootedOf (memory : Memory) (config : Config) (b : Booted) : Type 0 where
   pub booted : IsBootOf memory config (machine_in b.state)
   pub line : b.line ≡ boot_told (machine_in b.state)
-  pub layout : layout_of b.machine.table.layout ≡ layout_of b.state.layout
-  pub first : AreFirst b.machine.table config.cpus b.machine.passes
+  pub layout : parts_layout b.world.parts ≡ layout_of b.state.layout
+  pub world : IsBooted memory config b.world.parts
 
 -- what booting on them comes to
 abbrev pub BootsTo : Memory → Config → Result Booted Stop → Type 0

@@ -16,7 +16,7 @@ use Rattle.trace_text.specs.declared.session.Stop.TheVariants as stops
 use Rattle.trace_race.specs.declared.course.Asked.{Asked}
 use Rattle.trace_race.specs.declared.course.Course.{Course}
 
--- what the lines so far ask for: the settings, the number of the boot's line, the steps in order, and how many of them stand before `start`
+-- what the lines so far ask for: the settings, the number of the boot's line, the steps in order, and how many of them come before `start`
 pub record Asking : Type 0 where
   pub told : Told
   pub boot : Option ℕ
@@ -26,13 +26,13 @@ pub record Asking : Type 0 where
 abbrev pub course_in : Course → Asking
 course_in c = record { told = told_of c.settings; boot = c.boot; steps = c.steps.items; start = c.start }
 
--- each step is of a CPU that there is, there is none before the boot, and `start` stands behind some of them
+-- each step is of a CPU that there is, there is none before the boot, and `start` comes after some of them
 pub record IsSound (a : Asking) : Type 0 where
   pub below : All (λ s. s.cpu < (config_of a.told).cpus) a.steps
   pub before : a.boot ≡ None → a.steps ≡ []
   pub start : IfSome a.start (λ count. count ≤ length a.steps)
 
--- how many of the steps stand before `start`: all, where there is no such line
+-- how many of the steps come before `start`: all, if there is no such line
 abbrev pub in_order_of : Asking → ℕ
 in_order_of a = unwrap_or a.start (length a.steps)
 
@@ -47,12 +47,12 @@ allowed_by (Some number) start = of_race (is_some start)
 abbrev pub allowed : Asking → Allows
 allowed a = allowed_by a.boot a.start
 
--- a step of a CPU, which is one of those that were told
+-- a step of a CPU, which is one of those that were given
 abbrev pub step_of : ℕ → ℕ → Step → Asking → Result Asking Fault
 step_of number cpu step a =
     if nat_lt cpu (config_of a.told).cpus then Ok (record a { steps = a.steps ++ record { line = number; cpu = cpu; step = step } ∷ [] }) else Err faults.Cpu
 
--- what is asked for with one line more
+-- the requests with one line more
 abbrev pub said_of : ℕ → Line → Asking → Result Asking Fault
 said_of number (lines.Setting setting) a = Ok (record a { told = told_after setting a.told })
 said_of number lines.Boot a = Ok (record a { boot = Some number })

@@ -6,10 +6,10 @@ use Rattle.call_table.specs.declared.reply.Refusal.TheVariants.{NoMemory}
 use Rattle.call_table.specs.declared.reply.Reply.{Reply}
 use Rattle.call_table.specs.declared.reply.Reply.TheVariants.{Refused}
 use Rattle.call_table.specs.declared.step.Step.{Step}
-use Rattle.reference_model.specs.History.{IsStored}
-use Rattle.reference_model.specs.Run.{IsRun}
-use Rattle.reference_model.specs.State.{Contents, Reference}
-use Rattle.reference_model.specs.Step.{foretell}
+use Rattle.reference_model.specs.model.History.{IsStored}
+use Rattle.reference_model.specs.model.Run.{IsRun}
+use Rattle.reference_model.specs.model.State.{Contents, Reference}
+use Rattle.reference_model.specs.model.Step.{foretell}
 use Rattle.ghost_judge.specs.declared.disagreement.Disagreement.{Disagreement}
 use Rattle.ghost_judge.specs.declared.disagreement.Disagreement.TheVariants.{Reply as ReplyDiffers}
 use Rattle.ghost_judge.specs.Judgements.{IsFirstJudged, JudgeAgrees}
@@ -21,7 +21,7 @@ pub record HasGenerationsTo (n : ℕ) (s : Contents) : Type 0 where
   pub slots : (v : ℕ) → (s.vms.slot v).generation ≤ n
   pub tickets : (c : ℕ) → IfSome (s.cpu c).ticket (λ t. t.vm.generation ≤ n)
 
--- a reply that isn't the model's is told with the model's
+-- a reply that isn't the model's is reported with the model's
 pub record IsApart (said spec : Reply) (found : Option Disagreement) : Type 0 where
   pub same : said ≡ spec → found ≡ None
   pub differ : said ≢ spec → found ≡ Some (ReplyDiffers said spec)
@@ -36,7 +36,7 @@ pub record Judges (l : Layout) (g : Reference) (cpu : ℕ) (step : Step) (said :
   pub wants : said ≡ Refused NoMemory → (h ≡ g) × IsJudgedWant l g cpu step said found
   pub other : said ≢ Refused NoMemory → (h ≡ (foretell l g cpu step).1) × IsApart said (foretell l g cpu step).0 found
 
--- what is found at one call, in front of what is found behind it
+-- the finding at one call, in front of those behind it
 abbrev pub with_found : Option Disagreement → List Disagreement → List Disagreement
 with_found None more = more
 with_found (Some d) more = d ∷ more
@@ -47,7 +47,7 @@ JudgesAll l g [] found = found ≡ []
 JudgesAll l g (call ∷ more) found =
     (one : Option Disagreement) × (h : Reference) × (rest : List Disagreement) × Judges l g call.0 call.1 call.2 one h × JudgesAll l h more rest × (found ≡ with_found one rest)
 
--- what is told of calls: CPU, step and reply of each
+-- the report of calls: CPU, step and reply of each
 abbrev pub told_of : List Call → List (ℕ × Step × Reply)
 told_of calls = map (λ c. (c.cpu, c.step, c.reply)) calls
 

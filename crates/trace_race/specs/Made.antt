@@ -1,24 +1,34 @@
 -- The steps that a trace asks of CPUs, and what their passes know once these are answered (profile).
-use Rattle.std.specs.Prelude.{◌≡◌, ◌≢◌, ◌⊎◌, ℕ, ◌<◌, ◌==◌, Bool, true, false, List, [], ◌∷◌, ◌++◌, All, Contains, filter, length, map, Some, slice_get, if◌then◌else◌}
+use Rattle.std.specs.Prelude.{◌≡◌, ◌≢◌, ◌⊎◌, ℕ, ◌<◌, ◌==◌, Bool, true, false, List, [], ◌∷◌, ◌++◌, All, Contains, drop, filter, length, map, Some, slice_get, slice_index_or, take, if◌then◌else◌}
+use Rattle.page_state.specs.declared.layout.Config.{Config}
 use Rattle.page_state.specs.declared.layout.Layout.{Layout as TheLayout}
 use Rattle.page_state.specs.Layouts.{Layout}
 use Rattle.page_state.specs.LayoutView.{layout_of}
+use Rattle.page_state.specs.Regions.{Memory}
 use Rattle.call_table.specs.declared.reply.Call.{Call}
 use Rattle.call_table.specs.declared.reply.Refusal.TheVariants.{Contended, LogFull}
 use Rattle.call_table.specs.declared.reply.Reply.{Reply}
 use Rattle.call_table.specs.declared.reply.Reply.TheVariants.{Refused}
 use Rattle.call_table.specs.declared.step.Step.{Step}
-use Rattle.reference_model.specs.History.{IsStored, calls_by, calls_on}
-use Rattle.reference_model.specs.Run.{IsRun}
-use Rattle.reference_model.specs.State.{Reference}
-use Rattle.part_table.specs.Passes.{IsPassOf, Opened, Pass}
+use Rattle.reference_model.specs.model.Boot.{CanBoot}
+use Rattle.reference_model.specs.model.History.{IsStored, calls_by, calls_on}
+use Rattle.reference_model.specs.model.Run.{IsRun, Runs}
+use Rattle.reference_model.specs.model.State.{Reference}
+use Rattle.reference_model.specs.model.Step.{Steps}
+use Rattle.part_types.specs.declared.parts.CpuState.{CpuState}
+use Rattle.hypercalls.specs.declared.parts.Parts.{Parts}
+use Rattle.hypercalls.specs.Booted.{IsBooted}
+use Rattle.world.specs.Laws.{Goes}
+use Rattle.part_table.specs.Passes.{IsPassOf, Opened, Pass, first_known, first_pass}
 use Rattle.part_table.specs.Answered.{used_by}
-use Rattle.part_table.specs.Known.{IsSame, Known, own_at_boot}
-use Rattle.part_table.specs.Parts.{part_of}
+use Rattle.part_table.specs.Known.{IsSame, Known}
+use Rattle.part_table.specs.Parts.{IsOwn, part_of, parts}
+use Rattle.part_table.specs.Beginnings.{own_in}
 use Rattle.cpu_threads.specs.Machines.{FullInTheEnd, StoresInTheEnd}
 use Rattle.trace_race.specs.declared.course.Asked.{Asked}
 use Rattle.trace_race.specs.declared.making.Made.{Made}
 use Rattle.trace_race.specs.declared.workers.Done.{Done}
+use Rattle.trace_race.specs.Judged.{told_of}
 
 -- the steps that are asked of a CPU, in the trace's order
 abbrev pub steps_of : ℕ → List Asked → List Step
@@ -61,69 +71,98 @@ pub record CallsIn (l : Layout) (log : List Call) (step : Step) (reply : Reply) 
   pub stored : IsStored reply → StoresInTheEnd step reply v w
   pub full : reply ≡ Refused LogFull → IsSame v w × FindsFull l log step v
 
--- what a CPU's pass knows before its first call
-abbrev pub first_known : TheLayout → ℕ → Known
-first_known l cpu = record { layout = l; cpu = cpu; own = own_at_boot l cpu; seen = []; tries = [] }
-
 -- the reply of a call that is stored
 abbrev pub is_stored : Reply → Bool
 is_stored (Refused LogFull) = false
 is_stored (Refused Contended) = false
 is_stored other = true
 
--- A CPU's calls in a history are its steps in the trace's order, with the replies that it was given, but for those that a full log refused. For each of these a log that would store it is full in the history: `makes`
-pub record IsCpus (key : TheLayout) (cpu : ℕ) (answers : List (Step × Reply)) (log : List Call) : Type 0 where
-  pub calls : map (λ c. (c.step, c.reply)) (calls_by cpu log) ≡ filter (λ a. is_stored a.1) answers
-  pub last : Known
-  pub makes : MakeAll (CallsIn (layout_of key) log) (first_known key cpu) answers last
-  pub own : calls_by cpu log ≡ last.own.log.calls
+-- the calls of a list that are stored
+abbrev pub stored_in : List Call → List Call
+stored_in calls = filter (λ c. is_stored c.reply) calls
 
--- There is one legal history of the steps with their replies: a run of the model from the boot state on, in which each CPU's calls are the CPU's own steps
-pub record OneHistory (layout : Layout) (steps : List Asked) (replies : List Reply) : Type 0 where
+-- steps with their replies, in the trace's order: CPU, step and reply of each
+abbrev pub asked_with : List Asked → List Reply → List (ℕ × Step × Reply)
+asked_with [] replies = []
+asked_with (a ∷ more) [] = []
+asked_with (a ∷ more) (reply ∷ replies) = (a.cpu, a.step, reply) ∷ asked_with more replies
+
+-- what a CPU's pass knows before its first call, where it begins with this state of its own
+abbrev pub known_with : TheLayout → ℕ → CpuState → Known
+known_with key cpu own = record { layout = key; cpu = cpu; own = own; seen = []; tries = [] }
+
+-- A CPU's calls behind others in a history are its steps in the trace's order, with the replies that it was given, but for those that a full log refused. For each of these a log that would store it is full in the history: `makes`. It begins with its own state after those others, `first`
+pub record IsCpus (key : TheLayout) (cpu : ℕ) (answers : List (Step × Reply)) (at : Reference) (before log : List Call) : Type 0 where
+  pub calls : map (λ c. (c.step, c.reply)) (calls_by cpu log) ≡ filter (λ a. is_stored a.1) answers
+  pub first : CpuState
+  pub first_is : IsOwn (layout_of key) at cpu first
+  pub first_calls : first.log.calls ≡ calls_by cpu before
+  pub last : Known
+  pub makes : MakeAll (CallsIn (layout_of key) (before ++ log)) (known_with key cpu first) answers last
+  pub own : calls_by cpu (before ++ log) ≡ last.own.log.calls
+
+-- There is one legal history of the steps with their replies. It begins with a run of the steps before `start`, of which there are so many, in the trace's order, each with its reply. From the state that they lead to, it goes on by calls that are stored, in which each CPU's calls are the CPU's own steps behind `start`
+pub record OneHistory (layout : Layout) (start : ℕ) (steps : List Asked) (replies : List Reply) : Type 0 where
   pub key : TheLayout
   pub key_is : layout_of key ≡ layout
+  pub first : List Call
+  pub asked : told_of first ≡ asked_with (take start steps) (take start replies)
+  pub at : Reference
+  pub begins : IsRun layout first at
   pub log : List Call
   pub end : Reference
-  pub run : IsRun layout log end
+  pub goes : Runs (Steps layout) at log end
+  pub run : IsRun layout (stored_in first ++ log) end
   pub stored : All (λ c. IsStored c.reply) log
-  pub each : (cpu : ℕ) → cpu < layout.config.cpus → IsCpus key cpu (answers_of cpu steps replies) log
+  pub each : (cpu : ℕ) → cpu < layout.config.cpus → IsCpus key cpu (answers_of cpu (drop start steps) (drop start replies)) at (stored_in first) log
 
--- whatever answers the steps that are left, the calls so far and those are the CPU's from the first on
-abbrev pub Leads : TheLayout → List Asked → List Reply → List Asked → ℕ → Known → Type 0
-Leads l steps replies left cpu v = (last : Known) (more : List Reply) → Makes v (answers_of cpu left more) last → Makes (first_known l cpu) (answers_of cpu steps (replies ++ more)) last
+-- parts have booted, of some memory and configuration
+abbrev pub HaveBooted : {A : Type 0} → Parts A → Type 0
+HaveBooted p = (m : Memory) × (c : Config) × IsBooted m c p
 
--- the pass of a CPU which has made its steps up to those that are left
-pub record HasMade (t : Opened) (steps : List Asked) (replies : List Reply) (left : List Asked) (cpu : ℕ) (p : Pass) : Type 0 where
-  pub of : IsPassOf t p
-  pub cpu_is : p.knows.cpu ≡ cpu
-  pub leads : Leads t.layout steps replies left cpu p.knows
+-- steps were made on parts, one after another, each with its reply
+pub record HasRun {A : Type 0} (p : Parts A) (steps : List Asked) (replies : List Reply) (q : Parts A) : Type 0 where
+  pub count : length replies ≡ length steps
+  pub calls : List Call
+  pub asked : told_of calls ≡ asked_with steps replies
+  pub goes : Runs Goes p calls q
 
--- so it is with the pass of each CPU, at its place
-pub record HaveMade (t : Opened) (steps : List Asked) (replies : List Reply) (left : List Asked) (passes : List Pass) : Type 0 where
-  pub count : length passes ≡ t.layout.config.cpus
-  pub each : (cpu : ℕ) (p : Pass) → slice_get passes cpu ≡ Some p → HasMade t steps replies left cpu p
+-- a table begins where steps lead that were made one after another from a boot on: these are a run, and those of them that are stored are in the logs with which the table begins
+pub record HasBegun (t : Opened) (steps : List Asked) (replies : List Reply) : Type 0 where
+  pub ready : CanBoot (layout_of t.layout)
+  pub replied : length replies ≡ length steps
+  pub calls : List Call
+  pub asked : told_of calls ≡ asked_with steps replies
+  pub at : Reference
+  pub run : IsRun (layout_of t.layout) calls at
+  pub stored_run : IsRun (layout_of t.layout) (stored_in calls) at
+  pub logs : (k : ℕ) → k < parts → calls_on (part_of k) (stored_in calls) ≡ slice_index_or t.begun.logs k []
+  pub count : length t.begun.owns ≡ t.layout.config.cpus
+  pub owns : (cpu : ℕ) → cpu < t.layout.config.cpus → (calls_by cpu (stored_in calls) ≡ (own_in t.begun cpu).log.calls) × IsOwn (layout_of t.layout) at cpu (own_in t.begun cpu)
 
--- a step was made by the pass at a place, and the others are as they were
-pub record HasCalled (t : Opened) (cpu : ℕ) (step : Step) (reply : Reply) (before after : List Pass) : Type 0 where
-  pub count : length after ≡ length before
-  pub others : (j : ℕ) → j ≢ cpu → slice_get after j ≡ slice_get before j
-  pub old : Pass
-  pub new : Pass
-  pub was : slice_get before cpu ≡ Some old
-  pub is : slice_get after cpu ≡ Some new
-  pub of : IsPassOf t new
-  pub cpu_is : new.knows.cpu ≡ old.knows.cpu
-  pub calls : Calls step reply old.knows new.knows
+-- the passes of the first n CPUs, each at its place, before its first call
+pub record AreFirstPasses (t : Opened) (n : ℕ) (passes : List Pass) : Type 0 where
+  pub count : length passes ≡ n
+  pub each : (cpu : ℕ) (p : Pass) → slice_get passes cpu ≡ Some p → p ≡ first_pass t cpu
 
 -- the pass of a CPU that has made all its steps
 pub record IsDone (t : Opened) (steps : List Asked) (replies : List Reply) (cpu : ℕ) (p : Pass) : Type 0 where
   pub of : IsPassOf t p
   pub cpu_is : p.knows.cpu ≡ cpu
-  pub makes : Makes (first_known t.layout cpu) (answers_of cpu steps replies) p.knows
+  pub makes : Makes (first_known t cpu) (answers_of cpu steps replies) p.knows
 
 pub record AreDone (t : Opened) (steps : List Asked) (replies : List Reply) (passes : List Pass) : Type 0 where
   pub count : length passes ≡ t.layout.config.cpus
   pub each : (cpu : ℕ) (p : Pass) → slice_get passes cpu ≡ Some p → IsDone t steps replies cpu p
+
+-- all these steps were made, and their replies are put behind others
+abbrev pub AddsDone : Opened → List Asked → List Reply → List Reply → List Pass → Type 0
+AddsDone t steps old new passes = (more : List Reply) × (new ≡ old ++ more) × (length more ≡ length steps) × AreDone t steps more passes
+
+-- all steps were made: so many before the table was opened, and those behind them by the passes
+pub record AreMade (t : Opened) (start : ℕ) (steps : List Asked) (replies : List Reply) (passes : List Pass) : Type 0 where
+  pub begun : HasBegun t (take start steps) (take start replies)
+  pub done : AreDone t (drop start steps) (drop start replies) passes
 
 -- what a worker comes to: its pass has made its own steps, each of which has a reply
 pub record IsDoneOf (t : Opened) (steps : List Asked) (before : Pass) (done : Done) : Type 0 where
@@ -142,6 +181,6 @@ pub record IsGathered (steps : List Asked) (done : List Done) (replies : List Re
   pub each : (cpu : ℕ) (d : Done) → slice_get done cpu ≡ Some d → answers_of cpu steps replies ≡ paired (steps_of cpu steps) d.replies.items
 
 -- all steps were made, each with a reply
-pub record IsMadeOf (steps : List Asked) (made : Made) : Type 0 where
-  pub count : length made.replies.items ≡ length steps
-  pub done : AreDone made.machine.table steps made.replies.items made.passes.items
+pub record IsMadeOf (start : ℕ) (steps : List Asked) (m : Made) : Type 0 where
+  pub count : length m.replies.items ≡ length steps
+  pub made : AreMade m.machine.table start steps m.replies.items m.passes.items

@@ -22,7 +22,7 @@ use Rattle.trace_text.specs.Texts.{text_of_report}
 use Rattle.trace_text.specs.Worlds.{IsBootOf, Machine}
 use Rattle.trace_race.specs.Booted.{boot_told}
 use Rattle.trace_race.specs.declared.course.Asked.{Asked}
-use Rattle.trace_race.specs.Courses.{Asking, course_of, nothing_asked}
+use Rattle.trace_race.specs.Courses.{Asking, course_of, in_order_of, nothing_asked}
 use Rattle.trace_race.specs.Made.{OneHistory}
 
 -- the line of each step, by its number and CPU, in the trace's order
@@ -58,19 +58,19 @@ pub record IsNoRun (a : Asking) (carve : PageRange) (number : ℕ) (lines : List
 abbrev pub IsIdle : List ReportLine → Outcome → Type 0
 IsIdle lines outcome = (lines ≡ report.End 0 0 ∷ []) × (outcome ≡ outcomes.Clean)
 
--- what is wanted of the machine, the steps and their replies
-module _ (Ran : Machine → List Asked → List Reply → Type 0) where
+-- what is wanted of the machine, of what a trace asks for and of the replies
+module _ (Ran : Machine → Asking → List Reply → Type 0) where
   -- a machine was booted, and the steps were made: each has a reply
   pub record IsRun (a : Asking) (carve : PageRange) (lines : List ReportLine) (outcome : Outcome) : Type 0 where
     pub machine : Machine
     pub booted : IsBootOf (memory_of a.told.regions carve) (config_of a.told) machine
     pub replies : List Reply
     pub count : length replies ≡ length a.steps
-    pub ran : Ran machine a.steps replies
+    pub ran : Ran machine a replies
     pub lines_are : lines ≡ lines_of_run machine a.steps replies
     pub outcome_is : outcome ≡ outcomes.Clean
 
-  -- the report of what a whole trace asks for; a boot stands behind a carve-out
+  -- the report of what a whole trace asks for; a boot comes after a carve-out
   abbrev pub IsRaceOf : Asking → List ReportLine → Outcome → Type 0
   IsRaceOf a lines outcome =
       MatchOption a.boot (IsIdle lines outcome)
@@ -84,9 +84,9 @@ module _ (Ran : Machine → List Asked → List Reply → Type 0) where
   abbrev pub IsRaceReport : List (List ℕ) → List ReportLine → Outcome → Type 0
   IsRaceReport trace lines outcome = IsRead (course_of 1 nothing_asked trace) lines outcome
 
--- There is one legal history of the steps that the trace asks for, each with the reply that its line says
-abbrev pub HasOneHistory : Machine → List Asked → List Reply → Type 0
-HasOneHistory m steps replies = OneHistory m.layout steps replies
+-- There is one legal history of the steps that the trace asks for, each with the reply that its line says: those before `start` come first
+abbrev pub HasOneHistory : Machine → Asking → List Reply → Type 0
+HasOneHistory m a replies = OneHistory m.layout (in_order_of a) a.steps replies
 
 -- the boot line alone, of the machine that the trace boots
 pub record IsBootLine (a : Asking) (lines : List ReportLine) : Type 0 where

@@ -22,7 +22,7 @@ use Rattle.trace_race.specs.Courses.{Asking}
 use Rattle.trace_race.specs.Made.{OneHistory}
 use Rattle.trace_race.specs.Raced.{HasOneHistory, IsBegunOf, IsRead, lines_behind, lines_of_run}
 
--- a machine was booted with the configuration that was asked for
+-- a world was booted with the configuration that was asked for
 abbrev pub IsBootedRun : Asking → Booted → Type 0
 IsBootedRun a b = (memory : Memory) × IsBootedOf memory (config_of a.told) b
 
@@ -31,19 +31,19 @@ abbrev pub EndsWith : Outcome → List ReportLine → Option (List ℕ) → Opti
 EndsWith is lines old new outcome = (outcome ≡ is) × Appends old new (text_of_report lines)
 
 -- behind the boot line the whole report of steps that were made, in one legal history
-abbrev pub StepsEnd : Layout → List Asked → List Reply → Option (List ℕ) → Option (List ℕ) → Outcome → Type 0
-StepsEnd l steps replies old new outcome = (outcome ≡ outcomes.Clean) × OneHistory l steps replies × Appends old new (text_of_report (lines_behind steps replies))
+abbrev pub StepsEnd : Layout → ℕ → List Asked → List Reply → Option (List ℕ) → Option (List ℕ) → Outcome → Type 0
+StepsEnd l start steps replies old new outcome = (outcome ≡ outcomes.Clean) × OneHistory l start steps replies × Appends old new (text_of_report (lines_behind steps replies))
 
 -- the whole report of a machine that was booted
-abbrev pub RunEnds : Machine → List Asked → Option (List ℕ) → Option (List ℕ) → Outcome → Type 0
-RunEnds m steps old new outcome =
-    (outcome ≡ outcomes.Clean) × (replies : List Reply) × (length replies ≡ length steps) × OneHistory m.layout steps replies × Appends old new (text_of_report (lines_of_run m steps replies))
+abbrev pub RunEnds : Machine → Asking → Option (List ℕ) → Option (List ℕ) → Outcome → Type 0
+RunEnds m a old new outcome =
+    (outcome ≡ outcomes.Clean) × (replies : List Reply) × (length replies ≡ length a.steps) × HasOneHistory m a replies × Appends old new (text_of_report (lines_of_run m a.steps replies))
 
 -- and a front of it, or of the boot line alone
-abbrev pub RunBegins : Machine → List Asked → Option (List ℕ) → Option (List ℕ) → Type 0
-RunBegins m steps old new =
+abbrev pub RunBegins : Machine → Asking → Option (List ℕ) → Option (List ℕ) → Type 0
+RunBegins m a old new =
     WritesFront (report.Response (boot_told m) ∷ []) old new
-    ⊎ ((replies : List Reply) × (length replies ≡ length steps) × OneHistory m.layout steps replies × WritesFront (lines_of_run m steps replies) old new)
+    ⊎ ((replies : List Reply) × (length replies ≡ length a.steps) × HasOneHistory m a replies × WritesFront (lines_of_run m a.steps replies) old new)
 
 -- the whole report of what reading a trace came to
 abbrev pub TellsRace : Result Asking (ℕ × Fault) → Option (List ℕ) → Option (List ℕ) → Outcome → Type 0

@@ -1,9 +1,8 @@
-//! Booting the machine of a trace.
+//! Booting the world of a trace.
 ghost use Rattle.page_state.specs.Regions.{memory_of};
 ghost use Rattle.trace_lines.specs.Settings.{config_of, told_of};
 ghost use Rattle.trace_race.specs.Booted.{BootsTo};
 
-use cpu_threads::Machine;
 use ghost_spec::state::Ghost;
 use page_state::PageRange;
 use std::alloc::Global;
@@ -11,16 +10,16 @@ use trace_lines::{Response, Settings};
 use trace_text::{Fault, Stop, boot_line, told_memory};
 use world::World;
 
-/// The booted machine, its boot line, and its boot state on lists.
+/// The booted world, its boot line, and its boot state on lists.
 #[derive(Drop)]
 pub(crate) struct Booted {
-    pub machine: Machine<Global>,
+    pub world: World<Global>,
     pub line: Response,
     pub state: Ghost,
 }
 
-/// Boots the machine of what was told. A world of the same memory tells the boot line and the boot state.
-pub(crate) fn boot_machine(
+/// Boots the world of what was told.
+pub(crate) fn boot_world(
     global: Global,
     settings: &Settings,
     carve: PageRange,
@@ -31,8 +30,7 @@ pub(crate) fn boot_machine(
         Ok(map) => map,
         Err(stop) => return Err(stop),
     };
-    let config = settings.config();
-    let world = match World::boot(global, global, &map, config) {
+    let world = match World::boot(global, global, &map, settings.config()) {
         Ok(world) => world,
         Err(fault) => return Err(Stop::Fault(Fault::Boot(fault))),
     };
@@ -41,16 +39,5 @@ pub(crate) fn boot_machine(
         drop(world);
         return Err(Stop::NoMemory);
     };
-    drop(world);
-    match Machine::boot(global, global, &map, config) {
-        Ok(machine) => Ok(Booted {
-            machine,
-            line,
-            state,
-        }),
-        Err(fault) => {
-            drop(state);
-            Err(Stop::Fault(Fault::Boot(fault)))
-        }
-    }
+    Ok(Booted { world, line, state })
 }

@@ -24,7 +24,7 @@ pub struct Course {
     /// The number of the boot's line.
     pub boot: Option<u64>,
     pub steps: Vec<Asked>,
-    /// How many of the steps stand before `start`, where there is such a line.
+    /// How many of the steps come before `start`, if there is such a line.
     pub start: Option<usize>,
 }
 
@@ -41,7 +41,7 @@ impl Course {
         }
     }
 
-    /// What `race` allows where the trace stands.
+    /// What `race` allows at this point of the trace.
     fn allows(&self) -> Allows
         ensures { result ≡ allowed (course_in self.now) }
     {

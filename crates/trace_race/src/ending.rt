@@ -2,14 +2,14 @@
 //! world audited.
 ghost use Rattle.std.specs.Prelude.{◌≡◌, ◌≤◌, [], IfOk, OnOk, None, length};
 ghost use Rattle.page_state.specs.LayoutView.{layout_of};
-ghost use Rattle.reference_model.specs.Boot.{boot};
+ghost use Rattle.reference_model.specs.model.Boot.{boot};
 ghost use Rattle.ghost_oracle.specs.Counted.{HasRead, tables_of_parts};
 ghost use Rattle.ghost_spec.specs.States.{contents_in, ghost_state};
 ghost use Rattle.hypercalls.specs.Stands.{kept_of, parts_layout};
 ghost use Rattle.world.specs.Merges.{AreLogsOf};
 ghost use Rattle.table_tree.specs.Reading.{count_of};
 ghost use Rattle.trace_race.specs.Judged.{ComparesAll, HasGenerationsTo};
-ghost use Rattle.trace_race.specs.Made.{AreDone, OneHistory};
+ghost use Rattle.trace_race.specs.Made.{AreMade, OneHistory};
 
 use crate::course::Asked;
 use crate::judged::judge_all;
@@ -21,7 +21,7 @@ use std::alloc::{AllocError, Global};
 use table_tree::Reads;
 use world::{Histories, World};
 
-/// What comparing found: where replies aren't the model's, and where what is kept at the end isn't what a walk finds.
+/// The findings of comparing: where replies aren't the model's, and where the kept state at the end isn't what a walk finds.
 #[derive(Drop)]
 pub(crate) struct Compared {
     pub judged: Vec<Disagreement>,
@@ -33,12 +33,14 @@ pub(crate) fn dropped(
     machine: Machine<Global>,
     passes: Vec<CpuPass<Global>>,
     steps: &[Asked],
+    start: usize,
     replies: &[Reply],
 )
-    requires { AreDone machine.table steps.now replies.now passes.items }
-    ensures { OneHistory (layout_of machine.table.layout) steps.now replies.now }
+    requires { AreMade machine.table start steps.now replies.now passes.items }
+    ensures { OneHistory (layout_of machine.table.layout) start steps.now replies.now }
 {
     let _ = steps;
+    let _ = start;
     let _ = replies;
     machine.drop_with(passes);
 }
@@ -49,17 +51,18 @@ fn ended(
     machine: Machine<Global>,
     passes: Vec<CpuPass<Global>>,
     steps: &[Asked],
+    start: usize,
     replies: &[Reply],
 ) -> Result<(World<Global>, Histories), AllocError>
-    requires { AreDone machine.table steps.now replies.now passes.items }
+    requires { AreMade machine.table start steps.now replies.now passes.items }
     ensures layout { IfOk result (λ r. r.0.parts.layout ≡ machine.table.layout) }
     ensures logs { IfOk result (λ r. AreLogsOf r.1 (parts_layout r.0.parts) (kept_of r.0.parts)) }
-    ensures history { OneHistory (layout_of machine.table.layout) steps.now replies.now }
+    ensures history { OneHistory (layout_of machine.table.layout) start steps.now replies.now }
 {
     match machine.shutdown(global, passes) {
         Ok((world, logs)) => Ok((world, logs)),
         Err((machine, passes, _)) => {
-            dropped(machine, passes, steps, replies);
+            dropped(machine, passes, steps, start, replies);
             Err(AllocError)
         }
     }
@@ -107,16 +110,17 @@ pub(crate) fn compared_at_end(
     machine: Machine<Global>,
     passes: Vec<CpuPass<Global>>,
     steps: &[Asked],
+    start: usize,
     replies: &[Reply],
     state: Ghost,
 ) -> Result<Compared, AllocError>
-    requires done { AreDone machine.table steps.now replies.now passes.items }
+    requires done { AreMade machine.table start steps.now replies.now passes.items }
     requires layout { layout_of machine.table.layout ≡ layout_of state.layout }
     requires boot { ghost_state state ≡ boot (layout_of state.layout) }
     ensures agree { IfOk result (λ c. (c.judged.items ≡ []) × (c.audited ≡ None)) }
-    ensures history { OneHistory (layout_of state.layout) steps.now replies.now }
+    ensures history { OneHistory (layout_of state.layout) start steps.now replies.now }
 {
-    let Ok((world, logs)) = ended(global, machine, passes, steps, replies) else {
+    let Ok((world, logs)) = ended(global, machine, passes, steps, start, replies) else {
         drop(state);
         return Err(AllocError);
     };

@@ -8,7 +8,7 @@ pub fn full_logs()
     ensures after { FullAfter }
 {}
 
-/// A race of one CPU's steps is a run of the model, in the trace's order and with the replies that the report tells.
+/// A race of one CPU's steps is a run of the model, in the trace's order and with the replies of the report.
 pub fn one_cpu()
     ensures { OneCpuRuns }
 {}

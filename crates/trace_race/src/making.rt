@@ -1,17 +1,20 @@
-//! Making all steps of a trace on a booted machine.
-ghost use Rattle.std.specs.Prelude.{◌≡◌, ◌≢◌, ◌+◌, ◌<◌, ◌≤◌, ◌++◌, ℕ, [], List, Some, IfOk, IfSome, OnOk, drop, length, map, slice_get, slice_index};
+//! Making all steps of a trace: those before `start` on a booted world, those behind it on the machine of that world.
+ghost use Rattle.std.specs.Prelude.{◌≡◌, ◌≢◌, ◌+◌, ◌<◌, ◌≤◌, ◌++◌, ℕ, [], List, Some, IfOk, IfSome, OnOk, drop, length, map, slice_get, slice_index, take};
+ghost use Rattle.hypercalls.specs.Stands.{parts_layout};
+ghost use Rattle.page_state.specs.LayoutView.{layout_of};
 ghost use Rattle.part_table.specs.Passes.{AreFirst};
-ghost use Rattle.trace_race.specs.Made.{AreBelow, AreDone, HasCalled, HaveMade, IsGathered, IsMadeOf, steps_of};
+ghost use Rattle.trace_race.specs.Made.{AddsDone, AreBelow, AreFirstPasses, HasBegun, HasRun, HaveBooted, IsGathered, IsMadeOf, steps_of};
 ghost use Rattle.trace_race.specs.Workers.{AreOfTable, AreReady};
 ghost use Rattle.trace_race.specs.declared.workers.Done.{Done};
 
 use crate::course::Asked;
-use crate::workers::{Done, Worker, call, work_at_once};
-use call_table::{Reply, Step};
-use cpu_threads::{CpuPass, Gate, Machine, Open};
+use crate::workers::{Done, Worker, work_at_once};
+use call_table::Reply;
+use cpu_threads::{CpuPass, Gate, Machine};
 use std::alloc::{AllocError, Global};
 use std::sync::Wait;
 use std::thread::Threads;
+use world::World;
 
 /// A machine whose CPUs have made all steps: their passes, and the replies in the trace's order.
 #[derive(Drop)]
@@ -21,64 +24,63 @@ pub(crate) struct Made {
     pub replies: Vec<Reply>,
 }
 
+/// Makes steps on a world, in order.
+fn make_first(
+    world: &mut World<Global>,
+    steps: &[Asked],
+    replies: &mut Vec<Reply>,
+) -> Result<(), AllocError>
+    requires below { AreBelow world.old.parts.layout.config.cpus steps.now }
+    requires none { replies.old.items ≡ [] }
+    ensures { OnOk result (HasRun world.old.parts steps.now replies.new.items world.new.parts) }
+{
+    for i in 0..steps.len() {
+        let asked = steps[i];
+        let reply = world.step(asked.cpu, asked.step);
+        replies.push(reply)?;
+    }
+    Ok(())
+}
+
+/// The machine of a booted world that has made the first steps.
+fn begin(
+    global: Global,
+    world: World<Global>,
+    cpus: u64,
+    steps: &[Asked],
+    replies: &mut Vec<Reply>,
+) -> Result<Machine<Global>, AllocError>
+    requires booted { HaveBooted world.parts }
+    requires cpus { cpus ≡ world.parts.layout.config.cpus }
+    requires below { AreBelow cpus steps.now }
+    requires none { replies.old.items ≡ [] }
+    ensures layout { IfOk result (λ m. layout_of m.table.layout ≡ parts_layout world.parts) }
+    ensures begun { IfOk result (λ m. HasBegun m.table steps.now replies.new.items) }
+    ensures passes { IfOk result (λ m. AreFirst m.table cpus m.passes) }
+{
+    let mut world = world;
+    let _ = cpus;
+    make_first(&mut world, steps, replies)?;
+    Machine::open(global, global, world)
+}
+
 /// The passes of all CPUs.
 fn all_passes(
     global: Global,
     machine: &mut Machine<Global>,
     cpus: u64,
-    steps: &[Asked],
 ) -> Result<Vec<CpuPass<Global>>, AllocError>
     requires cpus { cpus ≡ machine.old.table.layout.config.cpus }
     requires first { AreFirst machine.old.table cpus machine.old.passes }
     ensures table { machine.new.table ≡ machine.old.table }
-    ensures made { IfOk result (λ ps. HaveMade machine.old.table steps.now [] steps.now ps.items) }
+    ensures first { IfOk result (λ ps. AreFirstPasses machine.old.table machine.old.table.layout.config.cpus ps.items) }
 {
-    let _ = steps;
     let mut passes = Vec::with_capacity(global, cpus as usize)?;
     for cpu in 0..cpus {
         let pass = machine.pass(cpu as usize).unwrap();
         passes.push(pass)?;
     }
     Ok(passes)
-}
-
-/// Makes a step by a CPU's pass.
-fn call_by<R: Wait>(
-    rt: &R,
-    machine: &Machine<Global>,
-    passes: &mut Vec<CpuPass<Global>>,
-    cpu: usize,
-    step: Step,
-) -> Reply
-    requires inside { cpu < length passes.old.items }
-    requires of { AreOfTable machine.now.table passes.old.items }
-    ensures { HasCalled machine.now.table cpu step result passes.old.items passes.new.items }
-{
-    call(rt, machine, &Open, &mut passes[cpu], step)
-}
-
-/// Makes the first steps in order, each by its CPU's pass.
-fn make_first<R: Wait>(
-    rt: &R,
-    machine: &Machine<Global>,
-    passes: &mut Vec<CpuPass<Global>>,
-    steps: &[Asked],
-    first: usize,
-    replies: &mut Vec<Reply>,
-) -> Result<(), AllocError>
-    requires made { HaveMade machine.now.table steps.now [] steps.now passes.old.items }
-    requires below { AreBelow machine.now.table.layout.config.cpus steps.now }
-    requires first { first ≤ length steps.now }
-    requires none { replies.old.items ≡ [] }
-    ensures made { OnOk result (HaveMade machine.now.table steps.now replies.new.items (drop first steps.now) passes.new.items) }
-    ensures count { OnOk result (length replies.new.items ≡ first) }
-{
-    for i in 0..first {
-        let asked = steps[i];
-        let reply = call_by(rt, machine, passes, asked.cpu as usize, asked.step);
-        replies.push(reply)?;
-    }
-    Ok(())
 }
 
 /// A worker for each CPU.
@@ -155,8 +157,8 @@ fn passes_of(done: Vec<Done>, passes: &mut Vec<CpuPass<Global>>) -> Result<(), A
     Ok(())
 }
 
-/// Makes the first steps in order, and those behind them at once: the passes of all CPUs then. None where a thread could not
-/// be started. All lists are taken before the first thread starts.
+/// Makes steps at once, with a pass of each CPU that has made no call: the passes then. None where a thread could not be
+/// started. All lists are taken before the first thread starts.
 fn make_on<R: Threads + Wait + Sync, G: Gate + Sync>(
     rt: &R,
     global: Global,
@@ -164,67 +166,51 @@ fn make_on<R: Threads + Wait + Sync, G: Gate + Sync>(
     gate: &G,
     passes: Vec<CpuPass<Global>>,
     steps: &[Asked],
-    first: usize,
     replies: &mut Vec<Reply>,
 ) -> Result<Option<Vec<CpuPass<Global>>>, AllocError>
-    requires made { HaveMade machine.now.table steps.now [] steps.now passes.items }
+    requires first { AreFirstPasses machine.now.table machine.now.table.layout.config.cpus passes.items }
     requires below { AreBelow machine.now.table.layout.config.cpus steps.now }
-    requires first { first ≤ length steps.now }
-    requires none { replies.old.items ≡ [] }
-    ensures done { IfOk result (λ o. IfSome o (λ ps. AreDone machine.now.table steps.now replies.new.items ps.items)) }
-    ensures count { IfOk result (λ o. IfSome o (λ ps. length replies.new.items ≡ length steps.now)) }
+    ensures { IfOk result (λ o. IfSome o (λ ps. AddsDone machine.now.table steps.now replies.old.items replies.new.items ps.items)) }
 {
-    let mut passes = passes;
     let count = passes.len();
-    make_first(rt, machine, &mut passes, steps, first, replies)?;
-    let (_, raced) = steps.split_at(first);
     let mut ended = Vec::with_capacity(global, count)?;
     let mut cursors = starts(global, count)?;
-    let workers = all_workers(global, machine, passes, raced)?;
-    let Some(done) = work_at_once(rt, global, machine, gate, raced, workers)? else {
+    let workers = all_workers(global, machine, passes, steps)?;
+    let Some(done) = work_at_once(rt, global, machine, gate, steps, workers)? else {
         return Ok(None);
     };
-    gather(raced, done.as_slice(), &mut cursors, replies)?;
+    gather(steps, done.as_slice(), &mut cursors, replies)?;
     passes_of(done, &mut ended)?;
     Ok(Some(ended))
 }
 
-/// Makes all steps of a booted machine with `cpus` CPUs: the first in order, those behind them at once. None where a thread
+/// Makes all steps on a booted world with `cpus` CPUs: the first in order, those behind them at once. None where a thread
 /// could not be started.
 pub(crate) fn make<R: Threads + Wait + Sync, G: Gate + Sync>(
     rt: &R,
     global: Global,
-    machine: Machine<Global>,
+    world: World<Global>,
     gate: &G,
     cpus: u64,
     steps: &[Asked],
     first: usize,
 ) -> Result<Option<Made>, AllocError>
-    requires cpus { cpus ≡ machine.table.layout.config.cpus }
-    requires passes { AreFirst machine.table cpus machine.passes }
+    requires booted { HaveBooted world.parts }
+    requires cpus { cpus ≡ world.parts.layout.config.cpus }
     requires below { AreBelow cpus steps.now }
     requires first { first ≤ length steps.now }
-    ensures { IfOk result (λ o. IfSome o (λ m. (m.machine.table ≡ machine.table) × IsMadeOf steps.now m)) }
+    ensures { IfOk result (λ o. IfSome o (λ m. (layout_of m.machine.table.layout ≡ parts_layout world.parts) × IsMadeOf first steps.now m)) }
 {
-    let mut machine = machine;
     let mut replies = Vec::with_capacity(global, steps.len())?;
-    let passes = all_passes(global, &mut machine, cpus, steps)?;
-    let Some(passes) = make_on(
-        rt,
-        global,
-        &machine,
-        gate,
-        passes,
-        steps,
-        first,
-        &mut replies,
-    )?
-    else {
+    let (before, raced) = steps.split_at(first);
+    let mut machine = begin(global, world, cpus, before, &mut replies)?;
+    let passes = all_passes(global, &mut machine, cpus)?;
+    let Some(ended) = make_on(rt, global, &machine, gate, passes, raced, &mut replies)? else {
         return Ok(None);
     };
     Ok(Some(Made {
         machine,
-        passes,
+        passes: ended,
         replies,
     }))
 }

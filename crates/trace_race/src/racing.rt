@@ -1,7 +1,7 @@
 //! A whole race: read, made, merged, judged, audited, reported.
 ghost use Rattle.std.specs.Prelude.{◌≡◌, ◌<◌, ◌^◌, ◌∷◌, [], IfOk, OnErr, MatchResult, Ok, Err};
 ghost use Rattle.page_state.specs.LayoutView.{layout_of};
-ghost use Rattle.reference_model.specs.Boot.{boot};
+ghost use Rattle.reference_model.specs.model.Boot.{boot};
 ghost use Rattle.ghost_spec.specs.States.{ghost_state};
 ghost use Rattle.trace_race.specs.Booted.{machine_in};
 ghost use Rattle.trace_race.specs.Courses.{IsSound, course_in};
@@ -13,7 +13,7 @@ ghost use Rattle.trace_race.specs.Told.{BeginsStop, EndsWith, IsBootedRun, RunBe
 ghost use Rattle.trace_text.specs.Failures.{TellsWrite};
 ghost use Rattle.trace_text.specs.Played.{WritesFront};
 
-use crate::booting::{Booted, boot_machine};
+use crate::booting::{Booted, boot_world};
 use crate::course::{Asked, Course};
 use crate::ending::{Compared, compared_at_end, dropped};
 use crate::fault::RaceFault;
@@ -30,7 +30,8 @@ use trace_text::{ReportLine, Sink, Stop, faulted, tell, tell_end};
 
 /// Reads a whole trace, and carries it out: the steps before `start` in order, those behind it on one thread for each CPU,
 /// and writes its report. A fault of a line, wherever it stands, is the whole report. The gate hears of the calls that are
-/// made at once. There is one legal history of the steps, with the replies that the report tells, and no line disagrees. Err
+/// made at once. There is one legal history of the steps, with the replies that the report tells: first those before `start`,
+/// in the trace's order, and then those behind it. No line disagrees. Err
 /// where the source or the sink failed, once, memory was refused, or a thread couldn't be started.
 pub fn race<R: Threads + Wait + Sync, S: Source, K: Sink, G: Gate + Sync>(
     rt: &R,
@@ -95,7 +96,7 @@ fn carry_out<R: Threads + Wait + Sync, K: Sink, G: Gate + Sync>(
         Some(carve) => carve,
         None => return tell_idle(sink, text),
     };
-    match boot_machine(global, &course.settings, carve) {
+    match boot_world(global, &course.settings, carve) {
         Ok(booted) => run(rt, global, booted, course, gate, sink, text),
         Err(stop) => tell_stop(sink, text, boot, stop),
     }
@@ -139,23 +140,20 @@ fn run<R: Threads + Wait + Sync, K: Sink, G: Gate + Sync>(
 ) -> Result<Outcome, RaceFault>
     requires sound { IsSound (course_in course.now) }
     requires booted { IsBootedRun (course_in course.now) booted }
-    ensures report { IfOk result (λ outcome. RunEnds (machine_in booted.state) course.now.steps.items (K.contents sink.old) (K.contents sink.new) outcome) }
-    ensures begun { OnErr result (RunBegins (machine_in booted.state) course.now.steps.items (K.contents sink.old) (K.contents sink.new)) }
+    ensures report { IfOk result (λ outcome. RunEnds (machine_in booted.state) (course_in course.now) (K.contents sink.old) (K.contents sink.new) outcome) }
+    ensures begun { OnErr result (RunBegins (machine_in booted.state) (course_in course.now) (K.contents sink.old) (K.contents sink.new)) }
     ensures counted { RaceTells (K.failures sink.old) (K.failures sink.new) result }
 {
-    let Booted {
-        machine,
-        line,
-        state,
-    } = booted;
+    let Booted { world, line, state } = booted;
     if let Err(fault) = tell(sink, text, ReportLine::Response(line)) {
         drop(state);
-        drop(machine);
+        drop(world);
         return Err(RaceFault::Engine(fault));
     }
     let steps = course.steps.as_slice();
     let cpus = course.settings.config().cpus;
-    let made = match make(rt, global, machine, gate, cpus, steps, course.in_order()) {
+    let start = course.in_order();
+    let made = match make(rt, global, world, gate, cpus, steps, start) {
         Ok(Some(made)) => made,
         Ok(None) => {
             drop(state);
@@ -166,7 +164,7 @@ fn run<R: Threads + Wait + Sync, K: Sink, G: Gate + Sync>(
             return Err(RaceFault::Engine(EngineFault::NoMemory));
         }
     };
-    engine(tell_made(global, made, state, steps, sink, text))
+    engine(tell_made(global, made, state, steps, start, sink, text))
 }
 
 /// Writes the lines of the steps that were made, compares, and writes the rest of the report. `state` is the model's at boot.
@@ -175,15 +173,16 @@ fn tell_made<K: Sink>(
     made: Made,
     state: Ghost,
     steps: &[Asked],
+    start: usize,
     sink: &mut K,
     text: &mut String,
 ) -> Result<Outcome, EngineFault>
-    requires made { IsMadeOf steps.now made }
+    requires made { IsMadeOf start steps.now made }
     requires layout { layout_of made.machine.table.layout ≡ layout_of state.layout }
     requires boot { ghost_state state ≡ boot (layout_of state.layout) }
-    ensures report { IfOk result (StepsEnd (layout_of state.layout) steps.now made.replies.items (K.contents sink.old) (K.contents sink.new)) }
+    ensures report { IfOk result (StepsEnd (layout_of state.layout) start steps.now made.replies.items (K.contents sink.old) (K.contents sink.new)) }
     ensures begun { OnErr result (WritesFront (lines_behind steps.now made.replies.items) (K.contents sink.old) (K.contents sink.new)) }
-    ensures history { OneHistory (layout_of state.layout) steps.now made.replies.items }
+    ensures history { OneHistory (layout_of state.layout) start steps.now made.replies.items }
     ensures counted { TellsWrite (K.failures sink.old) (K.failures sink.new) result }
 {
     let Made {
@@ -193,11 +192,18 @@ fn tell_made<K: Sink>(
     } = made;
     if let Err(fault) = tell_steps(sink, text, steps, replies.as_slice()) {
         drop(state);
-        dropped(machine, passes, steps, replies.as_slice());
+        dropped(machine, passes, steps, start, replies.as_slice());
         return Err(fault);
     }
-    let Ok(found) = compared_at_end(global, machine, passes, steps, replies.as_slice(), state)
-    else {
+    let Ok(found) = compared_at_end(
+        global,
+        machine,
+        passes,
+        steps,
+        start,
+        replies.as_slice(),
+        state,
+    ) else {
         return Err(EngineFault::NoMemory);
     };
     let Compared { judged, audited } = found;

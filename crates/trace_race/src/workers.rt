@@ -76,7 +76,7 @@ fn own_steps(steps: &[Asked], cpu: u64) -> usize
 }
 
 /// Makes a step, which is tried again until it is answered. It may wait.
-pub(crate) fn call<R: Wait, G: Gate>(
+fn call<R: Wait, G: Gate>(
     rt: &R,
     machine: &Machine<Global>,
     gate: &G,

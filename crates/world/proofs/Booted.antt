@@ -6,12 +6,12 @@ use Rattle.page_state.specs.declared.layout.Config.{Config}
 use Rattle.page_state.specs.declared.layout.Geometry.{Geometry}
 use Rattle.call_table.specs.declared.reply.Call.{Call}
 use Rattle.page_state.specs.LayoutFaults.{IsAccepted}
-use Rattle.reference_model.specs.Boot.{boot, booted, IsCarveEnough}
-use Rattle.reference_model.specs.Stored.{held_state}
+use Rattle.reference_model.specs.model.Boot.{boot, booted, IsCarveEnough}
+use Rattle.reference_model.specs.model.Stored.{held_state}
 use Rattle.page_state.specs.Geometries.{levels_below}
 use Rattle.page_state.specs.Layouts.{Layout, HasItsDepth}
 use Rattle.page_state.specs.Regions.{Memory}
-use Rattle.reference_model.specs.State.{Vms, Shared, Guest, Cpu, Reference, all_rooms, no_vms, no_guest, no_cpu}
+use Rattle.reference_model.specs.model.State.{Vms, Shared, Guest, Cpu, Reference, all_rooms, no_vms, no_guest, no_cpu}
 use Rattle.std.specs.Prelude.{Result, Ok, Err, IsErrAnd, MatchResult}
 use Rattle.world.specs.declared.boot.BootFault.{BootFault}
 use Rattle.world.specs.declared.boot.BootFault.TheVariants.{NoMemory}

@@ -7,18 +7,18 @@ use Rattle.page_state.specs.Blocks.{blocks_on, is_one_word}
 use Rattle.descriptor.specs.declared.Prot.TheVariants.{RW}
 use Rattle.descriptor.specs.declared.State.TheVariants.{Owned}
 use Rattle.page_state.specs.Trees.{frames_from, root_tree, Block}
-use Rattle.reference_model.specs.Boot.{carve_first, host_root, host_edit, host_need, hyp_root, hyp_edit, hyp_need, spare, boot_shared, booted, pool_row, IsCarveEnough}
+use Rattle.reference_model.specs.model.Boot.{carve_first, host_root, host_edit, host_need, hyp_root, hyp_edit, hyp_need, spare, boot_shared, booted, pool_row, IsCarveEnough}
 use Rattle.page_state.specs.EntryTests.{annotation, leaf}
 use Rattle.page_state.specs.declared.entry.Entry.{Entry}
 use Rattle.page_state.specs.Laws.{BlocksMeet}
 use Rattle.page_state.specs.Layouts.{Layout, hyp_page}
 use Rattle.page_state.specs.Map.{empty_map, is_within}
 use Rattle.reference_model.specs.declared.changes.Changes.{Changes}
-use Rattle.reference_model.specs.Changes.{edit_of}
-use Rattle.reference_model.specs.Conditions.{IsUsable}
-use Rattle.reference_model.specs.RunLaws.{BootRowsTold}
-use Rattle.reference_model.specs.State.{Shared, plain_row}
-use Rattle.reference_model.specs.Step.{shared_need, shared_after}
+use Rattle.reference_model.specs.model.Changes.{edit_of}
+use Rattle.reference_model.specs.help.Conditions.{IsUsable}
+use Rattle.reference_model.specs.claims.RunLaws.{BootRowsTold}
+use Rattle.reference_model.specs.model.State.{Shared, plain_row}
+use Rattle.reference_model.specs.model.Step.{shared_need, shared_after}
 use Rattle.page_state.specs.declared.layout.Config.{Config}
 use Rattle.page_state.specs.declared.layout.Geometry.{Geometry}
 use Rattle.page_state.specs.Regions.{Memory, end_of}

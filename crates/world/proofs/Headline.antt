@@ -8,13 +8,13 @@ use Rattle.call_table.specs.declared.reply.Call.{Call}
 use Rattle.call_table.specs.declared.reply.Reply.{Reply}
 use Rattle.call_table.specs.declared.step.Step.{Step}
 use Rattle.page_state.specs.Layouts.{Layout}
-use Rattle.reference_model.specs.Boot.{boot, CanBoot}
-use Rattle.reference_model.specs.Conditions.{IsUsable, Legal}
-use Rattle.reference_model.specs.Run.{Runs, IsRun}
-use Rattle.reference_model.specs.State.{Reference}
-use Rattle.reference_model.specs.Rules.{guest_slot}
-use Rattle.reference_model.specs.Step.{Steps}
-use Rattle.reference_model.specs.Used.{used_of}
+use Rattle.reference_model.specs.model.Boot.{boot, CanBoot}
+use Rattle.reference_model.specs.help.Conditions.{IsUsable, Legal}
+use Rattle.reference_model.specs.model.Run.{Runs, IsRun}
+use Rattle.reference_model.specs.model.State.{Reference}
+use Rattle.reference_model.specs.model.Rules.{guest_slot}
+use Rattle.reference_model.specs.model.Step.{Steps}
+use Rattle.reference_model.specs.model.Used.{used_of}
 use Rattle.reference_model.proofs.Steps.{refusal_keeps}
 use Rattle.reference_model.proofs.conditions.Canonical.{canonical_once, run_canonical, run_fails_by_maps}
 use Rattle.reference_model.proofs.conditions.HeldFrames.{hand_stays, run_held_stays}

@@ -11,13 +11,13 @@ use Rattle.call_table.specs.declared.reply.Call.{Call}
 use Rattle.call_table.specs.declared.reply.Reply.{Reply}
 use Rattle.call_table.specs.declared.step.Step.{Step}
 use Rattle.call_table.specs.declared.step.Step.TheVariants.{GuestShareHost, GuestUnshareHost}
-use Rattle.reference_model.specs.Boot.{IsCarveEnough, boot}
-use Rattle.reference_model.specs.HeldFrames.{GivesHandOn, IsHeldFor}
-use Rattle.reference_model.specs.Isolation.{PageStays, guest_entry_at}
-use Rattle.reference_model.specs.Run.{Runs}
-use Rattle.reference_model.specs.Sound.{IsHeld, hand, owner}
-use Rattle.reference_model.specs.State.{Contents, Reference, dying, live}
-use Rattle.reference_model.specs.Step.{Steps}
+use Rattle.reference_model.specs.model.Boot.{IsCarveEnough, boot}
+use Rattle.reference_model.specs.claims.HeldFrames.{GivesHandOn, IsHeldFor}
+use Rattle.reference_model.specs.claims.Isolation.{PageStays, guest_entry_at}
+use Rattle.reference_model.specs.model.Run.{Runs}
+use Rattle.reference_model.specs.claims.Sound.{IsHeld, hand, owner}
+use Rattle.reference_model.specs.model.State.{Contents, Reference, dying, live}
+use Rattle.reference_model.specs.model.Step.{Steps}
 use Rattle.reference_model.proofs.Steps.{end_once}
 use Rattle.hypercalls.specs.Booted.{IsConfig, layout_for}
 use Rattle.hypercalls.specs.declared.parts.Parts.{Parts}

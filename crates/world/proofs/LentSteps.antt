@@ -5,8 +5,8 @@ use Rattle.call_table.specs.declared.reply.Call.{Call}
 use Rattle.call_table.specs.declared.reply.Reply.{Reply}
 use Rattle.call_table.specs.declared.step.Step.{Step}
 use Rattle.page_state.specs.Layouts.{Layout}
-use Rattle.reference_model.specs.Rules.{guest_slot, names}
-use Rattle.reference_model.specs.Reached.{IsReached}
+use Rattle.reference_model.specs.model.Rules.{guest_slot, names}
+use Rattle.reference_model.specs.model.Reached.{IsReached}
 use Rattle.part_types.specs.declared.parts.VmPart.{VmPart}
 use Rattle.part_types.specs.declared.parts.SharedPart.{SharedPart}
 use Rattle.part_types.specs.declared.parts.GuestPart.{GuestPart}

@@ -8,14 +8,14 @@ use Rattle.call_table.specs.declared.reply.Call.{Call}
 use Rattle.page_state.specs.Layouts.{Layout}
 use Rattle.reference_model.proofs.Ends.{filter-false, parts_history, parts_run}
 use Rattle.reference_model.proofs.Rely.{reached_relies}
-use Rattle.reference_model.specs.Boot.{boot, CanBoot}
-use Rattle.reference_model.specs.History.{calls_on, calls_by}
-use Rattle.reference_model.specs.Parts.{Part, vm_part, shared_part, guest_part, is_slot}
-use Rattle.reference_model.specs.Rules.{call_uses, names}
-use Rattle.reference_model.specs.Reached.{IsReached}
-use Rattle.reference_model.specs.Run.{Runs, IsRun}
-use Rattle.reference_model.specs.State.{Reference}
-use Rattle.reference_model.specs.Step.{Steps, used_by}
+use Rattle.reference_model.specs.model.Boot.{boot, CanBoot}
+use Rattle.reference_model.specs.model.History.{calls_on, calls_by}
+use Rattle.reference_model.specs.model.Parts.{Part, vm_part, shared_part, guest_part, is_slot}
+use Rattle.reference_model.specs.model.Rules.{call_uses, names}
+use Rattle.reference_model.specs.model.Reached.{IsReached}
+use Rattle.reference_model.specs.model.Run.{Runs, IsRun}
+use Rattle.reference_model.specs.model.State.{Reference}
+use Rattle.reference_model.specs.model.Step.{Steps, used_by}
 use Rattle.world.specs.declared.merge.Histories.{Histories}
 use Rattle.world.specs.declared.merge.MergeFault.{MergeFault}
 use Rattle.world.specs.declared.merge.MergeFault.TheVariants.{NoOrder}

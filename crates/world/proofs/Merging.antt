@@ -11,8 +11,8 @@ use Rattle.call_table.specs.declared.reply.Reply.{Reply}
 use Rattle.call_table.specs.declared.step.Step.{Step}
 use Rattle.page_state.proofs.Common.{both, eq-self, eq-same, eq-other, if-true, if-false}
 use Rattle.reference_model.proofs.Ends.{filter-true, filter-false}
-use Rattle.reference_model.specs.Parts.{Part, vm_part, shared_part, guest_part, is_slot}
-use Rattle.reference_model.specs.Rules.{call_uses}
+use Rattle.reference_model.specs.model.Parts.{Part, vm_part, shared_part, guest_part, is_slot}
+use Rattle.reference_model.specs.model.Rules.{call_uses}
 use Rattle.hypercalls.specs.Stands.{at_place}
 use Rattle.world.specs.declared.merge.Histories.{Histories}
 use Rattle.world.specs.declared.merge.Places.{Places}

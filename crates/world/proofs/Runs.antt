@@ -2,14 +2,14 @@
 use Rattle.std.proofs.Common.{◌≡◌, ◌∙◌, ◌<◌, zero, suc, List, [], ◌∷◌, Option, Some, None, All, slice_index_or, ap, sym, subst, arith}
 use Rattle.call_table.specs.declared.reply.Call.{Call}
 use Rattle.page_state.specs.Layouts.{Layout}
-use Rattle.reference_model.specs.Run.{Runs}
-use Rattle.reference_model.specs.Sound.{Sound}
-use Rattle.reference_model.specs.State.{Reference}
+use Rattle.reference_model.specs.model.Run.{Runs}
+use Rattle.reference_model.specs.claims.Sound.{Sound}
+use Rattle.reference_model.specs.model.State.{Reference}
 use Rattle.reference_model.proofs.conditions.Isolates.{run_isolated, run_kept_out}
 use Rattle.reference_model.proofs.conditions.Canonical.{run_canonical}
 use Rattle.reference_model.proofs.conditions.RunsLegal.{run_sound, run_rows}
-use Rattle.reference_model.specs.Step.{Steps}
-use Rattle.reference_model.specs.TreeLaws.{AreCanonical}
+use Rattle.reference_model.specs.model.Step.{Steps}
+use Rattle.reference_model.specs.claims.TreeLaws.{AreCanonical}
 use Rattle.component.specs.declared.Component.{Component}
 use Rattle.guest_component.specs.declared.body.Body.{Body}
 use Rattle.hypercalls.specs.declared.parts.Parts.{Parts}

@@ -7,8 +7,8 @@ use mathlib.Core.Path.{fun_ext}
 use Rattle.page_state.specs.declared.row.Row.{Row}
 use Rattle.page_state.specs.Layouts.{is_memory}
 use Rattle.page_state.specs.Regions.{Memory, has_memory}
-use Rattle.reference_model.specs.Owner.{row_of}
-use Rattle.reference_model.specs.State.{plain_row}
+use Rattle.reference_model.specs.model.Owner.{row_of}
+use Rattle.reference_model.specs.model.State.{plain_row}
 use Rattle.reference_model.proofs.conditions.RunsLegal.{run_rows}
 use Rattle.owner_table.specs.Rows.{row_at}
 use Rattle.part_types.specs.declared.parts.SharedPart.{SharedPart}

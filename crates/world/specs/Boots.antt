@@ -5,7 +5,7 @@ use Rattle.descriptor.specs.declared.State.TheVariants.{Owned}
 use Rattle.page_state.specs.declared.entry.PageRange.{PageRange}
 use Rattle.page_state.specs.declared.layout.Config.{Config}
 use Rattle.page_state.specs.declared.layout.Geometry.{Geometry}
-use Rattle.reference_model.specs.Boot.{IsCarveEnough}
+use Rattle.reference_model.specs.model.Boot.{IsCarveEnough}
 use Rattle.page_state.specs.Accepted.{IsAcceptedConfig}
 use Rattle.page_state.specs.EntryTests.{leaf}
 use Rattle.page_state.specs.Geometries.{levels_below}
@@ -17,7 +17,7 @@ use Rattle.hyp_pool.specs.declared.PoolFault.TheVariants as pools
 use Rattle.world.specs.declared.boot.BootFault.{BootFault}
 use Rattle.world.specs.declared.boot.BootFault.TheVariants.{Config as config_fault, CarveSmall, NoMemory}
 use Rattle.reference_model.specs.declared.changes.MapChange.{MapChange}
-use Rattle.reference_model.specs.State.{Shared, no_cpu, no_guest, plain_row}
+use Rattle.reference_model.specs.model.State.{Shared, no_cpu, no_guest, plain_row}
 use Rattle.guest_component.specs.View.{guest_depth}
 use Rattle.part_types.specs.declared.parts.CpuState.{CpuState}
 use Rattle.part_types.specs.declared.parts.GuestPart.{GuestPart}

@@ -7,14 +7,14 @@ use Rattle.call_table.specs.declared.reply.Reply.{Reply}
 use Rattle.call_table.specs.declared.reply.Reply.TheVariants.{Refused}
 use Rattle.call_table.specs.declared.step.Step.{Step}
 use Rattle.page_state.specs.Layouts.{Layout, is_memory}
-use Rattle.reference_model.specs.HeldFrames.{GivesHandOn, IsHeldFor, TakesBack}
-use Rattle.reference_model.specs.Isolation.{FrameStays, SharesWithHost}
-use Rattle.reference_model.specs.Owner.{row_of}
-use Rattle.reference_model.specs.Run.{Runs, IsRun}
-use Rattle.reference_model.specs.Sound.{Sound, Maps, owner, IsHeld, hand}
-use Rattle.reference_model.specs.State.{Contents, Reference, live}
-use Rattle.reference_model.specs.Step.{Steps, used_by, fails}
-use Rattle.reference_model.specs.TreeLaws.{AreCanonical, fails_by_maps}
+use Rattle.reference_model.specs.claims.HeldFrames.{GivesHandOn, IsHeldFor, TakesBack}
+use Rattle.reference_model.specs.claims.Isolation.{FrameStays, SharesWithHost}
+use Rattle.reference_model.specs.model.Owner.{row_of}
+use Rattle.reference_model.specs.model.Run.{Runs, IsRun}
+use Rattle.reference_model.specs.claims.Sound.{Sound, Maps, owner, IsHeld, hand}
+use Rattle.reference_model.specs.model.State.{Contents, Reference, live}
+use Rattle.reference_model.specs.model.Step.{Steps, used_by, fails}
+use Rattle.reference_model.specs.claims.TreeLaws.{AreCanonical, fails_by_maps}
 use Rattle.hypercalls.specs.declared.parts.Parts.{Parts}
 use Rattle.hypercalls.specs.Stands.{parts_layout, state_of}
 use Rattle.world.specs.Laws.{AllAgree}
@@ -27,7 +27,7 @@ RowsAgree l s = (f : ℕ) → is_memory l f ≡ true → s.shared.row f ≡ row_
 abbrev pub KeepsOut : Layout → Contents → Type 0
 KeepsOut l s = (v f component page : ℕ) (state : State) → owner l s f ≡ 2 + v → Maps s component page f state → (component ≡ 2 + v) ⊎ ((component ≡ 0) × SharesWithHost s v f)
 
--- what the parts stand for: the maplets are the coarsest lists of what walks of all words find, the owner rows are those from scratch, each memory frame has one owner and each frame one borrower at most, what holds a frame holds it alone, guests' frames are kept apart, and each tree is the one coarsest tree of its map
+-- what the parts represent: the maplets are the coarsest lists of what walks of all words find, the owner rows are those from scratch, each memory frame has one owner and each frame at most one borrower, what holds a frame holds it alone, guests' frames are kept apart, and each tree is the one coarsest tree of its map
 pub record IsRight {A : Type 0} (p : Parts A) : Type 0 where
   pub agree : AllAgree p
   pub rows : RowsAgree (parts_layout p) (state_of p).contents
@@ -35,7 +35,7 @@ pub record IsRight {A : Type 0} (p : Parts A) : Type 0 where
   pub kept_out : KeepsOut (parts_layout p) (state_of p).contents
   pub trees : AreCanonical (parts_layout p) (state_of p).contents
 
--- a call of a run: it begins in a sound state whose rows are those from scratch and whose trees are the coarsest of their maps; maps and numbers of free frames tell whether a pool is short for it; where it is refused, want of memory included, all that the state has stays; it takes no frame from a Live guest, nor changes its page but where the guest shares it or takes it back; and what is held for a guest, or in a CPU's hand, stays so until a Dying guest's is taken back, or that CPU gives its hand on
+-- a call of a run: it begins in a sound state whose rows are those from scratch and whose trees are the coarsest of their maps; maps and numbers of free frames decide whether a pool is short for it; if it is refused, out of memory included, the state stays as it is; it takes no frame from a Live guest, nor changes its page unless the guest shares it or takes it back; and frames held for a guest, or in a CPU's hand, stay so until those of a Dying guest are taken back, or that CPU gives its hand on
 pub record CallKeeps (l : Layout) (s : Reference) (c : Call) (t : Reference) : Type 0 where
   pub sound : Sound l s.contents
   pub rows : RowsAgree l s.contents
@@ -56,7 +56,7 @@ pub record RunsOn {A : Type 0} (p : Parts A) (steps : List (ℕ × Step)) (repli
   pub ends : IsRun (parts_layout p) (before ++ calls) (state_of q)
   pub each : (done left : List Call) (c : Call) (s t : Reference) → calls ≡ done ++ c ∷ left → Runs (Steps (parts_layout p)) (state_of p) done s → Steps (parts_layout p) s c t → CallKeeps (parts_layout p) s c t
 
--- the headline: the layout stays, what the parts stand for afterwards is right, and there is such a run
+-- the headline: the layout stays, the state that the parts represent afterwards is right, and there is such a run
 pub record Headline {A : Type 0} (p : Parts A) (steps : List (ℕ × Step)) (replies : List Reply) (q : Parts A) : Type 0 where
   pub layout : parts_layout q ≡ parts_layout p
   pub right : IsRight q

@@ -9,11 +9,11 @@ use Rattle.call_table.specs.declared.reply.Reply.{Reply}
 use Rattle.call_table.specs.declared.reply.Reply.TheVariants.{Refused}
 use Rattle.call_table.specs.declared.step.Step.{Step}
 use Rattle.call_table.specs.declared.step.Step.TheVariants.{GuestShareHost, GuestUnshareHost}
-use Rattle.reference_model.specs.HeldFrames.{GivesHandOn, IsHeldFor}
-use Rattle.reference_model.specs.Isolation.{guest_entry_at}
-use Rattle.reference_model.specs.Run.{Runs}
-use Rattle.reference_model.specs.Sound.{Sound, Holds, IsHeld, hand, owner}
-use Rattle.reference_model.specs.State.{Contents, dying, live}
+use Rattle.reference_model.specs.claims.HeldFrames.{GivesHandOn, IsHeldFor}
+use Rattle.reference_model.specs.claims.Isolation.{guest_entry_at}
+use Rattle.reference_model.specs.model.Run.{Runs}
+use Rattle.reference_model.specs.claims.Sound.{Sound, Holds, IsHeld, hand, owner}
+use Rattle.reference_model.specs.model.State.{Contents, dying, live}
 use Rattle.hypercalls.specs.Booted.{IsBooted}
 use Rattle.hypercalls.specs.declared.parts.Parts.{Parts}
 use Rattle.hypercalls.specs.Stands.{parts_layout, state_of}
@@ -23,7 +23,7 @@ use Rattle.world.specs.declared.boot.BootFault.TheVariants.{NoMemory}
 use Rattle.world.specs.Headline.{Headline, IsRight, RowsAgree}
 use Rattle.world.specs.Laws.{Goes}
 
--- what the parts stand for after any list of steps from a boot on is right
+-- the state that the parts represent after any list of steps from a boot on is right
 abbrev pub StepsRight : Type 0 → Type 0
 StepsRight A = (m : Memory) (config : Config) (p q : Parts A) (cs : List Call) → IsBooted m config p → Runs Goes p cs q → IsRight q
 
@@ -45,7 +45,7 @@ abbrev pub StepKeepsFrames : Type 0 → Type 0
 StepKeepsFrames A = (p q : Parts A) (cpu : ℕ) (step : Step) (reply : Reply) (v f : ℕ) → Headline p ((cpu, step) ∷ []) (reply ∷ []) q → ((state_of p).contents.guest v).phase ≡ live
     → owner (parts_layout p) (state_of p).contents f ≡ 2 + v → KeepsFrame (parts_layout p) (state_of p).contents (state_of q).contents step v f
 
--- and one that isn't Dying what is held for it
+-- and one that isn't Dying keeps the frames held for it
 abbrev pub StepKeepsHeld : Type 0 → Type 0
 StepKeepsHeld A = (p q : Parts A) (cpu : ℕ) (step : Step) (reply : Reply) (v f : ℕ) → Headline p ((cpu, step) ∷ []) (reply ∷ []) q → ((state_of p).contents.guest v).phase ≢ dying
     → IsHeldFor (state_of p).contents v f → ∥ IsHeldFor (state_of q).contents v f ∥₁
@@ -63,7 +63,7 @@ pub record WasRight {A : Type 0} (p : Parts A) : Type 0 where
 abbrev pub BeginsRight : Type 0 → Type 0
 BeginsRight A = (p q : Parts A) (asked : ℕ × Step) (steps : List (ℕ × Step)) (replies : List Reply) → Headline p (asked ∷ steps) replies q → WasRight p
 
--- of the same memory and configuration one fault alone is told, and where a world boots only that memory was refused
+-- the same memory and configuration have one fault alone, and if a world boots from them, only that memory was refused
 abbrev pub FaultOnce : Type 0
 FaultOnce = (m : Memory) (config : Config) (a b : BootFault) → IsNoBoot a m config → IsNoBoot b m config → a ≡ b
 

@@ -5,10 +5,10 @@ use Rattle.call_table.specs.declared.reply.Call.{Call}
 use Rattle.page_state.specs.Layouts.{Layout}
 use Rattle.page_state.specs.Regions.{Memory}
 use Rattle.page_state.specs.Runs.{map_of, IsCoarsest}
-use Rattle.reference_model.specs.Isolation.{FrameStays}
-use Rattle.reference_model.specs.Run.{Runs, IsRun}
-use Rattle.reference_model.specs.Sound.{owner}
-use Rattle.reference_model.specs.State.{live}
+use Rattle.reference_model.specs.claims.Isolation.{FrameStays}
+use Rattle.reference_model.specs.model.Run.{Runs, IsRun}
+use Rattle.reference_model.specs.claims.Sound.{owner}
+use Rattle.reference_model.specs.model.State.{live}
 use Rattle.component.specs.declared.Component.{Component}
 use Rattle.guest_component.specs.declared.body.Body.{Body}
 use Rattle.hypercalls.specs.declared.parts.Parts.{Parts}
@@ -23,11 +23,11 @@ pub record Goes {A : Type 0} (p : Parts A) (c : Call) (q : Parts A) : Type 0 whe
   pub call : c ≡ call_of p c.cpu c.step c.reply
   pub step : IsStep p c.cpu c.step c.reply q
 
--- the calls are a run of the reference step from the boot state, and these parts stand for its end
+-- the calls are a run of the reference step from the boot state, and these parts represent its end
 abbrev pub EndsRun : {A : Type 0} → Layout → List Call → Parts A → Type 0
 EndsRun l cs q = IsRun l cs (state_of q)
 
--- after any list of steps from a boot on, the calls are a run, and the parts stand for its end
+-- after any list of steps from a boot on, the calls are a run, and the parts represent its end
 abbrev pub StepsRun : Type 0 → Type 0
 StepsRun A = (m : Memory) (config : Config) (p q : Parts A) (cs : List Call) → IsBooted m config p → Runs Goes p cs q → EndsRun (parts_layout p) cs q
 

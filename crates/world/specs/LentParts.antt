@@ -8,8 +8,8 @@ use Rattle.call_table.specs.declared.step.Step.{Step}
 use Rattle.page_state.specs.declared.layout.Layout.{Layout as TheLayout}
 use Rattle.page_state.specs.Layouts.{Layout}
 use Rattle.page_state.specs.LayoutView.{layout_of}
-use Rattle.reference_model.specs.Rules.{names}
-use Rattle.reference_model.specs.Reached.{IsReached}
+use Rattle.reference_model.specs.model.Rules.{names}
+use Rattle.reference_model.specs.model.Reached.{IsReached}
 use Rattle.part_types.specs.declared.parts.VmPart.{VmPart}
 use Rattle.part_types.specs.declared.parts.SharedPart.{SharedPart}
 use Rattle.part_types.specs.declared.parts.GuestPart.{GuestPart}
@@ -35,7 +35,7 @@ module _ {X : Type 0} where
   left (inr (inl some)) = Some some.0.now
   left (inr (inr never)) = absurd never
 
--- what is lent, by the three options and a CPU's own state
+-- the lent parts, by the three options and a CPU's own state
 module _ {A : Type 0} where
   abbrev pub lent_of : Option (MutBor VmPart) → Option (MutBor (SharedPart A)) → Option (MutBor (GuestPart A)) → CpuState → Lent A
   lent_of v s g k = record { vms = given v; shared = given s; guest = given g; cpu = k }
@@ -52,7 +52,7 @@ parts_used (Guest v) = (false, false, true)
 parts_used (Both v) = (false, true, true)
 
 module _ {A : Type 0} where
-  -- what is lent to a step are just the parts that it uses
+  -- exactly the parts that a step uses are lent to it
   abbrev pub AreLent : Step → Lent A → Type 0
   AreLent step x = (is_some x.vms, is_some x.shared, is_some x.guest) ≡ parts_used (uses_of (cpu_of x.cpu) step)
 
@@ -64,6 +64,6 @@ module _ {A : Type 0} where
   abbrev pub call_stored : Lent A → Step → Reply → Option Call
   call_stored x step reply = if any_full (logs_in x) then None else Some (call_in x step reply)
 
-  -- the step that gave the reply is the reference step on what is lent
+  -- the step that gave the reply is the reference step on the lent parts
   abbrev pub StepsLent : TheLayout → Step → Lent A → Reply → Lent A → Type 0
   StepsLent l step x reply y = IsStepOn (layout_of l) step x (call_stored x step reply) y

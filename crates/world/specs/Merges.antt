@@ -4,11 +4,11 @@ use Rattle.call_table.specs.declared.reply.Call.{Call}
 use Rattle.call_table.specs.declared.reply.Reply.{Reply}
 use Rattle.call_table.specs.declared.step.Step.{Step}
 use Rattle.page_state.specs.Layouts.{Layout}
-use Rattle.reference_model.specs.Boot.{CanBoot}
-use Rattle.reference_model.specs.History.{calls_on, calls_by, Kept, IsHistory}
-use Rattle.reference_model.specs.Parts.{Part, vm_part, shared_part, guest_part}
-use Rattle.reference_model.specs.Run.{IsRun}
-use Rattle.reference_model.specs.State.{Reference}
+use Rattle.reference_model.specs.model.Boot.{CanBoot}
+use Rattle.reference_model.specs.model.History.{calls_on, calls_by, Kept, IsHistory}
+use Rattle.reference_model.specs.model.Parts.{Part, vm_part, shared_part, guest_part}
+use Rattle.reference_model.specs.model.Run.{IsRun}
+use Rattle.reference_model.specs.model.State.{Reference}
 use Rattle.hypercalls.specs.Stands.{at_place}
 use Rattle.world.specs.declared.merge.Histories.{Histories}
 use Rattle.world.specs.declared.merge.MergeFault.{MergeFault}
@@ -34,12 +34,12 @@ module _ (h : Histories) where
   abbrev pub log_by : ℕ → List Call
   log_by cpu = log_at h.cpus.items cpu
 
-  -- a list of all calls of the logs, each once: cut down to the calls of any one log it is that log. Each of its calls stands in its CPU's list, so it has no others
+  -- a list of all calls of the logs, each once: restricted to the calls of any one log it is that log. Each of its calls is in its CPU's list, so it has no others
   pub record IsMerged (all : List Call) : Type 0 where
     pub on : (p : Part) → calls_on p all ≡ log_on p
     pub by : (cpu : ℕ) → calls_by cpu all ≡ log_by cpu
 
-  -- what is told of such a list: CPU, step and reply of each call
+  -- what such a list says: CPU, step and reply of each call
   pub record TellsMerged (told : List (ℕ × Step × Reply)) : Type 0 where
     pub all : List Call
     pub merged : IsMerged all

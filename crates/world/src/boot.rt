@@ -2,10 +2,10 @@
 ghost use Rattle.std.specs.Prelude.{◌≡◌, ◌+◌, ◌<◌, ◌≤◌, ◌^◌, ◌↔◌, ◌∷◌, All, IsTrue, IfOk, OnErr, MatchOption, MatchResult, vec_len, length, drop};
 ghost use Rattle.hyp_pool.specs.Pools.{IsPool};
 ghost use Rattle.page_state.specs.Trees.{frames_from, root_tree};
-ghost use Rattle.reference_model.specs.Boot.{IsCarveEnough, booted as booted_of, pool_row as pool_row_of};
-ghost use Rattle.reference_model.specs.ChangeLaws.{Fits};
-ghost use Rattle.reference_model.specs.Conditions.{IsUsable};
-ghost use Rattle.reference_model.specs.State.{no_vms};
+ghost use Rattle.reference_model.specs.model.Boot.{IsCarveEnough, booted as booted_of, pool_row as pool_row_of};
+ghost use Rattle.reference_model.specs.help.ChangeLaws.{Fits};
+ghost use Rattle.reference_model.specs.help.Conditions.{IsUsable};
+ghost use Rattle.reference_model.specs.model.State.{no_vms};
 ghost use Rattle.part_types.specs.Apart.{IsApart};
 ghost use Rattle.part_types.specs.Logs.{IsNewLog};
 ghost use Rattle.part_types.specs.MemoryRows.{HasMemoryRows};

@@ -46,7 +46,7 @@ pub fn after_run<A: Allocator>()
     ensures begins { BeginsRight A }
 {}
 
-/// Of one memory and configuration a boot tells one fault alone, and where another boot made a world only that memory was
+/// Of one memory and configuration a boot has one fault alone, and if another boot made a world, only that memory was
 /// refused.
 pub fn one_fault<A: Allocator>()
     ensures once { FaultOnce }

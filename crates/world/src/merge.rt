@@ -1,8 +1,8 @@
 //! Logs of a world become one list of calls: the call that is next in all its logs, again and again.
 ghost use Rattle.std.specs.Prelude.{◌≡◌, ◌<◌, ◌↔◌, ◌==◌, ℕ, true, IsTrue, IfErr, IfNone, IfOk, IfSome, List, Some, [], drop, length, slice_index, if◌then◌else◌};
 ghost use Rattle.call_table.specs.declared.reply.Call.{Call};
-ghost use Rattle.reference_model.specs.Parts.{is_slot, Part, guest_part};
-ghost use Rattle.reference_model.specs.Rules.{call_uses};
+ghost use Rattle.reference_model.specs.model.Parts.{is_slot, Part, guest_part};
+ghost use Rattle.reference_model.specs.model.Rules.{call_uses};
 ghost use Rattle.world.specs.Merges.{IsMerged, TellsMerged, log_at, merge_number};
 ghost use Rattle.world.specs.declared.merge.MergeFault.TheVariants.{NoOrder};
 ghost use Rattle.world.specs.inner.Merging.{after_call, first_of, left, on, rest_of, whole, IsNext, IsPlaced, LogName, left_at, IsAdvanced};

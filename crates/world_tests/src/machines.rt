@@ -23,7 +23,7 @@ fn new_machine(rt: &impl Abort, alloc: Global, cpus: u64, log: u64) -> Machine<G
     Machine::boot(alloc, alloc, &map, config(cpus, log)).expect(rt, "a boot")
 }
 
-/// Makes a VM, and compares what is answered.
+/// Makes a VM, and compares the replies.
 fn expect_init<R: Wait + Abort>(
     rt: &R,
     machine: &Machine<Global>,

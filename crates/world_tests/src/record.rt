@@ -2,7 +2,7 @@
 ghost use Rattle.std.specs.Prelude.{◌≡◌, ◌+◌, ◌<◌, ◌≤◌, ◌^◌, ◌∷◌, length};
 ghost use Rattle.hyp_pool.specs.Pools.{IsPool};
 ghost use Rattle.page_state.specs.Geometries.{levels_below};
-ghost use Rattle.reference_model.specs.ChangeLaws.{Fits};
+ghost use Rattle.reference_model.specs.help.ChangeLaws.{Fits};
 ghost use Rattle.part_types.specs.Apart.{IsApart};
 ghost use Rattle.part_types.specs.View.{depth_of};
 
@@ -200,7 +200,7 @@ fn expect_rows(rt: &impl Abort, told: &RunList<Row>) {
     assert!(rt; told.at(Page(0x40800)).is_none());
 }
 
-/// Compares what is recorded of the Shared part.
+/// Compares the record of the Shared part.
 fn expect_shared(rt: &impl Abort, told: &Shared) {
     expect_host_runs(rt, told.host.runs.as_slice());
     expect_hyp_tables(rt, told.hyp.tables.as_slice());
@@ -208,7 +208,7 @@ fn expect_shared(rt: &impl Abort, told: &Shared) {
     expect_rows(rt, &told.rows);
 }
 
-/// Compares what is recorded of CPUs, the second of which has a hand.
+/// Compares the record of CPUs, the second of which has a hand.
 fn expect_cpus(rt: &impl Abort, told: &[GhostCpu]) {
     let held = GhostCpu {
         hand: Some(HAND),
@@ -225,7 +225,7 @@ fn expect_rooms(rt: &impl Abort, told: &GhostRooms, vms: u64, shared: u64, cpus:
     assert!(rt; told.cpus.as_slice() == cpus);
 }
 
-/// Compares what is recorded of CPUs, logs and what isn't given.
+/// Compares the record of CPUs, logs and parts that aren't given.
 fn expect_rest(rt: &impl Abort, told: &GhostLists) {
     expect_cpus(rt, told.cpus.as_slice());
     expect_rooms(rt, &told.rooms, 9, 5, [9, 7].as_slice());

@@ -142,7 +142,7 @@ fn boot_cut_short() -> Cut {
     }
 }
 
-/// Whether a run through a buffer told of a read that failed after the boot, and wrote what the boot reports.
+/// Whether a run through a buffer reported a read that failed after the boot, and wrote what the boot reports.
 fn is_cut_after_boot(ended: &Result<(Outcome, Vec<u8>), Stopped<Vec<u8>>>) -> bool {
     let wanted: &[u8] = b"boot host 3 hyp 3 free 58\n";
     match ended {

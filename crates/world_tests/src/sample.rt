@@ -1,6 +1,6 @@
 //! What tests begin with: memory, a configuration, and the boot state on lists.
 ghost use Rattle.std.specs.Prelude.{◌≡◌, ◌<◌, ◌↔◌, IfOk, IfSome, IsSome};
-ghost use Rattle.reference_model.specs.Boot.{IsCarveEnough};
+ghost use Rattle.reference_model.specs.model.Boot.{IsCarveEnough};
 ghost use Rattle.world_tests.specs.Samples.{config_39, region as region_of, sample_regions};
 
 use ghost_spec::start::start;

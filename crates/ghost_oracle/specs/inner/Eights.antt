@@ -70,7 +70,7 @@ module _ {A : Type 0} where
   abbrev pub nth_of : ℕ → EightSlots A → Slot A
   nth_of k x = nth k x.0.now x.1.now x.2.now x.3.now x.4.now x.5.now x.6.now x.7.now
 
-  -- what is found of the slots of a table, eight at a time from slot `8 * from` on: the number and the slots of the first eight that don't all extend the pending run; none where each does
+  -- the result of a look at the slots of a table, eight at a time from slot `8 * from` on: the number and the slots of the first eight that don't all extend the pending run; none if each does
   module _ (t : Table A) (from : ℕ) (found : Option (ℕ × EightSlots A)) where
     -- the words before them extend the run, which has been extended by them
     abbrev pub GoesToFound : Pending → Pending → Type 0

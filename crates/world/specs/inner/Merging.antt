@@ -1,8 +1,8 @@
--- How logs are merged: from each the calls that were given are its first, and what is left of it goes on from there.
+-- How logs are merged: the calls given of each log are its first, and the rest of it goes on from there.
 use Rattle.std.specs.Prelude.{◌≡◌, ℕ, zero, suc, ◌+◌, Bool, true, ◌==◌, if◌then◌else◌, List, [], ◌∷◌, Option, Some, None, Vec, drop, length, slice_index}
 use Rattle.call_table.specs.declared.reply.Call.{Call}
-use Rattle.reference_model.specs.Parts.{Part, vm_part, shared_part, guest_part}
-use Rattle.reference_model.specs.Rules.{call_uses}
+use Rattle.reference_model.specs.model.Parts.{Part, vm_part, shared_part, guest_part}
+use Rattle.reference_model.specs.model.Rules.{call_uses}
 use Rattle.world.specs.declared.merge.Histories.{Histories}
 use Rattle.world.specs.declared.merge.Places.{Places}
 use Rattle.world.specs.Merges.{log_at, log_on, log_by}
@@ -46,11 +46,11 @@ abbrev pub rest_of : List Call → List Call
 rest_of [] = []
 rest_of (c ∷ cs) = cs
 
--- the call stands first in what is left of each log that has it
+-- the call is the first in the rest of each log that has it
 abbrev pub IsNext : (LogName → List Call) → Call → Type 0
 IsNext rests c = (x : LogName) → has x c ≡ true → first_of (rests x) ≡ Some c
 
--- what is left without that call
+-- the rest without that call
 abbrev pub after_call : (LogName → List Call) → Call → LogName → List Call
 after_call rests c x = if has x c then rest_of (rests x) else rests x
 
@@ -59,7 +59,7 @@ abbrev pub left_by : (LogName → List Call) → ℕ → ℕ
 left_by rests zero = 0
 left_by rests (suc n) = left_by rests n + length (rests (by n))
 
--- what is left of the log of a number, in a list of logs
+-- the rest of the log of a number, in a list of logs
 abbrev pub left_at : {Z : Type 0} → List (Vec Call Z) → List ℕ → ℕ → List Call
 left_at logs places k = drop (slice_index places k) (log_at logs k)
 

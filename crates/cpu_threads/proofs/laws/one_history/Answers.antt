@@ -6,7 +6,8 @@ use Rattle.part_table.proofs.Left.{each_part}
 use Rattle.part_table.specs.declared.slot.Slot.{Slot}
 use Rattle.part_table.specs.Endings.{IsEndOf, KeepsOwn, KeepsSeen, KeepsTried}
 use Rattle.part_table.specs.Passes.{Pass}
-use Rattle.part_table.specs.Known.{StartsWith, own_at_boot, seen_at}
+use Rattle.part_table.specs.Known.{StartsWith, seen_at}
+use Rattle.part_table.specs.Beginnings.{own_in}
 use Rattle.cpu_threads.proofs.Full.{end_fronts}
 use Rattle.cpu_threads.specs.Laws.{EndsInOne, IsHistoryOf}
 use Rattle.cpu_threads.proofs.laws.one_history.Goals as goal
@@ -20,10 +21,11 @@ of_kept l found cpus e p own seen tried = record {
 }
 
 ends_in_one : (A : Type 0) → EndsInOne A
-ends_in_one A l found cpus passes given e fresh = record {
+ends_in_one A t found cpus passes given e fresh = record {
   end = e.end;
-  each = λ j p there. of_kept l found cpus e.end p (e.own j p there) (e.seen j p there) (e.tried j p there);
-  idle = λ c home. sym (e.end.left.cpus c (own_at_boot l c) (fresh c home)).0;
+  goes_on = e.goes_on;
+  each = λ j p there. of_kept t.layout found cpus e.end p (e.own j p there) (e.seen j p there) (e.tried j p there);
+  idle = λ c home. sym (e.end.left.cpus c (own_in t.begun c) (fresh c home)).0;
 }
 
 pub returns : goal.returns

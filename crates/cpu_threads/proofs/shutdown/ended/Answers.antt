@@ -5,6 +5,7 @@ use Rattle.part_types.specs.declared.parts.CpuState.{CpuState}
 use Rattle.hypercalls.specs.declared.parts.Parts.{Parts}
 use Rattle.part_table.specs.declared.slot.Slot.{Slot}
 use Rattle.part_table.specs.Endings.{ForEach, IsEndFor, IsEndOf}
+use Rattle.part_table.specs.Passes.{Opened}
 use Rattle.part_table.specs.Slots.{slots_of}
 use Rattle.cpu_threads.proofs.shutdown.ended.Goals as goal
 
@@ -16,6 +17,6 @@ together-parts-requires-clause-end g c =
 pub returns-clause-end : goal.returns-clause-end
 returns-clause-end g c =
     let t = c.together-parts.ensures in
-    let l : TheLayout = c.args.table.layout in
-    subst (λ (p : Parts g.row.A.Denot). IsEndFor l (slots_of p) p.cpus.items (ForEach c.args.passes.items)) (sym c.join.ensures)
-    (subst (λ (z : List (Slot g.row.A.Denot) × List CpuState). IsEndFor {A = g.row.A.Denot} l z.0 z.1 (ForEach c.args.passes.items)) (λ i. (sym t.parts i, (sym t.cpus i).items)) c.close-alloc.ensures.end)
+    let t' : Opened = c.args.table in
+    subst (λ (p : Parts g.row.A.Denot). IsEndFor t' (slots_of p) p.cpus.items (ForEach c.args.passes.items)) (sym c.join.ensures)
+    (subst (λ (z : List (Slot g.row.A.Denot) × List CpuState). IsEndFor {A = g.row.A.Denot} t' z.0 z.1 (ForEach c.args.passes.items)) (λ i. (sym t.parts i, (sym t.cpus i).items)) c.close-alloc.ensures.end)

@@ -3,7 +3,7 @@ use Rattle.std.specs.Prelude.{is_some}
 use Rattle.page_state.specs.Layouts.{Layout, is_memory}
 use Rattle.page_state.specs.LayoutView.{layout_of}
 use Rattle.page_state.specs.Rows.{advance_row, HasPageBelow}
-use Rattle.reference_model.specs.Owner.{row_of}
+use Rattle.reference_model.specs.model.Owner.{row_of}
 use Rattle.run_list.specs.Runs.{run_map, AreInReach}
 use Rattle.hypercalls.specs.Stands.{parts_layout, state_of}
 use Rattle.ghost_spec.specs.States.{ghost_state}

@@ -1,5 +1,5 @@
 use Rattle.std.proofs.Common.{◌∙◌, All, ap, map, subst, sym}
-use Rattle.reference_model.specs.State.{Shared}
+use Rattle.reference_model.specs.model.State.{Shared}
 use Rattle.part_types.specs.View.{shared_of, guest_held}
 use Rattle.hypercalls.specs.Stands.{state_of}
 use Rattle.ghost_spec.specs.Views.{row_in, shared_in_lists}

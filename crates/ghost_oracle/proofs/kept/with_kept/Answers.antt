@@ -1,6 +1,6 @@
 use Rattle.std.proofs.Common.{◌∙◌, ap, sym, map, subst, All, arith}
 use Rattle.page_state.specs.Rows.{advance_row}
-use Rattle.reference_model.specs.State.{Reference, Shared}
+use Rattle.reference_model.specs.model.State.{Reference, Shared}
 use Rattle.run_list.specs.Runs.{run_map}
 use Rattle.guest_component.specs.View.{runs_of}
 use Rattle.part_types.specs.View.{shared_of, guest_held}

@@ -1,7 +1,7 @@
 use Rattle.std.proofs.Common.{◌≡◌, ℕ, subst, true, false, Some, None}
 use Rattle.page_state.specs.Layouts.{Layout, is_memory}
 use Rattle.page_state.specs.Rows.{advance_row}
-use Rattle.reference_model.specs.Owner.{row_of}
+use Rattle.reference_model.specs.model.Owner.{row_of}
 use Rattle.run_list.specs.Runs.{run_map}
 use Rattle.hypercalls.specs.Stands.{parts_layout, state_of}
 use Rattle.ghost_spec.specs.States.{ghost_state}

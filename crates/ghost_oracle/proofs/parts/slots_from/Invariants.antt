@@ -1,5 +1,5 @@
 use Rattle.std.proofs.Common.{◌≡◌, ℕ, ◌<◌, length, map, get_or}
-use Rattle.reference_model.specs.State.{no_slot}
+use Rattle.reference_model.specs.model.State.{no_slot}
 use Rattle.vm_table.specs.View.{vms_of}
 use Rattle.ghost_spec.specs.States.{slot_in}
 use Rattle.ghost_oracle.proofs.parts.slots_from.Given as goal

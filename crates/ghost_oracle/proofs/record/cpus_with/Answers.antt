@@ -1,6 +1,6 @@
 use Rattle.std.proofs.Common.{ℕ, ap, sym, subst, ◌∙◌, arith}
 use Rattle.std.proofs.lemmas.List.Elements.{All-set}
-use Rattle.reference_model.specs.State.{Cpu, no_cpu, put_at}
+use Rattle.reference_model.specs.model.State.{Cpu, no_cpu, put_at}
 use Rattle.ghost_spec.specs.Kept.{IsKeptCpu}
 use Rattle.ghost_spec.specs.Views.{cpu_in}
 use Rattle.ghost_oracle.specs.Low.{IsLowCpu}

@@ -1,6 +1,6 @@
 use Rattle.std.proofs.Common.{◌≡◌, All}
 use mathlib.Core.Path.{fun_ext}
-use Rattle.reference_model.specs.State.{blank, no_guest}
+use Rattle.reference_model.specs.model.State.{blank, no_guest}
 use Rattle.ghost_spec.specs.States.{guest_in}
 use Rattle.ghost_spec.specs.Used.{guests_in}
 use Rattle.ghost_spec.proofs.Starts.{all-same}

@@ -1,6 +1,6 @@
 use Rattle.std.proofs.Common.{arith}
 use Rattle.std.proofs.lemmas.List.Elements.{All-set}
-use Rattle.reference_model.specs.State.{no_guest}
+use Rattle.reference_model.specs.model.State.{no_guest}
 use Rattle.ghost_spec.specs.Kept.{IsKeptGuest}
 use Rattle.ghost_spec.specs.States.{guest_in}
 use Rattle.ghost_oracle.proofs.Recording.{one_put}

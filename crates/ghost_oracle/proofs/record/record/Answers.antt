@@ -2,7 +2,7 @@ use Rattle.std.proofs.Common.{ℕ, ◌∙◌, ap, arith, length, sym}
 use Rattle.std.specs.Option.{option_copied, option_map}
 use denote.Bor.{Bor}
 use Rattle.page_state.specs.LayoutView.{layout_of}
-use Rattle.reference_model.specs.State.{put_at}
+use Rattle.reference_model.specs.model.State.{put_at}
 use Rattle.part_types.specs.declared.parts.GuestPart.{GuestPart}
 use Rattle.ghost_spec.specs.Used.{rooms_of}
 use Rattle.table_tree.specs.Reading.{count_of}

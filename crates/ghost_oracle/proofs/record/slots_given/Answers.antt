@@ -1,5 +1,5 @@
 use Rattle.std.proofs.Common.{◌≡◌, ℕ, All, map, get_or}
-use Rattle.reference_model.specs.State.{no_slot}
+use Rattle.reference_model.specs.model.State.{no_slot}
 use Rattle.ghost_spec.specs.States.{slot_in}
 use Rattle.ghost_spec.proofs.Starts.{all-same}
 use Rattle.ghost_oracle.proofs.Scratch.{if_ok}

@@ -1,5 +1,5 @@
 use Rattle.std.proofs.Common.{ap, sym, subst, ◌∙◌}
-use Rattle.reference_model.specs.State.{Guest}
+use Rattle.reference_model.specs.model.State.{Guest}
 use Rattle.ghost_spec.specs.Kept.{AreLowFrames, HasLowTables}
 use Rattle.ghost_oracle.proofs.trees.body_with_maplets.Goals as goal
 

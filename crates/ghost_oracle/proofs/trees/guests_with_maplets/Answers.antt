@@ -1,6 +1,6 @@
 use Rattle.std.proofs.Common.{map, ap, sym, subst, ◌∙◌, arith}
 use Rattle.std.proofs.lemmas.List.{take_all}
-use Rattle.reference_model.specs.State.{no_guest}
+use Rattle.reference_model.specs.model.State.{no_guest}
 use Rattle.guest_component.specs.View.{runs_of}
 use Rattle.part_types.specs.View.{guest_held}
 use Rattle.ghost_spec.specs.Kept.{IsKeptGuest}

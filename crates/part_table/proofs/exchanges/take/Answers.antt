@@ -10,7 +10,7 @@ use Rattle.part_table.proofs.Pairs.{first_of}
 use Rattle.part_table.proofs.exchanges.take.Goals as goal
 
 pub swap-requires : goal.swap-requires
-swap-requires g c = (c.requires.table.0, subst (λ n. c.args.k < n) (sym c.requires.table.1) c.requires.part, take_keeps g.row.A.Denot c.args.table.now.shared.key _ _ _ _ c.requires.on c.requires.part)
+swap-requires g c = (c.requires.table.0, subst (λ n. c.args.k < n) (sym c.requires.table.1) c.requires.part, take_keeps g.row.A.Denot c.args.table.now.shared.key.layout _ _ _ _ c.requires.on c.requires.part)
 
 pub exchange-requires : goal.exchange-requires
 exchange-requires g c =

@@ -2,7 +2,7 @@ use Rattle.std.proofs.Common.{refl}
 use Rattle.page_state.specs.LayoutView.{layout_of}
 use Rattle.part_types.specs.Lent.{lent_alone, logs_in}
 use Rattle.part_types.specs.View.{cpu_of}
-use Rattle.reference_model.specs.Rules.{guest_slot}
+use Rattle.reference_model.specs.model.Rules.{guest_slot}
 use Rattle.hypercalls.specs.Uses.{uses_of}
 use Rattle.hypercalls.proofs.Lends.{alone_anywhere}
 use Rattle.hypercalls.proofs.Stepping.{none_full}

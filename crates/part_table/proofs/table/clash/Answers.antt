@@ -10,7 +10,7 @@ use Rattle.part_table.proofs.table.clash.Goals as goal
 
 pub join_seat-requires : goal.join_seat-requires
 join_seat-requires g c =
-    let key : TheLayout = c.args.table.now.shared.key in
+    let key : TheLayout = c.args.table.now.shared.key.layout in
     let v : View g.row.A.Denot = c.one.inside.seat.me.0 in
     let w : View g.row.A.Denot = c.other.inside.seat.me.0 in
     let p = c.one.invariant in
@@ -24,7 +24,7 @@ join_seat-requires g c =
 
 pub load-requires : goal.load-requires
 load-requires g c =
-    let key : TheLayout = c.args.table.now.shared.key in
+    let key : TheLayout = c.args.table.now.shared.key.layout in
     let e = c.join_seat.ensures in
     let slots : ℕ = c.args.table.now.shared.table_id.slots in
     let id : ℕ = c.join_seat.new.seat.id in (

@@ -52,6 +52,7 @@ loop-cpu-preserved g c =
       le_le _ _ _ i.7 c.push_in_room.ensures.room,
       e.count ∙ i.8,
       λ j from. e.others j (λ z. omega arith) ∙ i.9 j (omega arith),
+      e.root.4 ∙ i.10,
     )
 
 pub loop-cpu-init : goal.loop-cpu-init
@@ -69,6 +70,7 @@ loop-cpu-init g c =
       subst (λ (n : ℕ). n ≤ vec_capacity c.args.cpus) count c.requires.room.1,
       count,
       λ j from. refl,
+      refl,
     )
 
 pub returns-clause-ended : goal.returns-clause-ended

@@ -48,6 +48,7 @@ loop-cpu-preserved g c =
           (subst (HaveEnded (n + 1) ps (old ++ last ∷ [])) (sym owns) (one_more_ended n ps old (owns_of old) h.0 last h.0.knows.own i.5 h.1 refl refl)),
       e.count ∙ i.6,
       λ j from. e.others j (λ z. omega arith) ∙ i.7 j (omega arith),
+      e.root.4 ∙ i.8,
     )
 
 pub loop-cpu-init : goal.loop-cpu-init
@@ -61,6 +62,7 @@ loop-cpu-init g c =
       (ap (λ (l : List Ended). length l) r.2, ap (λ (l : List Ended). length (owns_of l)) r.2, λ j p lt _. absurd (omega arith)),
       refl,
       λ j from. refl,
+      refl,
     )
 
 pub returns-clause-ended : goal.returns-clause-ended

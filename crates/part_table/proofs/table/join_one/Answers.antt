@@ -35,7 +35,7 @@ join_seat-requires g c =
     let see = c.pass.view_is in
     let cpu : w.cpu ≡ c.args.cpu = ap (λ (z : Pass). z.knows.cpu) see ∙ (ap (λ (z : Pass). z.knows.cpu) same ∙ h.3) in
     let table : c.pass.inside.seat.table_id ≡ c.args.root.now.table_id = ap (λ (z : Pass). z.table) see ∙ (ap (λ (z : Pass). z.table) same ∙ h.2) in
-    let key : TheLayout = c.args.table.now.shared.key in
+    let key : TheLayout = c.args.table.now.shared.key.layout in
     let few : length v.ended < v.made = subst (λ (m : ℕ). m < v.made) (sym r.2) r.3 in (
       c.requires.table.0,
       table ∙ c.requires.table.0,
@@ -48,7 +48,7 @@ join_seat-requires g c =
 pub returns-clause-root : goal.returns-clause-root
 returns-clause-root g c =
     let e = c.join_seat.ensures in
-    (e.0, e.1 ∙ c.requires.root.0, ap (λ m. m.0.root) e.2 ∙ c.requires.root.1, ap (λ m. m.0.made) e.2)
+    (e.0, e.1 ∙ c.requires.root.0, ap (λ m. m.0.root) e.2 ∙ c.requires.root.1, ap (λ m. m.0.made) e.2, ap (λ m. m.0.begun) e.2)
 
 pub returns-clause-hand : goal.returns-clause-hand
 returns-clause-hand g c = ap (λ m. m.1) c.join_seat.ensures.2

@@ -1,5 +1,5 @@
 use Rattle.std.proofs.Common.{◌∙◌, arith, refl}
-use Rattle.part_table.proofs.TakenApart.{at_boot, row_same}
+use Rattle.part_table.proofs.TakenApart.{ends_in, row_same}
 use Rattle.part_table.proofs.whole.apart.Goals as goal
 
 pub push_guests-slots-requires : goal.push_guests-slots-requires
@@ -15,8 +15,8 @@ returns-clause-slots g c =
     let p = c.args.parts in
     c.push_guests-slots.ensures ∙ row_same {A = g.row.A.Denot} p.vms p.shared p.guests.items c.push_first-slots.result.items c.push_first-slots.ensures.items
 
-pub returns-clause-booted : goal.returns-clause-booted
-returns-clause-booted g c = λ m d is.
+pub returns-clause-end : goal.returns-clause-end
+returns-clause-end g c = λ past.
     let p = c.args.parts in
     let slots = c.push_guests-slots.ensures ∙ row_same {A = g.row.A.Denot} p.vms p.shared p.guests.items c.push_first-slots.result.items c.push_first-slots.ensures.items in
-    at_boot p m d is c.push_guests-slots.result.items p.cpus.items slots refl
+    ends_in p past c.push_guests-slots.result.items p.cpus.items slots refl

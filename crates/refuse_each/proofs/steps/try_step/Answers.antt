@@ -1,5 +1,5 @@
 use Rattle.std.proofs.Common.{sym, subst}
-use Rattle.reference_model.specs.State.{Reference}
+use Rattle.reference_model.specs.model.State.{Reference}
 use Rattle.ghost_spec.specs.Kept.{HasNextGeneration}
 use Rattle.ghost_oracle.proofs.LowParts.{has_next}
 use Rattle.refuse_each.proofs.steps.try_step.Goals as goal

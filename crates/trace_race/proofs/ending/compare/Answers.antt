@@ -1,8 +1,8 @@
 use Rattle.std.proofs.Common.{◌∙◌, ap, subst, sym}
 use Rattle.ghost_spec.specs.States.{ghost_state}
 use Rattle.page_state.specs.LayoutView.{layout_of}
-use Rattle.reference_model.specs.Boot.{boot}
-use Rattle.reference_model.specs.State.{Reference}
+use Rattle.reference_model.specs.model.Boot.{boot}
+use Rattle.reference_model.specs.model.State.{Reference}
 use Rattle.trace_race.specs.Judged.{ComparesAll, HasGenerationsTo}
 use Rattle.trace_race.proofs.Generations.{boot_to}
 use Rattle.trace_race.proofs.Judging.{none_after}

@@ -1,5 +1,6 @@
 use Rattle.std.proofs.Common.{arith, ◌+◌, ◌∙◌, subst, sym}
-use Rattle.trace_race.proofs.Made.{ArePassesTo, pass_given, passes_next}
+use Rattle.trace_race.specs.Made.{AreFirstPasses}
+use Rattle.trace_race.proofs.Made.{pass_given, passes_next}
 use Rattle.trace_race.proofs.making.all_passes.Goals as goal
 
 pub loop-cpu-preserved : goal.loop-cpu-preserved
@@ -13,5 +14,5 @@ loop-cpu-preserved c =
       table = c.pass.ensures.table ∙ i.table;
       count = c.pass.ensures.hands.count ∙ i.count;
       left = λ k more few. c.pass.ensures.hands.others k (λ e. omega (arith, e, more)) ∙ i.left k (omega (arith, more)) few;
-      passes = subst (ArePassesTo c.args.machine.now.table (c.loop-cpu.cpu + 1)) (sym c.in_ok-push.ensures.items) (passes_next c.args.machine.now.table c.loop-cpu.cpu c.loop-cpu.passes.items c.unwrap-pass.result i.passes is);
+      passes = subst (AreFirstPasses c.args.machine.now.table (c.loop-cpu.cpu + 1)) (sym c.in_ok-push.ensures.items) (passes_next c.args.machine.now.table c.loop-cpu.cpu c.loop-cpu.passes.items c.unwrap-pass.result i.passes is);
     }

@@ -1,10 +1,10 @@
-use Rattle.std.proofs.Common.{◌≡◌, drop, length}
-use Rattle.trace_race.specs.Made.{HaveMade}
+use Rattle.std.proofs.Common.{◌≡◌, take}
+use Rattle.trace_race.specs.Made.{HasRun}
 use Rattle.trace_race.proofs.making.make_first.Given as goal
 
 abbrev pub invariant-loop-i : goal.invariant-loop-i
-invariant-loop-i g l =
+invariant-loop-i l =
     record {
-      made : HaveMade l.machine.table l.steps l.replies.items (drop l.i l.steps) l.passes.items;
-      count : length l.replies.items ≡ l.i;
+      layout : l.world.parts.layout ≡ l.fn.world.parts.layout;
+      made : HasRun l.fn.world.parts (take l.i l.steps) l.replies.items l.world.parts;
     }

@@ -1,5 +1,5 @@
 use Rattle.std.proofs.Common.{◌∙◌, sym, ap}
-use Rattle.reference_model.specs.State.{Reference}
+use Rattle.reference_model.specs.model.State.{Reference}
 use Rattle.ghost_oracle.proofs.Comparing.{none_differs}
 use Rattle.world.proofs.WalkedState.{walked_is}
 use Rattle.world.proofs.World.audit.Goals as goal

@@ -2,13 +2,13 @@ use Rattle.std.proofs.Common.{◌≡◌, ◌+◌, Some, ap, ◌∙◌, arith}
 use Rattle.page_state.specs.declared.entry.PageRange.{PageRange}
 use Rattle.descriptor.specs.declared.Prot.TheVariants.{RW}
 use Rattle.descriptor.specs.declared.State.TheVariants.{Owned}
-use Rattle.reference_model.specs.Boot.{host_need, hyp_need, host_root, hyp_root}
+use Rattle.reference_model.specs.model.Boot.{host_need, hyp_need, host_root, hyp_root}
 use Rattle.page_state.specs.EntryTests.{annotation, leaf}
 use Rattle.page_state.specs.Layouts.{Layout, hyp_page}
 use Rattle.page_state.specs.Tables.{need, put}
 use Rattle.reference_model.specs.declared.changes.MapChange.{MapChange}
 use Rattle.hypercalls.specs.Booted.{layout_for}
-use Rattle.reference_model.specs.Changes.{edit_of}
+use Rattle.reference_model.specs.model.Changes.{edit_of}
 use Rattle.world.proofs.boot.is_carve_enough.Goals as goal
 
 pub returns : goal.returns

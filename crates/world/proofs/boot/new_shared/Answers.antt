@@ -5,7 +5,7 @@ use Rattle.page_state.specs.Geometries.{levels_below}
 use Rattle.page_state.specs.Regions.{has_memory}
 use Rattle.page_state.specs.declared.row.Row.{Row}
 use Rattle.owner_table.specs.Rows.{row_at}
-use Rattle.reference_model.specs.State.{plain_row}
+use Rattle.reference_model.specs.model.State.{plain_row}
 use Rattle.world.proofs.Merging.{if_not_ok}
 use Rattle.world.proofs.boot.new_shared.Goals as goal
 

@@ -6,14 +6,14 @@ use Rattle.page_state.specs.Regions.{end_of}
 use Rattle.page_state.specs.Rows.{HasPageBelow}
 use Rattle.page_state.specs.declared.row.Row.{Row}
 use Rattle.owner_table.specs.Rows.{row_at}
-use Rattle.reference_model.specs.ChangeLaws.{Fits}
+use Rattle.reference_model.specs.help.ChangeLaws.{Fits}
 use Rattle.part_types.specs.Logs.{IsNewLog}
 use Rattle.world.specs.declared.boot.BootFault.{BootFault}
 use Rattle.world.specs.declared.boot.BootFault.TheVariants.{NoMemory}
 use Rattle.reference_model.specs.declared.changes.Changes.{Changes}
-use Rattle.reference_model.specs.Boot.{boot_shared, pool_row}
-use Rattle.reference_model.specs.Changes.{no_changes}
-use Rattle.reference_model.specs.Step.{shared_after}
+use Rattle.reference_model.specs.model.Boot.{boot_shared, pool_row}
+use Rattle.reference_model.specs.model.Changes.{no_changes}
+use Rattle.reference_model.specs.model.Step.{shared_after}
 use Rattle.part_types.specs.View.{shared_of, depth_of, rows_given}
 use Rattle.hypercalls.specs.Booted.{layout_for}
 use Rattle.world.proofs.Boots.{enough_at, after_is, rows_are, told, known_rows, host_edit_is, hyp_edit_is}

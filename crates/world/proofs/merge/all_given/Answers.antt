@@ -1,5 +1,5 @@
 use Rattle.std.proofs.Common.{rules, ◌≡◌, ℕ, [], drop, slice_index}
-use Rattle.reference_model.specs.Parts.{vm_part, shared_part, guest_part}
+use Rattle.reference_model.specs.model.Parts.{vm_part, shared_part, guest_part}
 use Rattle.world.specs.Merges.{log_at}
 use Rattle.world.specs.inner.Merging.{by, on}
 use Rattle.world.proofs.Merging.{none_left}

@@ -1,7 +1,7 @@
 use Rattle.std.proofs.Common.{rules, ◌≡◌, true, drop}
 use Rattle.std.specs.Prelude.{Some}
-use Rattle.reference_model.specs.Parts.{vm_part, shared_part, guest_part}
-use Rattle.reference_model.specs.Rules.{call_uses}
+use Rattle.reference_model.specs.model.Parts.{vm_part, shared_part, guest_part}
+use Rattle.reference_model.specs.model.Rules.{call_uses}
 use Rattle.world.specs.inner.Merging.{first_of}
 use Rattle.world.proofs.Merging.{parts_next}
 use Rattle.world.proofs.merge.is_next_on_parts.Goals as goal

@@ -2,8 +2,8 @@ use Rattle.std.proofs.Common.{rules, ◌≡◌, ◌≢◌, ◌<◌, ◌≤◌, t
 use Rattle.std.specs.Prelude.{Some, None, List}
 use Rattle.std.proofs.lemmas.Option.{slice_get_past}
 use Rattle.call_table.specs.declared.reply.Call.{Call}
-use Rattle.reference_model.specs.Parts.{Part}
-use Rattle.reference_model.specs.Rules.{call_uses}
+use Rattle.reference_model.specs.model.Parts.{Part}
+use Rattle.reference_model.specs.model.Rules.{call_uses}
 use Rattle.world.specs.inner.Merging.{by, first_of, left, on}
 use Rattle.world.proofs.Merging.{first_read, get_of, next_first, next_made, next_same}
 use Rattle.world.proofs.merge.next_by.Goals as goal

@@ -30,7 +30,7 @@ pub returns : goal.returns
 returns g c =
     let b = c.all_back-passes.ensures in
     let e = c.drop_with.ensures in
-    subst (λ (m : Machine). HasEndOf g.row.A.Denot m.table.layout m.passes c.args.given.items) c.self.view_is (
+    subst (λ (m : Machine). HasEndOf g.row.A.Denot m.table m.passes c.args.given.items) c.self.view_is (
       e.0,
       e.1,
       end_given c.all_back-passes.result.items c.args.given.items b.back e.2,

@@ -90,13 +90,13 @@ ended-world-requires-clause-guests g c = c.in-Ok.ensures.guests
 
 pub returns-clause-end : goal.returns-clause-end
 returns-clause-end g c =
-    subst (λ (t : Opened). IsEndFor {A = g.row.A.Denot} t.layout (slots_of c.ended-world.result.parts) c.ended-world.result.parts.cpus.items (OfGiven c.args.given.items)) (ap (λ (m : Machine). m.table) c.self.view_is)
+    subst (λ (t : Opened). IsEndFor {A = g.row.A.Denot} t (slots_of c.ended-world.result.parts) c.ended-world.result.parts.cpus.items (OfGiven c.args.given.items)) (ap (λ (m : Machine). m.table) c.self.view_is)
     (end_given c.all_back-passes.result.items c.args.given.items c.all_back-passes.ensures.back c.ended-world.ensures.end)
 
 pub returns-clause-fresh : goal.returns-clause-fresh
 returns-clause-fresh g c =
     let cpus : List CpuState = c.ended-world.result.parts.cpus.items in
-    subst (λ (m : Machine). AreFreshAt m.table.layout m.passes cpus) c.self.view_is
+    subst (λ (m : Machine). AreFreshAt m.table m.passes cpus) c.self.view_is
     (end_fresh c.self.inside.table c.self.inside.passes.items c.all_back-passes.result.items cpus c.self.invariant.fresh c.all_back-passes.ensures.stays c.ended-world.ensures.end.own)
 
 pub returns-clause-missing : goal.returns-clause-missing

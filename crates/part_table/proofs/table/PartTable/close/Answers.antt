@@ -1,7 +1,7 @@
-use Rattle.std.proofs.Common.{sym, ap, subst, ◌∙◌}
+use Rattle.std.proofs.Common.{◌≡◌, sym, ap, subst, ◌∙◌}
 use Rattle.page_state.specs.declared.layout.Layout.{Layout as TheLayout}
 use Rattle.part_table.specs.Endings.{ForEach, IsEndFor}
-use Rattle.part_table.specs.Passes.{Opened}
+use Rattle.part_table.specs.Passes.{Opened, opened_as}
 use Rattle.part_table.proofs.table.PartTable.close.Goals as goal
 
 pub end-found-requires-clause-home : goal.end-found-requires-clause-home
@@ -29,4 +29,7 @@ pub returns-clause-layout : goal.returns-clause-layout
 returns-clause-layout g c = ap (λ (o : Opened). o.layout) c.self.view_is
 
 pub returns-clause-end : goal.returns-clause-end
-returns-clause-end g c = subst (λ (l : TheLayout). IsEndFor l c.end-found.result.0.items c.end-found.result.1.items (ForEach c.args.passes.items)) (c.self.invariant.key_is ∙ ap (λ (o : Opened). o.layout) c.self.view_is) c.end-found.ensures
+returns-clause-end g c =
+    let i = c.self.invariant in
+    let is : opened_as c.self.inside.root.table_id c.self.inside.table.shared.key.layout c.self.inside.root.me.0.begun ≡ c.args.self = (λ k. opened_as (i.same k) (i.key_is k) (i.begun k)) ∙ c.self.view_is in
+    subst (λ (t : Opened). IsEndFor t c.end-found.result.0.items c.end-found.result.1.items (ForEach c.args.passes.items)) is c.end-found.ensures

@@ -1,7 +1,7 @@
-use Rattle.std.proofs.Common.{sym, ap, subst, ◌∙◌}
+use Rattle.std.proofs.Common.{◌≡◌, sym, ap, subst, ◌∙◌}
 use Rattle.page_state.specs.declared.layout.Layout.{Layout as TheLayout}
 use Rattle.part_table.specs.Endings.{HasEnd}
-use Rattle.part_table.specs.Passes.{Opened}
+use Rattle.part_table.specs.Passes.{Opened, opened_as}
 use Rattle.part_table.proofs.table.PartTable.drop_with.Goals as goal
 
 pub drop_all-requires-clause-home : goal.drop_all-requires-clause-home
@@ -23,4 +23,7 @@ drop_all-requires-clause-all g c =
     c.requires.count ∙ (ap (λ (o : Opened). o.layout.config.cpus) (sym c.self.view_is) ∙ ap (λ (l : TheLayout). l.config.cpus) (sym i.key_is))
 
 pub returns : goal.returns
-returns g c = subst (λ (l : TheLayout). HasEnd g.row.A.Denot l c.args.passes.items) (c.self.invariant.key_is ∙ ap (λ (o : Opened). o.layout) c.self.view_is) c.drop_all.ensures
+returns g c =
+    let i = c.self.invariant in
+    let is : opened_as c.self.inside.root.table_id c.self.inside.table.shared.key.layout c.self.inside.root.me.0.begun ≡ c.args.self = (λ k. opened_as (i.same k) (i.key_is k) (i.begun k)) ∙ c.self.view_is in
+    subst (λ (t : Opened). HasEnd g.row.A.Denot t c.args.passes.items) is c.drop_all.ensures

@@ -1,7 +1,7 @@
 use Rattle.std.proofs.Common.{arith, ◌≡◌, ◌∙◌, ◌<◌, ℕ, Bool, true, false, Option, Some, None, get_or, length, refl, slice_get, sym, ap, subst, Global}
 use Rattle.call_table.specs.declared.step.Step.{Step}
-use Rattle.reference_model.specs.Rules.{guest_slot, names}
-use Rattle.reference_model.specs.Reached.{IsReached}
+use Rattle.reference_model.specs.model.Rules.{guest_slot, names}
+use Rattle.reference_model.specs.model.Reached.{IsReached}
 use Rattle.part_types.specs.declared.parts.GuestPart.{GuestPart}
 use Rattle.part_types.specs.declared.parts.CpuState.{CpuState}
 use Rattle.part_types.specs.Lent.{Lent, lent_alone, lent_both, lent_guest, lent_shared, lent_vms, used_in}
