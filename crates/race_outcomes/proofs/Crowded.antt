@@ -6,7 +6,7 @@ use Rattle.std.proofs.lemmas.List.{length-map, length_push, get_or-map, take-app
 use Rattle.std.proofs.lemmas.List.Elements.{All-append, All-contains, All-cons, All-map, All-nil, All-weaker, Contains-append_left, Contains-push}
 use Rattle.page_state.specs.Layouts.{Layout}
 use Rattle.page_state.specs.LayoutView.{layout_of}
-use Rattle.reference_model.specs.State.{Reference}
+use Rattle.reference_model.specs.model.State.{Reference}
 use Rattle.race_outcomes.specs.declared.finding.OutcomesFault.{OutcomesFault}
 use Rattle.race_outcomes.specs.declared.finding.OutcomesFault.TheVariants.{TooMany, Generation, NoMemory}
 use Rattle.race_outcomes.specs.declared.node.Node.{Node}

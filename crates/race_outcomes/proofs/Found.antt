@@ -7,7 +7,7 @@ use Rattle.std.proofs.lemmas.List.Elements.{All-append, All-contains, All-cons, 
 use Rattle.std.proofs.lemmas.List.Quantifiers.{all_pairs_push}
 use Rattle.std.proofs.lemmas.Option.{slice_get-get_or}
 use Rattle.page_state.specs.Layouts.{Layout}
-use Rattle.reference_model.specs.State.{Reference}
+use Rattle.reference_model.specs.model.State.{Reference}
 use Rattle.ghost_spec.specs.States.{ghost_state}
 use Rattle.call_table.specs.declared.reply.Reply.{Reply}
 use Rattle.race_outcomes.specs.declared.finding.Outcome.{Outcome}
@@ -15,7 +15,8 @@ use Rattle.race_outcomes.specs.declared.finding.OutcomesFault.{OutcomesFault}
 use Rattle.race_outcomes.specs.declared.finding.OutcomesFault.TheVariants.{TooMany, Generation, NoMemory}
 use Rattle.race_outcomes.specs.declared.node.Node.{Node}
 use Rattle.race_outcomes.specs.declared.node.Turn.{Turn}
-use Rattle.race_outcomes.specs.Layers.{AreOutcomes, IsLayer, IsOutcomeAdded, IsReached, IsToldBy, IsTurnFault, point_of, replies_of}
+use Rattle.race_outcomes.specs.Kept.{IsTurnFault}
+use Rattle.race_outcomes.specs.Layers.{AreOutcomes, IsLayer, IsOutcomeAdded, IsReached, IsToldBy, point_of, replies_of}
 use Rattle.race_outcomes.specs.Orders.{AllOutcomes, AreWanted, Gives, GivesWanted, IsLastGeneration, IsStepFault, Leads, NoneWanted, Point, first_point, told_along, told_to}
 use Rattle.race_outcomes.proofs.Counts.{order_count}
 use Rattle.race_outcomes.proofs.Members.{from_map, to_map}

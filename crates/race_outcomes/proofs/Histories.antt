@@ -7,10 +7,10 @@ use Rattle.page_state.specs.Layouts.{Layout}
 use Rattle.call_table.specs.declared.reply.Call.{Call}
 use Rattle.call_table.specs.declared.reply.Reply.{Reply}
 use Rattle.call_table.specs.declared.step.Step.{Step}
-use Rattle.reference_model.specs.History.{calls_by}
-use Rattle.reference_model.specs.Run.{Runs}
-use Rattle.reference_model.specs.State.{Reference}
-use Rattle.reference_model.specs.Step.{Steps}
+use Rattle.reference_model.specs.model.History.{calls_by}
+use Rattle.reference_model.specs.model.Run.{Runs}
+use Rattle.reference_model.specs.model.State.{Reference}
+use Rattle.reference_model.specs.model.Step.{Steps}
 use Rattle.race_outcomes.specs.declared.node.Turn.{Turn}
 use Rattle.race_outcomes.specs.Laws.{OutcomesAreRuns}
 use Rattle.race_outcomes.specs.Orders.{IsNext, Leads, Point, first_point, told_to}

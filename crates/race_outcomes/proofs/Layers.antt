@@ -6,11 +6,11 @@ use Rattle.std.proofs.lemmas.List.{append_assoc, append-nil, length-append, map-
 use Rattle.std.proofs.lemmas.List.Elements.{All-append, All-contains, All-cons, All-nil, All-weaker, Contains-append_left, Contains-push}
 use Rattle.page_state.specs.Layouts.{Layout}
 use Rattle.page_state.specs.LayoutView.{layout_of}
-use Rattle.reference_model.specs.State.{Reference}
+use Rattle.reference_model.specs.model.State.{Reference}
 use Rattle.ghost_spec.specs.States.{ghost_state}
 use Rattle.race_outcomes.specs.declared.node.Node.{Node}
 use Rattle.race_outcomes.specs.declared.node.Turn.{Turn}
-use Rattle.race_outcomes.specs.Layers.{AreNext, HasStep, IsAdded, IsLayer, IsReached, IsReady, IsSpread, IsStepAt, IsStepOf, point_of, points_of}
+use Rattle.race_outcomes.specs.Layers.{AreNext, HasStep, HaveOneLayout, IsAdded, IsLayer, IsReached, IsReady, IsSpread, IsStepAt, IsStepOf, point_of, points_of}
 use Rattle.race_outcomes.specs.Orders.{AreWanted, Leads, Makes, Point, first_point, none_told}
 use Rattle.race_outcomes.proofs.Members.{from_map}
 use Rattle.race_outcomes.proofs.Orders.{IsLast, leads_last, leads_length, leads_more, makes_once, makes_wanted, none_length}
@@ -65,15 +65,23 @@ module _ (turns : List Turn) (wanted : List (Option (Vec ℕ Global))) where
 
   module _ (l : Layout) (s : Reference) where
     -- a reached node is ready for a step
-    pub reached_ready : (count : ℕ) (n : Node) → All (λ t. t.cpu < l.config.cpus) turns → IsReached turns wanted l s count n → IsReady turns wanted n
-    reached_ready count n cpus r = record {
+    pub reached_ready : (count : ℕ) (n : Node) → All (λ t. t.cpu < l.config.cpus) turns → length wanted ≡ length turns → IsReached turns wanted l s count n → IsReady turns wanted n
+    reached_ready count n cpus each r = record {
       count = leads_length l turns n.order.items (first_point s turns) (point_of n) r.leads ∙ none_length turns;
+      wanted_count = each;
       cpus = subst (λ (k : Layout). All (λ (t : Turn). t.cpu < k.config.cpus) turns) (sym r.layout) cpus;
       are_wanted = r.are_wanted;
     }
 
-    pub layer_ready : (count : ℕ) (ns : List Node) → All (λ t. t.cpu < l.config.cpus) turns → IsLayer turns wanted l s count ns → All (IsReady turns wanted) ns
-    layer_ready count ns cpus h = All-weaker (IsReached turns wanted l s count) (IsReady turns wanted) (λ n r. reached_ready count n cpus r) ns h.sound
+    pub layer_ready : (count : ℕ) (ns : List Node) → All (λ t. t.cpu < l.config.cpus) turns → length wanted ≡ length turns → IsLayer turns wanted l s count ns → All (IsReady turns wanted) ns
+    layer_ready count ns cpus each h = All-weaker (IsReached turns wanted l s count) (IsReady turns wanted) (λ n r. reached_ready count n cpus each r) ns h.sound
+
+    -- reached nodes are of one layout
+    pub layer_layouts : (count : ℕ) (ns : List Node) → IsLayer turns wanted l s count ns → HaveOneLayout ns
+    layer_layouts count ns h m n there here =
+        let was = All-contains (IsReached turns wanted l s count) ns m h.sound there in
+        let is = All-contains (IsReached turns wanted l s count) ns n h.sound here in
+        was.layout ∙ sym is.layout
 
     -- the first layer
     pub layer_first : (n : Node) → layout_of n.state.layout ≡ l → ghost_state n.state ≡ s → n.told.items ≡ none_told turns → n.order.items ≡ [] → IsLayer turns wanted l s 0 (n ∷ [])

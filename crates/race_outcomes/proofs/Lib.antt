@@ -3,6 +3,7 @@ pub mod Crowded
 pub mod Found
 pub mod Histories
 pub mod Indexed
+pub mod Known
 pub mod Layers
 pub mod Members
 pub mod Orders

@@ -3,7 +3,7 @@ use Rattle.std.proofs.Common.{◌≡◌, ◌≢◌, ℕ, ap, ◌∙◌, sym, len
 use Rattle.std.proofs.lemmas.List.{ext_get_or}
 use Rattle.page_state.specs.LayoutView.{layout_of}
 use Rattle.page_state.specs.Layouts.{Layout}
-use Rattle.reference_model.specs.State.{Reference, Rooms}
+use Rattle.reference_model.specs.model.State.{Reference, Rooms}
 use Rattle.ghost_spec.specs.declared.lists.GhostLists.{GhostLists}
 use Rattle.ghost_spec.specs.declared.lists.GhostRooms.{GhostRooms}
 use Rattle.ghost_spec.specs.States.{IsKept, contents_in, ghost_state, rooms_in}

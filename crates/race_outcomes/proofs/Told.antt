@@ -9,10 +9,10 @@ use Rattle.call_table.specs.declared.reply.Refusal.TheVariants.{NoMemory}
 use Rattle.call_table.specs.declared.reply.Reply.{Reply}
 use Rattle.call_table.specs.declared.reply.Reply.TheVariants.{Done, Refused}
 use Rattle.reference_model.proofs.Steps.{refusal_keeps, step_exists}
-use Rattle.reference_model.specs.Rules.{guest_slot, may_grow, names}
-use Rattle.reference_model.specs.State.{Contents, Reference, Rooms}
-use Rattle.reference_model.specs.Step.{Answered, IsStoredAnswer, Steps, answer, fails, foretell, is_full, made, rooms_by, rule_of, stored, used_by, with_used}
-use Rattle.reference_model.specs.Used.{Used, UsedRooms, put_rooms, used_of}
+use Rattle.reference_model.specs.model.Rules.{guest_slot, may_grow, names}
+use Rattle.reference_model.specs.model.State.{Contents, Reference, Rooms}
+use Rattle.reference_model.specs.model.Step.{Answered, IsStoredAnswer, Steps, answer, fails, foretell, is_full, made, rooms_by, rule_of, stored, used_by, with_used}
+use Rattle.reference_model.specs.model.Used.{Used, UsedRooms, put_rooms, used_of}
 use Rattle.ghost_judge.specs.Judgements.{is_done}
 use Rattle.ghost_spec.proofs.Foretold.{foretold-answer}
 use Rattle.race_outcomes.specs.declared.node.Turn.{Turn}

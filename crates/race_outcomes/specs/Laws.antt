@@ -6,10 +6,10 @@ use Rattle.call_table.specs.declared.reply.Refusal.TheVariants.{Contended, LogFu
 use Rattle.call_table.specs.declared.reply.Reply.{Reply}
 use Rattle.call_table.specs.declared.reply.Reply.TheVariants.{Refused}
 use Rattle.call_table.specs.declared.step.Step.{Step}
-use Rattle.reference_model.specs.History.{calls_by}
-use Rattle.reference_model.specs.Run.{Runs}
-use Rattle.reference_model.specs.State.{Reference}
-use Rattle.reference_model.specs.Step.{Steps}
+use Rattle.reference_model.specs.model.History.{calls_by}
+use Rattle.reference_model.specs.model.Run.{Runs}
+use Rattle.reference_model.specs.model.State.{Reference}
+use Rattle.reference_model.specs.model.Step.{Steps}
 use Rattle.race_outcomes.specs.declared.node.Turn.{Turn}
 use Rattle.race_outcomes.specs.Orders.{Gives, IsOutcome}
 
@@ -27,7 +27,7 @@ places_of cpu first (t ∷ more) = if t.cpu == cpu then first ∷ places_of cpu 
 abbrev pub OrdersKeep : Type 0
 OrdersKeep = (l : Layout) (s : Reference) (turns : List Turn) (order : List ℕ) (replies : List Reply) → Gives l s turns order replies → (cpu : ℕ) → filter (λ i. is_of cpu (slice_get turns i)) order ≡ places_of cpu 0 turns
 
--- a reply that tells of no full log, and of no part that was taken
+-- a reply that isn't of a full log, nor of a part that was taken
 abbrev pub IsPlain : Reply → Type 0
 IsPlain (Refused LogFull) = ⊥
 IsPlain (Refused Contended) = ⊥
@@ -38,7 +38,7 @@ abbrev pub is_want : Reply → Bool
 is_want (Refused NoMemory) = true
 is_want other = false
 
--- the replies are plain, and just the steps that are told `nomemory` find no memory
+-- the replies are plain, and exactly the steps with the reply `nomemory` find no memory
 abbrev pub AreTheirs : List Turn → List Reply → Type 0
 AreTheirs [] replies = Unit {0}
 AreTheirs (t ∷ more) [] = Unit {0}
@@ -55,7 +55,7 @@ pub record AreCalls (turns : List Turn) (replies : List Reply) (log : List Call)
   pub count : length replies ≡ length turns
   pub each : (cpu : ℕ) → map (λ c. (c.step, c.reply)) (calls_by cpu log) ≡ answers_of cpu turns replies
 
--- Where a list of calls is a run of the model, the replies of its steps are an outcome, unless one tells of a full log or of a part that was taken
+-- If a list of calls is a run of the model, the replies of its steps are an outcome, unless one is of a full log or of a part that was taken
 abbrev pub RunsAreOutcomes : Type 0
 RunsAreOutcomes = (l : Layout) (s t : Reference) (turns : List Turn) (replies : List Reply) (log : List Call) → Runs (Steps l) s log t → AreCalls turns replies log → AreTheirs turns replies → IsOutcome l s turns replies
 

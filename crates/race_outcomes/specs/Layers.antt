@@ -3,7 +3,7 @@ use Rattle.std.specs.Prelude.{◌≡◌, ◌≢◌, ◌⊎◌, ℕ, ◌+◌, ◌
 use Rattle.std.specs.Global.{Global}
 use Rattle.page_state.specs.Layouts.{Layout}
 use Rattle.page_state.specs.LayoutView.{layout_of}
-use Rattle.reference_model.specs.State.{Reference}
+use Rattle.reference_model.specs.model.State.{Reference}
 use Rattle.ghost_spec.specs.declared.lists.GhostRooms.{GhostRooms}
 use Rattle.ghost_spec.specs.States.{ghost_state}
 use Rattle.call_table.specs.declared.reply.Refusal.TheVariants.{Perm, NoVm, Busy, Invalid, NoPool}
@@ -53,6 +53,10 @@ pub record AreSameRooms (a b : GhostRooms) : Type 0 where
 abbrev pub AreApart : Node → Node → Type 0
 AreApart m n = layout_of m.state.layout ≡ layout_of n.state.layout → point_of m ≢ point_of n
 
+-- nodes are of one layout
+abbrev pub HaveOneLayout : List Node → Type 0
+HaveOneLayout ns = (m n : Node) → Contains ns m → Contains ns n → layout_of m.state.layout ≡ layout_of n.state.layout
+
 -- a node is at another point than each of these
 abbrev pub IsApartFrom : List Node → Node → Type 0
 IsApartFrom ns n = All (λ m. AreApart m n) ns
@@ -86,12 +90,6 @@ IsAddFault limit old node (TooMany made) = IsOver limit old node made
 IsAddFault limit old node Generation = ⊥
 IsAddFault limit old node NoMemory = Unit {0}
 
--- why a step isn't made: a generation, or memory
-abbrev pub IsTurnFault : Reference → Turn → OutcomesFault → Type 0
-IsTurnFault s turn (TooMany made) = ⊥
-IsTurnFault s turn Generation = IsLastGeneration s turn
-IsTurnFault s turn NoMemory = Unit {0}
-
 -- at a place the step comes next, and releases a VM whose generation is the greatest u64
 abbrev pub EndsAt : List Turn → Node → ℕ → Type 0
 EndsAt turns m place = (turn : Turn) × IsNext turns m.told.items place turn × IsLastGeneration (ghost_state m.state) turn
@@ -102,9 +100,10 @@ IsPlaceFault turns m place Generation = EndsAt turns m place
 IsPlaceFault turns m place NoMemory = Unit {0}
 
 module _ (turns : List Turn) (wanted : List (Option (Vec ℕ Global))) where
-  -- a node has a reply for each step, or none yet; each step is of one of the layout's CPUs; and the replies are wanted
+  -- a node has a reply for each step, or none yet, and for each something or nothing is wanted; each step is of one of the layout's CPUs; and the replies are wanted
   pub record IsReady (n : Node) : Type 0 where
     pub count : length n.told.items ≡ length turns
+    pub wanted_count : length wanted ≡ length turns
     pub cpus : All (λ t. t.cpu < n.state.layout.config.cpus) turns
     pub are_wanted : AreWanted wanted n.told.items
 
@@ -140,7 +139,7 @@ module _ (turns : List Turn) (wanted : List (Option (Vec ℕ Global))) where
   IsSpreadFault limit m old Generation = (place : ℕ) × EndsAt turns m place
   IsSpreadFault limit m old NoMemory = Unit {0}
 
-  -- why the nodes one step further aren't told: they are more than may be, all at different points
+  -- why the nodes one step further aren't given: they are more than the limit, all at different points
   pub record AreOver (limit : ℕ) (old : List Node) (made : ℕ) : Type 0 where
     pub new : List Node
     pub more : limit < length new
@@ -173,7 +172,7 @@ module _ (turns : List Turn) (wanted : List (Option (Vec ℕ Global))) where
       pub sound : All (IsReached count) ns
       pub complete : (order : List ℕ) (p : Point) → length order ≡ count → Leads l turns (first_point s turns) order p → AreWanted wanted p.told → Contains (points_of ns) p
 
--- an outcome is what a node was told, with its order
+-- an outcome has the replies of a node, with its order
 pub record IsToldBy (n : Node) (o : Outcome) : Type 0 where
   pub told : n.told.items ≡ map Some o.replies.items
   pub order : o.order.items ≡ n.order.items
@@ -196,6 +195,6 @@ pub record AreOutcomes (ns : List Node) (os : List Outcome) : Type 0 where
 abbrev pub IsFirstLayer : List Turn → Layout → Reference → List Node → Type 0
 IsFirstLayer turns l s ns = (wanted : List (Option (Vec ℕ Global))) → IsLayer turns wanted l s 0 ns
 
--- a step is made, and its reply told behind those before it
+-- a step is made, and its reply comes after those before it
 abbrev pub TellsMore : Layout → Reference → Turn → List Reply → List Reply → Reference → Type 0
 TellsMore l s turn old new t = (r : Reply) × (new ≡ old ++ r ∷ []) × ((r, t) ≡ told_to l s turn)

@@ -6,9 +6,9 @@ use Rattle.call_table.specs.declared.reply.Refusal.TheVariants.{NoMemory as Want
 use Rattle.call_table.specs.declared.reply.Reply.{Reply}
 use Rattle.call_table.specs.declared.reply.Reply.TheVariants.{Refused}
 use Rattle.call_table.specs.Texts.{text_of_reply}
-use Rattle.reference_model.specs.Rules.{may_grow}
-use Rattle.reference_model.specs.State.{Reference}
-use Rattle.reference_model.specs.Step.{foretell}
+use Rattle.reference_model.specs.model.Rules.{may_grow}
+use Rattle.reference_model.specs.model.State.{Reference}
+use Rattle.reference_model.specs.model.Step.{foretell}
 use Rattle.ghost_judge.specs.Judgements.{is_done}
 use Rattle.ghost_spec.specs.Kept.{HasNextGeneration}
 use Rattle.race_outcomes.specs.declared.finding.Outcome.{Outcome}
@@ -20,11 +20,11 @@ use Rattle.race_outcomes.specs.declared.node.Turn.{Turn}
 abbrev pub is_wanting : Turn → Reply → Bool
 is_wanting turn reply = turn.wants && may_grow turn.step && is_done reply
 
--- it is told `nomemory`, and nothing but the logs changes; `told` is what the model says of it where there is memory
+-- its reply is `nomemory`, and nothing but the logs changes; `told` is the model's reply if there is memory
 abbrev pub wanting : Reference → Reply × Reference → Reply × Reference
 wanting s told = (Refused WantsMemory, record { contents = s.contents; rooms = told.1.rooms })
 
--- what a step is told by the model, and the state after it
+-- the model's reply to a step, and the state after it
 unfoldable pub told_to : Layout → Reference → Turn → Reply × Reference
 told_to l s turn = let told = foretell l s turn.cpu turn.step in if is_wanting turn told.0 then wanting s told else told
 
@@ -72,7 +72,7 @@ pub record Gives (l : Layout) (s : Reference) (turns : List Turn) (order : List 
 abbrev pub IsOutcome : Layout → Reference → List Turn → List Reply → Type 0
 IsOutcome l s turns replies = (order : List ℕ) × Gives l s turns order replies
 
--- what is wanted of a reply, where anything is, is its text
+-- the reply has the wanted text, if one is wanted
 abbrev pub IsWanted : Option (Vec ℕ Global) → Option Reply → Type 0
 IsWanted (Some text) (Some r) = text_of_reply r ≡ text.items
 IsWanted other told = Unit {0}
@@ -101,7 +101,7 @@ abbrev pub IsExplained : Layout → Reference → List Turn → List (Option (Ve
 IsExplained l s turns wanted None = NoneWanted l s turns wanted
 IsExplained l s turns wanted (Some order) = GivesWanted l s turns wanted order.items
 
--- what steps made in order are told, and the state after them
+-- the replies to steps made in order, and the state after them
 abbrev pub told_along : Layout → Reference → List Turn → List Reply × Reference
 told_along l s [] = ([], s)
 told_along l s (t ∷ more) =
@@ -137,7 +137,7 @@ module _ (l : Layout) (s : Reference) (turns : List Turn) where
     pub next : IsNext turns point.told place turn
     pub last : IsLastGeneration point.state turn
 
-  -- why outcomes aren't told
+  -- why there is no list of outcomes
   abbrev pub IsOutcomesFault : List (Option (Vec ℕ Global)) → ℕ → OutcomesFault → Type 0
   IsOutcomesFault wanted limit (TooMany made) = HasMorePoints wanted limit made
   IsOutcomesFault wanted limit Generation = ReachesLastGeneration

@@ -1,9 +1,9 @@
-//! What a step is told by the model, and the state after it.
+//! The model's reply to a step, and the state after it.
 ghost use Rattle.std.specs.Prelude.{◌≡◌, ◌<◌, IfErr, IfOk};
 ghost use Rattle.page_state.specs.LayoutView.{layout_of};
-ghost use Rattle.reference_model.specs.Step.{foretell};
+ghost use Rattle.reference_model.specs.model.Step.{foretell};
 ghost use Rattle.ghost_spec.specs.States.{ghost_state};
-ghost use Rattle.race_outcomes.specs.Layers.{IsTurnFault};
+ghost use Rattle.race_outcomes.specs.Kept.{IsTurnFault};
 ghost use Rattle.race_outcomes.specs.Orders.{is_wanting, told_to as told_to_of};
 
 use crate::finding::OutcomesFault;
@@ -80,7 +80,7 @@ fn exchanged(state: Ghost, after: Ghost) -> Ghost
     Ghost::of_kept(lists)
 }
 
-/// What a step is told, and the state after it.
+/// The reply to a step, and the state after it.
 pub(crate) fn told_to(
     alloc: Global,
     state: &Ghost,

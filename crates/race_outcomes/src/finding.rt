@@ -1,10 +1,11 @@
-//! All that CPUs may be told, and whether what they were told is that.
+//! All replies that CPUs may get, and whether the given ones are among them.
 ghost use Rattle.std.specs.Prelude.{◌≡◌, ◌≢◌, ◌↔◌, ◌<◌, ◌++◌, ◌∷◌, ℕ, List, [], All, Contains, IfErr, IfOk, IsTrue, MatchOption, OnOk, Option, Some, Vec, length, map};
 ghost use Rattle.std.specs.Global.{Global};
 ghost use Rattle.page_state.specs.LayoutView.{layout_of};
 ghost use Rattle.ghost_spec.specs.States.{ghost_state};
 ghost use Rattle.call_table.specs.declared.reply.Reply.{Reply as TheReply};
-ghost use Rattle.race_outcomes.specs.Layers.{AreOutcomes, IsFirstLayer, IsLayer, IsOutcomeAdded, IsToldBy, IsTurnFault, TellsMore, replies_of};
+ghost use Rattle.race_outcomes.specs.Kept.{IsTurnFault};
+ghost use Rattle.race_outcomes.specs.Layers.{AreOutcomes, IsFirstLayer, IsLayer, IsOutcomeAdded, IsToldBy, TellsMore, replies_of};
 ghost use Rattle.race_outcomes.specs.Orders.{AllOutcomes, IsExplained, IsOutcomesFault, IsStepFault, told_along};
 
 use crate::answer::told_to;
@@ -14,8 +15,9 @@ use call_table::Reply;
 use ghost_spec::state::Ghost;
 use std::alloc::{AllocError, Global};
 use std::mem;
+use trace_reader::Progress;
 
-/// Why outcomes aren't told.
+/// Why there is no list of outcomes.
 #[derive(Clone, Copy, PartialEq, Debug)]
 pub enum OutcomesFault {
     /// After so many steps there are more points than the limit: states of the model with the replies so far.
@@ -26,7 +28,7 @@ pub enum OutcomesFault {
     NoMemory,
 }
 
-/// What CPUs may be told.
+/// The replies that CPUs may get.
 #[derive(Drop)]
 pub struct Outcome {
     /// The reply of each step, by its place in the list of all steps.
@@ -63,12 +65,13 @@ fn first_nodes(alloc: Global, state: &Ghost, turns: &[Turn]) -> Result<Vec<Node>
 }
 
 /// The nodes where all orders of all steps lead.
-fn last_layer(
+fn last_layer<P: Progress>(
     alloc: Global,
     state: &Ghost,
     turns: &[Turn],
     wanted: &[Option<Vec<u8>>],
     limit: usize,
+    progress: &P,
 ) -> Result<Vec<Node>, OutcomesFault>
     requires cpus { All (λ t. t.cpu < state.now.layout.config.cpus) turns.now }
     requires count { length wanted.now ≡ length turns.now }
@@ -80,7 +83,7 @@ fn last_layer(
     };
     for made in 0..turns.len() {
         let _ = made;
-        let next = next_layer(alloc, turns, wanted, nodes.as_slice(), limit)?;
+        let next = next_layer(alloc, turns, wanted, nodes.as_slice(), limit, progress)?;
         drop(mem::replace(&mut nodes, next));
     }
     Ok(nodes)
@@ -137,20 +140,21 @@ fn distinct(alloc: Global, nodes: &[Node]) -> Result<Vec<Outcome>, AllocError>
 
 /// All that CPUs may be told which make these steps from a state, each in its own order and at any time, where the replies are
 /// those that are wanted: each outcome once, with an order that gives it. Err where after some steps there are more points than
-/// the limit, a generation would be no number of 64 bits, or memory was refused.
-pub fn outcomes(
+/// the limit, a generation would be no number of 64 bits, or memory was refused. `progress` is told of each point that is left.
+pub fn outcomes<P: Progress>(
     alloc: Global,
     state: &Ghost,
     turns: &[Turn],
     wanted: &[Option<Vec<u8>>],
     limit: usize,
+    progress: &P,
 ) -> Result<Vec<Outcome>, OutcomesFault>
     requires cpus { All (λ t. t.cpu < state.now.layout.config.cpus) turns.now }
     requires count { length wanted.now ≡ length turns.now }
     ensures all { IfOk result (λ v. AllOutcomes (layout_of state.now.layout) (ghost_state state.now) turns.now wanted.now v.items) }
     ensures fault { IfErr result (IsOutcomesFault (layout_of state.now.layout) (ghost_state state.now) turns.now wanted.now limit) }
 {
-    let nodes = last_layer(alloc, state, turns, wanted, limit)?;
+    let nodes = last_layer(alloc, state, turns, wanted, limit, progress)?;
     let found = distinct(alloc, nodes.as_slice());
     drop(nodes);
     match found {
@@ -160,19 +164,20 @@ pub fn outcomes(
 }
 
 /// An order of these steps that gives replies that are wanted; none where there is no such order.
-pub fn explained(
+pub fn explained<P: Progress>(
     alloc: Global,
     state: &Ghost,
     turns: &[Turn],
     wanted: &[Option<Vec<u8>>],
     limit: usize,
+    progress: &P,
 ) -> Result<Option<Vec<usize>>, OutcomesFault>
     requires cpus { All (λ t. t.cpu < state.now.layout.config.cpus) turns.now }
     requires count { length wanted.now ≡ length turns.now }
     ensures order { IfOk result (IsExplained (layout_of state.now.layout) (ghost_state state.now) turns.now wanted.now) }
     ensures fault { IfErr result (IsOutcomesFault (layout_of state.now.layout) (ghost_state state.now) turns.now wanted.now limit) }
 {
-    let found = outcomes(alloc, state, turns, wanted, limit)?;
+    let found = outcomes(alloc, state, turns, wanted, limit, progress)?;
     match first_order(alloc, found.as_slice()) {
         Ok(order) => Ok(order),
         Err(_) => Err(OutcomesFault::NoMemory),

@@ -1,21 +1,26 @@
 //! The nodes at which all orders of so many steps are, each point once.
 ghost use Rattle.std.specs.Prelude.{◌≡◌, ℕ, ◌<◌, [], All, Contains, IfErr, IfOk, IsTrue, OnOk, false, length};
-ghost use Rattle.race_outcomes.specs.Layers.{AreApart, AreNext, HasStep, IsAddFault, IsAdded, IsApartFrom, IsIndexed, IsLayerFault, IsReady, IsSpread, IsSpreadFault, key_of, number_of, points_of, point_of};
+ghost use Rattle.page_state.specs.LayoutView.{layout_of};
+ghost use Rattle.race_outcomes.specs.Kept.{AreKnown, IsAtHand};
+ghost use Rattle.race_outcomes.specs.Layers.{AreApart, AreNext, HasStep, HaveOneLayout, IsAddFault, IsAdded, IsApartFrom, IsIndexed, IsLayerFault, IsReady, IsSpread, IsSpreadFault, key_of, number_of, points_of, point_of};
 
 use crate::finding::OutcomesFault;
+use crate::kept::{Known, States, known_at};
 use crate::node::{Node, Turn, is_next, next_node};
 use crate::same::is_same_state;
 use call_table::{Refusal, Reply};
 use std::alloc::{AllocError, Global};
+use trace_reader::Progress;
 
 /// How many keys there are.
 const KEYS: usize = 4093;
 
-/// Nodes, each point once, and the places of those of each key.
+/// Nodes, each point once, the places of those of each key, and their states.
 #[derive(Drop)]
 pub(crate) struct Layer {
     pub nodes: Vec<Node>,
     pub places: Vec<Vec<usize>>,
+    pub states: States,
 }
 
 /// A number for a reply.
@@ -55,7 +60,9 @@ fn is_same_point(a: &Node, b: &Node) -> bool
     ensures apart { result ≡ false → AreApart a.now b.now }
 {
     if a.told == b.told {
-        return is_same_state(&a.state, &b.state);
+        let one = a.state.get();
+        let other = b.state.get();
+        return is_same_state(one, other);
     }
     false
 }
@@ -80,10 +87,14 @@ impl Layer {
     fn new(alloc: Global) -> Result<Layer, AllocError>
         ensures none { IfOk result (λ x. x.nodes.items ≡ []) }
         ensures indexed { IfOk result IsIndexed }
+        ensures states { IfOk result (λ x. x.states.states.items ≡ []) }
     {
+        let states = States::new(alloc)?;
+        let places = no_places(alloc)?;
         Ok(Layer {
             nodes: Vec::new(alloc),
-            places: no_places(alloc)?,
+            places,
+            states,
         })
     }
 
@@ -120,6 +131,7 @@ impl Layer {
         requires { IsIndexed self.old }
         ensures added { OnOk result (IsAdded self.old.nodes.items node self.new.nodes.items) }
         ensures indexed { OnOk result (IsIndexed self.new) }
+        ensures states { self.new.states ≡ self.old.states }
         ensures fault { IfErr result (IsAddFault limit self.old.nodes.items node) }
     {
         let key = key(node.told.as_slice());
@@ -146,6 +158,7 @@ impl Layer {
         requires apart { IsApartFrom self.old.nodes.items node }
         ensures added { OnOk result (self.new.nodes.items ≡ self.old.nodes.items ++ node ∷ []) }
         ensures indexed { OnOk result (IsIndexed self.new) }
+        ensures states { self.new.states ≡ self.old.states }
     {
         let place = self.nodes.len();
         match self.add_place(key, place) {
@@ -166,6 +179,7 @@ impl Layer {
         ensures nodes { self.new.nodes ≡ self.old.nodes }
         ensures places { OnOk result (places_in self.new ≡ set (places_in self.old) key (get_or (places_in self.old) key [] ++ place ∷ [])) }
         ensures count { length self.new.places.items ≡ length self.old.places.items }
+        ensures states { self.new.states ≡ self.old.states }
     {
         self.places[key].push(place)?;
         Ok(())
@@ -179,22 +193,24 @@ fn spread_at(
     wanted: &[Option<Vec<u8>>],
     node: &Node,
     place: usize,
+    known: &mut Known,
     limit: usize,
     layer: &mut Layer,
 ) -> Result<(), OutcomesFault>
     requires inside { place < length turns.now }
-    requires count { length wanted.now ≡ length turns.now }
     requires ready { IsReady turns.now wanted.now node.now }
     requires indexed { IsIndexed layer.old }
+    requires at_hand { IsAtHand node.now.state turns.now known.old layer.old.states }
     ensures spread { OnOk result (IsSpread turns.now wanted.now node.now layer.old.nodes.items layer.new.nodes.items) }
     ensures has { OnOk result (HasStep turns.now wanted.now node.now layer.new.nodes.items place) }
     ensures indexed { OnOk result (IsIndexed layer.new) }
+    ensures at_hand { OnOk result (IsAtHand node.now.state turns.now known.new layer.new.states) }
     ensures fault { IfErr result (IsSpreadFault turns.now wanted.now limit node.now layer.old.nodes.items) }
 {
     if !is_next(turns, node.told.as_slice(), place) {
         return Ok(());
     }
-    match next_node(alloc, node, turns, wanted, place)? {
+    match next_node(alloc, node, turns, wanted, place, known, &mut layer.states)? {
         Some(next) => layer.add(next, limit),
         None => Ok(()),
     }
@@ -206,43 +222,81 @@ fn spread(
     turns: &[Turn],
     wanted: &[Option<Vec<u8>>],
     node: &Node,
+    known: &mut Known,
     limit: usize,
     layer: &mut Layer,
 ) -> Result<(), OutcomesFault>
-    requires count { length wanted.now ≡ length turns.now }
     requires ready { IsReady turns.now wanted.now node.now }
     requires indexed { IsIndexed layer.old }
+    requires at_hand { IsAtHand node.now.state turns.now known.old layer.old.states }
     ensures spread { OnOk result (IsSpread turns.now wanted.now node.now layer.old.nodes.items layer.new.nodes.items) }
     ensures has { OnOk result ((place : ℕ) → HasStep turns.now wanted.now node.now layer.new.nodes.items place) }
     ensures indexed { OnOk result (IsIndexed layer.new) }
+    ensures at_hand { OnOk result (IsAtHand node.now.state turns.now known.new layer.new.states) }
     ensures fault { IfErr result (IsSpreadFault turns.now wanted.now limit node.now layer.old.nodes.items) }
 {
     for place in 0..turns.len() {
-        spread_at(alloc, turns, wanted, node, place, limit, layer)?;
+        spread_at(alloc, turns, wanted, node, place, known, limit, layer)?;
     }
     Ok(())
 }
 
+/// Adds all nodes where a step comes next, with the states whose steps are known so far.
+fn spread_known(
+    alloc: Global,
+    turns: &[Turn],
+    wanted: &[Option<Vec<u8>>],
+    node: &Node,
+    known: &mut Vec<Known>,
+    limit: usize,
+    layer: &mut Layer,
+) -> Result<(), OutcomesFault>
+    requires ready { IsReady turns.now wanted.now node.now }
+    requires indexed { IsIndexed layer.old }
+    requires known { AreKnown (layout_of node.now.state.layout) turns.now known.old.items layer.old.states }
+    ensures spread { OnOk result (IsSpread turns.now wanted.now node.now layer.old.nodes.items layer.new.nodes.items) }
+    ensures has { OnOk result ((place : ℕ) → HasStep turns.now wanted.now node.now layer.new.nodes.items place) }
+    ensures indexed { OnOk result (IsIndexed layer.new) }
+    ensures known { OnOk result (AreKnown (layout_of node.now.state.layout) turns.now known.new.items layer.new.states) }
+    ensures fault { IfErr result (IsSpreadFault turns.now wanted.now limit node.now layer.old.nodes.items) }
+{
+    let Ok(at) = known_at(alloc, known, node.at, &node.state) else {
+        return Err(OutcomesFault::NoMemory);
+    };
+    spread(alloc, turns, wanted, node, &mut known[at], limit, layer)
+}
+
 /// The nodes one step further.
-pub(crate) fn next_layer(
+pub(crate) fn next_layer<P: Progress>(
     alloc: Global,
     turns: &[Turn],
     wanted: &[Option<Vec<u8>>],
     nodes: &[Node],
     limit: usize,
+    progress: &P,
 ) -> Result<Vec<Node>, OutcomesFault>
-    requires count { length wanted.now ≡ length turns.now }
     requires ready { All (IsReady turns.now wanted.now) nodes.now }
+    requires layouts { HaveOneLayout nodes.now }
     ensures next { IfOk result (λ v. AreNext turns.now wanted.now nodes.now v.items) }
     ensures fault { IfErr result (IsLayerFault turns.now wanted.now limit nodes.now) }
 {
     let Ok(mut layer) = Layer::new(alloc) else {
         return Err(OutcomesFault::NoMemory);
     };
+    let mut known = Vec::new(alloc);
     for i in 0..nodes.len() {
-        spread(alloc, turns, wanted, &nodes[i], limit, &mut layer)?;
+        spread_known(
+            alloc, turns, wanted, &nodes[i], &mut known, limit, &mut layer,
+        )?;
+        progress.advance(1);
     }
-    let Layer { nodes, places } = layer;
+    drop(known);
+    let Layer {
+        nodes,
+        places,
+        states,
+    } = layer;
     drop(places);
+    drop(states);
     Ok(nodes)
 }

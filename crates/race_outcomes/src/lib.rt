@@ -1,8 +1,9 @@
-//! What CPUs may be told that make their steps at once: all replies that some order of the steps gives, by the model.
+//! The replies that CPUs may get which make their steps at once: all that some order of the steps gives, by the model.
 #![tactic(auto)]
 
 mod answer;
 mod finding;
+mod kept;
 pub mod laws;
 mod layer;
 mod node;

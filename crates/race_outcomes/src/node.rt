@@ -1,13 +1,14 @@
 //! A step of a CPU, and how far an order of steps has come.
-ghost use Rattle.std.specs.Prelude.{◌≡◌, ◌≢◌, ◌↔◌, ℕ, ◌<◌, ◌++◌, ◌∷◌, [], List, IfErr, IfOk, IfSome, IsTrue, None, Ok, Some, length, slice_get, slice_set};
+ghost use Rattle.std.specs.Prelude.{◌≡◌, ◌≢◌, ◌↔◌, ℕ, ◌<◌, ◌++◌, ◌∷◌, [], List, IfErr, IfOk, IfSome, IsTrue, None, Ok, OnOk, Some, length, slice_get, slice_set};
 ghost use Rattle.page_state.specs.LayoutView.{layout_of};
 ghost use Rattle.ghost_spec.specs.States.{ghost_state};
 ghost use Rattle.call_table.specs.Texts.{text_of_reply};
+ghost use Rattle.race_outcomes.specs.Kept.{IsAtHand};
 ghost use Rattle.race_outcomes.specs.Layers.{HasStep, IsPlaceFault, IsReady, IsStepAt};
 ghost use Rattle.race_outcomes.specs.Orders.{IsNext, IsWanted, none_told};
 
-use crate::answer::told_to;
 use crate::finding::OutcomesFault;
+use crate::kept::{Known, Made, Shared, States, made_at};
 use call_table::{Reply, Step};
 use ghost_spec::state::Ghost;
 use std::alloc::{AllocError, Global};
@@ -17,7 +18,7 @@ use std::alloc::{AllocError, Global};
 pub struct Turn {
     pub cpu: u64,
     pub step: Step,
-    /// Whether the step finds no memory. If it can take memory, and the model makes it, it is told `nomemory`, and nothing but
+    /// Whether the step finds no memory. If it can take memory, and the model makes it, its reply is `nomemory`, and nothing but
     /// the logs changes.
     pub wants: bool,
 }
@@ -25,7 +26,10 @@ pub struct Turn {
 /// How far some order has come.
 #[derive(Drop)]
 pub(crate) struct Node {
-    pub state: Ghost,
+    /// The state, which other nodes may have too.
+    pub state: Shared,
+    /// Where the steps that were made from this state may be kept.
+    pub at: usize,
     /// The reply of each step that is made, by its place in the list of all steps.
     pub told: Vec<Option<Reply>>,
     /// The places of the steps that are made, in the order in which they are.
@@ -81,8 +85,11 @@ pub(crate) fn first_node(alloc: Global, state: &Ghost, turns: &[Turn]) -> Result
     ensures order { IfOk result (λ n. n.order.items ≡ []) }
 {
     let told = none_of(alloc, turns)?;
+    let copy = state.copied(alloc)?;
+    let state = Shared::new(alloc, copy)?;
     Ok(Node {
-        state: state.copied(alloc)?,
+        state,
+        at: 0,
         told,
         order: Vec::new(alloc),
     })
@@ -119,29 +126,22 @@ fn order_with(alloc: Global, order: &[usize], place: usize) -> Result<Vec<usize>
     Ok(more)
 }
 
-/// The node with one step more, which has this reply and leads to this state.
-fn node_with(
-    alloc: Global,
-    node: &Node,
-    place: usize,
-    reply: Reply,
-    state: Ghost,
-) -> Result<Node, AllocError>
+/// The node with one step more, which was made.
+fn node_with(alloc: Global, node: &Node, place: usize, made: Made) -> Result<Node, AllocError>
     requires { place < length node.now.told.items }
-    ensures state { IfOk result (λ n. n.state ≡ state) }
-    ensures told { IfOk result (λ n. n.told.items ≡ slice_set node.now.told.items place (Some reply)) }
+    ensures state { IfOk result (λ n. n.state ≡ made.state) }
+    ensures told { IfOk result (λ n. n.told.items ≡ slice_set node.now.told.items place (Some made.reply)) }
     ensures order { IfOk result (λ n. n.order.items ≡ node.now.order.items ++ place ∷ []) }
 {
-    let Ok(told) = told_with(alloc, node.told.as_slice(), place, reply) else {
-        drop(state);
-        return Err(AllocError);
-    };
-    let Ok(order) = order_with(alloc, node.order.as_slice(), place) else {
-        drop(state);
-        drop(told);
-        return Err(AllocError);
-    };
-    Ok(Node { state, told, order })
+    let told = told_with(alloc, node.told.as_slice(), place, made.reply)?;
+    let order = order_with(alloc, node.order.as_slice(), place)?;
+    let Made { state, at, .. } = made;
+    Ok(Node {
+        state,
+        at,
+        told,
+        order,
+    })
 }
 
 /// Where the step at a place comes next, unless its reply isn't wanted.
@@ -151,28 +151,31 @@ pub(crate) fn next_node(
     turns: &[Turn],
     wanted: &[Option<Vec<u8>>],
     place: usize,
+    known: &mut Known,
+    states: &mut States,
 ) -> Result<Option<Node>, OutcomesFault>
     requires inside { place < length turns.now }
-    requires count { length wanted.now ≡ length turns.now }
     requires ready { IsReady turns.now wanted.now node.now }
     requires next { (turn : Turn) × IsNext turns.now node.now.told.items place turn }
+    requires at_hand { IsAtHand node.now.state turns.now known.old states.old }
     ensures none { result ≡ Ok None → (new : List Node) → HasStep turns.now wanted.now node.now new place }
     ensures some { IfOk result (λ o. IfSome o (IsStepAt turns.now wanted.now node.now place)) }
+    ensures at_hand { OnOk result (IsAtHand node.now.state turns.now known.new states.new) }
     ensures fault { IfErr result (IsPlaceFault turns.now node.now place) }
 {
-    let (reply, state) = told_to(alloc, &node.state, turns[place])?;
-    match is_wanted(alloc, &wanted[place], reply) {
+    let made = made_at(alloc, known, turns, place, turns[place], states)?;
+    match is_wanted(alloc, &wanted[place], made.reply) {
         Ok(true) => {}
         Ok(false) => {
-            drop(state);
+            drop(made);
             return Ok(None);
         }
         Err(_) => {
-            drop(state);
+            drop(made);
             return Err(OutcomesFault::NoMemory);
         }
     }
-    match node_with(alloc, node, place, reply, state) {
+    match node_with(alloc, node, place, made) {
         Ok(next) => Ok(Some(next)),
         Err(_) => Err(OutcomesFault::NoMemory),
     }

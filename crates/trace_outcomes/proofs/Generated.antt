@@ -4,8 +4,8 @@ use Rattle.std.proofs.lemmas.List.{length-take}
 use Rattle.page_state.proofs.Common.{both}
 use Rattle.page_state.specs.Layouts.{Layout}
 use Rattle.call_table.specs.declared.reply.Reply.{Reply}
-use Rattle.reference_model.specs.State.{Reference}
-use Rattle.reference_model.specs.Step.{foretell}
+use Rattle.reference_model.specs.model.State.{Reference}
+use Rattle.reference_model.specs.model.Step.{foretell}
 use Rattle.race_outcomes.specs.declared.finding.OutcomesFault.{OutcomesFault}
 use Rattle.race_outcomes.specs.declared.finding.OutcomesFault.TheVariants.{Generation, NoMemory, TooMany}
 use Rattle.race_outcomes.specs.declared.node.Turn.{Turn}

@@ -1,4 +1,5 @@
 pub mod Decimals
+pub mod FoundTold
 pub mod Generated
 pub mod Histories
 pub mod Lines

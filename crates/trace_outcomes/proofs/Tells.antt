@@ -6,7 +6,7 @@ use Rattle.page_state.specs.declared.entry.PageRange.{PageRange}
 use Rattle.page_state.specs.LayoutView.{layout_of}
 use Rattle.call_table.specs.declared.reply.Reply.{Reply}
 use Rattle.call_table.specs.Texts.{text_of_reply}
-use Rattle.reference_model.specs.State.{Reference}
+use Rattle.reference_model.specs.model.State.{Reference}
 use Rattle.ghost_spec.specs.States.{ghost_state}
 use Rattle.race_outcomes.specs.declared.finding.Outcome.{Outcome}
 use Rattle.race_outcomes.specs.declared.finding.OutcomesFault.{OutcomesFault}
@@ -16,12 +16,16 @@ use Rattle.race_outcomes.specs.Orders.{AllOutcomes, GivesWanted, HasMorePoints, 
 use Rattle.trace_race.specs.Courses.{Asking, in_order_of}
 use Rattle.trace_text.specs.Worlds.{Machine}
 use Rattle.trace_race.specs.declared.course.Asked.{Asked}
+use Rattle.trace_outcomes.specs.declared.finding.Found.{Found}
+use Rattle.trace_outcomes.specs.declared.finding.Found.TheVariants as founds
+use Rattle.trace_outcomes.specs.declared.finding.Outcomes.{Outcomes}
 use Rattle.trace_outcomes.specs.declared.making.Race.{Race}
 use Rattle.trace_outcomes.specs.declared.telling.Told.{Told}
+use Rattle.trace_outcomes.specs.Finds.{FindsAll, FindsOn}
 use Rattle.trace_outcomes.specs.Made.{HasMade}
-use Rattle.trace_outcomes.specs.Races.{Texts, first_of, nothing_told, nothing_wanted, raced_of, texts_in, told_first}
-use Rattle.trace_outcomes.specs.Texts.{all_said, none_said, order_said, otherwise_said, too_many_said}
-use Rattle.trace_outcomes.specs.Told.{TellsBehind, TellsClean, TellsObserved, TellsRaced, TellsTooMany, TellsUnclean, first_apart, is_read}
+use Rattle.trace_outcomes.specs.Races.{Texts, first_of, nothing_told, nothing_wanted, raced_of, texts_in, told_first, turns_raced}
+use Rattle.trace_outcomes.specs.Texts.{none_said, order_said, otherwise_said, too_many_said}
+use Rattle.trace_outcomes.specs.Told.{TellsBehind, TellsClean, TellsObserved, TellsTooMany, TellsUnclean, first_apart, is_read}
 use Rattle.trace_outcomes.proofs.Noting.{no_step}
 use Rattle.trace_outcomes.proofs.Turns.{moved, texts_before, texts_behind, texts_nothing, wanted_behind}
 
@@ -43,20 +47,22 @@ module _ (m : Machine) (a : Asking) (r : Race) (turns : List Turn) (same : turns
       none_wanted : drop n texts ≡ nothing_wanted (raced_of a)
       none_wanted = ap (drop n) nothing ∙ wanted_behind n a.steps ∙ ap (λ k. nothing_wanted (drop k a.steps)) order
 
-      pub all_tells : (limit : ℕ) (found seen : List Outcome) (t : Told) → seen ≡ found → AllOutcomes (layout_of r.state.layout) (ghost_state r.state) turns (drop n texts) found
-          → TellsClean (all_said (first_of a) r.replies.items (raced_of a) seen) t → TellsRaced limit a m t
-      all_tells limit found seen t is all tells = inl (record {
-        found = found;
-        all = moved (λ l s ts. AllOutcomes l s ts (nothing_wanted (raced_of a)) found) m a (nothing_told a.steps) r none_made
+      pub all_found : (found : List Outcome) (o : Outcomes) → o.replies.items ≡ r.replies.items → o.found.items ≡ found → length r.replies.items ≡ length (first_of a)
+          → AllOutcomes (layout_of r.state.layout) (ghost_state r.state) turns (drop n texts) found → FindsAll m a o
+      all_found found o replies is count all = record {
+        replies = replies ∙ ap (λ (x : List Reply × Reference). x.0) none_made.told;
+        count = ap length replies ∙ count;
+        all = subst (AllOutcomes m.layout (told_first m a (nothing_told a.steps)).1 (turns_raced a (nothing_told a.steps)) (nothing_wanted (raced_of a))) (sym is)
+            (moved (λ l s ts. AllOutcomes l s ts (nothing_wanted (raced_of a)) found) m a (nothing_told a.steps) r none_made
             (subst (λ w. AllOutcomes (layout_of r.state.layout) (ghost_state r.state) r.turns.items w found) none_wanted
-            (subst (λ ts. AllOutcomes (layout_of r.state.layout) (ghost_state r.state) ts (drop n texts) found) same all));
-        tells = subst (λ rs. TellsClean (all_said (first_of a) rs (raced_of a) found) t) (ap (λ (x : List Reply × Reference). x.0) none_made.told)
-            (subst (λ xs. TellsClean (all_said (first_of a) r.replies.items (raced_of a) xs) t) is tells);
-      })
+            (subst (λ ts. AllOutcomes (layout_of r.state.layout) (ghost_state r.state) ts (drop n texts) found) same all)));
+      }
 
-      pub many_tells : (limit : ℕ) (fault : OutcomesFault) (t : Told) → IsOutcomesFault (layout_of r.state.layout) (ghost_state r.state) turns (drop n texts) limit fault
-          → (k : ℕ) × (fault ≡ TooMany k) × TellsUnclean (too_many_said k) t → TellsRaced limit a m t
-      many_tells limit fault t why tells = inr (subst (λ w. TellsTooMany m a (nothing_told a.steps) w limit t) none_wanted (many (nothing_told a.steps) (drop n texts) limit fault t none_made why tells))
+      pub many_found : (limit : ℕ) (fault : OutcomesFault) (f : Found) → IsOutcomesFault (layout_of r.state.layout) (ghost_state r.state) turns (drop n texts) limit fault
+          → (k : ℕ) × (fault ≡ TooMany k) × (f ≡ founds.TooMany k) → FindsOn limit a m f
+      many_found limit fault f why (k, is, found) = subst (FindsOn limit a m) (sym found) (moved (λ l s ts. HasMorePoints l s ts (nothing_wanted (raced_of a)) limit k) m a (nothing_told a.steps) r none_made
+          (subst (λ w. HasMorePoints (layout_of r.state.layout) (ghost_state r.state) r.turns.items w limit k) none_wanted
+          (subst (λ ts. HasMorePoints (layout_of r.state.layout) (ghost_state r.state) ts (drop n texts) limit k) same (subst (IsOutcomesFault (layout_of r.state.layout) (ghost_state r.state) turns (drop n texts) limit) is why))))
 
     module _ (made : HasMade m a (texts_in texts) r) (limit : ℕ) (t : Told) where
       behind : texts_in (drop n texts) ≡ drop (in_order_of a) (texts_in texts)

@@ -8,7 +8,7 @@ use Rattle.page_state.specs.declared.layout.Config.{Config}
 use Rattle.page_state.specs.Layouts.{Layout}
 use Rattle.page_state.specs.LayoutView.{layout_of}
 use Rattle.call_table.specs.declared.reply.Reply.{Reply}
-use Rattle.reference_model.specs.State.{Reference}
+use Rattle.reference_model.specs.model.State.{Reference}
 use Rattle.ghost_spec.specs.declared.state.Ghost.{Ghost}
 use Rattle.ghost_spec.specs.States.{ghost_state}
 use Rattle.race_outcomes.specs.declared.node.Turn.{Turn}

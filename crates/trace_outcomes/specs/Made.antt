@@ -20,7 +20,7 @@ pub record IsReady (a : Asking) (wanted : List (Option (Vec ℕ Global))) (r : R
   pub few : length (first_of a) + length r.turns.items < 2 ^ 63
   pub low : HasGenerationsTo (1 + length (first_of a)) (contents_in r.state)
 
--- why outcomes aren't told, but for a generation that would be no number of 64 bits
+-- why there is no list of outcomes, but for a generation that would be no number of 64 bits
 abbrev pub IsNoGeneration : OutcomesFault → Type 0
 IsNoGeneration Generation = ⊥
 IsNoGeneration other = Unit {0}
@@ -31,6 +31,6 @@ pub record HasMade (m : Machine) (a : Asking) (texts : Texts) (r : Race) : Type 
   pub layout : layout_of r.state.layout ≡ m.layout
   pub turns : r.turns.items ≡ turns_raced a texts
 
--- what is told of each machine at whose state before the steps after `start` a race stands
+-- the text for each machine, by its state before the steps after `start`
 abbrev pub OnMade : (Machine → Asking → Texts → Told → Type 0) → Asking → Texts → Race → Told → Type 0
 OnMade Tells a texts r t = (m : Machine) → HasMade m a texts r → Tells m a texts t

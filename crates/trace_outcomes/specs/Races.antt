@@ -3,14 +3,14 @@ use Rattle.std.specs.Prelude.{ℕ, Bool, false, List, [], ◌∷◌, codes, drop
 use Rattle.std.specs.Global.{Global}
 use Rattle.std.specs.Str.{bytes_eq}
 use Rattle.call_table.specs.declared.reply.Reply.{Reply}
-use Rattle.reference_model.specs.State.{Reference}
+use Rattle.reference_model.specs.model.State.{Reference}
 use Rattle.race_outcomes.specs.declared.node.Turn.{Turn}
 use Rattle.race_outcomes.specs.Orders.{told_along}
 use Rattle.trace_race.specs.declared.course.Asked.{Asked}
 use Rattle.trace_race.specs.Courses.{Asking, in_order_of}
 use Rattle.trace_text.specs.Worlds.{Machine}
 
--- what is told of each step of a trace, where anything is: the text of its reply
+-- the text of the reply to each step of a trace, if there is one
 abbrev pub Texts : Type 0
 Texts = List (Option (List ℕ))
 
@@ -30,7 +30,7 @@ abbrev pub wants : Option (List ℕ) → Bool
 wants None = false
 wants (Some text) = bytes_eq text (codes "nomemory")
 
--- the steps of CPUs: just those find no memory of which `nomemory` is told
+-- the steps of CPUs: exactly those with the reply `nomemory` find no memory
 abbrev pub turns_of : List Asked → Texts → List Turn
 turns_of [] texts = []
 turns_of (a ∷ more) [] = []
@@ -47,6 +47,6 @@ raced_of a = drop (in_order_of a) a.steps
 abbrev pub turns_raced : Asking → Texts → List Turn
 turns_raced a texts = turns_of (raced_of a) (drop (in_order_of a) texts)
 
--- what the model tells the steps before `start`, made in order, and the state after them
+-- the model's replies to the steps before `start`, made in order, and the state after them
 abbrev pub told_first : Machine → Asking → Texts → List Reply × Reference
 told_first m a texts = told_along m.layout m.state (turns_of (first_of a) (take (in_order_of a) texts))

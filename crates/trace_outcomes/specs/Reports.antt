@@ -1,4 +1,4 @@
--- What the report of a machine, or of another hypervisor, tells of the steps of a trace (profile).
+-- What the report of a machine, or of another hypervisor, says of the steps of a trace (profile).
 use Rattle.std.specs.Prelude.{ℕ, ◌+◌, Bool, ◌&&◌, ◌||◌, ◌==◌, List, [], ◌∷◌, ◌++◌, codes, nat_eq, position, slice_get, slice_set, unwrap_or, Option, Some, None, option_and_then, Result, Ok, Err, if◌then◌else◌}
 use Rattle.std.specs.Fmt.{decimal}
 use Rattle.std.specs.List.{starts_with}
@@ -14,11 +14,11 @@ use Rattle.trace_outcomes.specs.Races.{Texts}
 abbrev pub first_word : List ℕ → List ℕ
 first_word line = unwrap_or (slice_get (words_of line) 0) []
 
--- a line that tells of no step: that of the boot, of a query or of the end
+-- a line of no step: that of the boot, of a query or of the end
 abbrev pub is_passed : List ℕ → Bool
 is_passed line = bytes_eq (first_word line) (codes "boot") || bytes_eq (first_word line) (codes "word") || bytes_eq (first_word line) (codes "free") || bytes_eq (first_word line) (codes "end")
 
--- what is behind the first space
+-- the text behind the first space
 abbrev pub behind_space : List ℕ → List ℕ
 behind_space [] = []
 behind_space (byte ∷ more) = if byte == 0x20 then more else behind_space more
@@ -45,7 +45,7 @@ is_reply text = bytes_eq text (codes "ok") || starts_with nat_eq text (codes "ok
 abbrev pub place_of : List Asked → ℕ → ℕ → Option ℕ
 place_of steps line cpu = position (λ a. a.line == line && a.cpu == cpu) steps
 
--- a text is told of the step at a place, of which nothing is told yet
+-- a text is the reply to the step at a place, which has none yet
 abbrev pub put_at : Texts → ℕ → List ℕ → Option (Option (List ℕ)) → Result Texts ReportFault
 put_at texts place text (Some None) = Ok (slice_set texts place (Some text))
 put_at texts place text other = Err Twice
@@ -61,11 +61,11 @@ abbrev pub told_by : List Asked → Texts → List ℕ → Option (ℕ × ℕ) �
 told_by steps texts line None = Err Form
 told_by steps texts line (Some (number, cpu)) = told_at texts (behind_space (behind_space line)) (place_of steps number cpu)
 
--- what is told with one line more
+-- the replies with one line more
 abbrev pub told_with : List Asked → Texts → List ℕ → Result Texts ReportFault
 told_with steps texts line = if is_passed line then Ok texts else told_by steps texts line (step_said line)
 
--- what is wanted of a line that can't be read
+-- the form wanted of a line that can't be read
 abbrev pub wanted_of : ReportFault → List ℕ
 wanted_of Form = codes "a line of a race's report"
 wanted_of NoStep = codes "the line and the CPU of a step of the trace"

@@ -97,10 +97,10 @@ all_said first replies steps found =
 abbrev pub too_many_said : ℕ → List ℕ
 too_many_said made = codes "too many after " ++ decimal made ++ codes " steps\n"
 
--- that no order gives what is told
+-- that no order gives these replies
 abbrev pub none_said : List ℕ
 none_said = codes "no order gives these replies\n"
 
--- that a step before `start` was told something else than the model tells it
+-- that a step before `start` has another reply than the model's
 abbrev pub otherwise_said : ℕ → List ℕ → List ℕ
 otherwise_said line reply = decimal line ++ codes " told otherwise than " ++ reply ++ 10 ∷ []

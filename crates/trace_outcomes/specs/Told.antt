@@ -1,4 +1,4 @@
--- What is told of the outcomes of a trace (profile).
+-- The report of the outcomes of a trace (profile).
 use Rattle.std.specs.Prelude.{◌≡◌, ◌⊎◌, ℕ, Bool, true, List, [], ◌∷◌, drop, take, Option, Some, None, MatchOption, Result, Ok, Err, Vec, if◌then◌else◌}
 use Rattle.std.specs.Global.{Global}
 use Rattle.std.specs.Str.{bytes_eq}
@@ -46,22 +46,22 @@ abbrev pub TellsPlace : List ℕ → Told → Type 0
 TellsPlace said = Tells said outcomes.Fault None
 
 -- no machine was booted: the layout was refused, or the boot
-pub record IsNoBoot (a : Asking) (carve : PageRange) (number : ℕ) (t : Told) : Type 0 where
+pub record IsNoBoot {T : Type 0} (Faults : ℕ → Fault → T → Type 0) (a : Asking) (carve : PageRange) (number : ℕ) (t : T) : Type 0 where
   pub fault : Fault
   pub refused : IsNoWorld (stops.Fault fault) (memory_of a.told.regions carve) (config_of a.told)
-  pub tells : TellsFault number fault t
+  pub tells : Faults number fault t
 
--- a machine was booted, of which this is told
-pub record IsBoot (Tells : Machine → Told → Type 0) (a : Asking) (carve : PageRange) (t : Told) : Type 0 where
+-- a machine was booted, and this is its report
+pub record IsBoot {T : Type 0} (Tells : Machine → T → Type 0) (a : Asking) (carve : PageRange) (t : T) : Type 0 where
   pub machine : Machine
   pub booted : IsBootOf (memory_of a.told.regions carve) (config_of a.told) machine
   pub tells : Tells machine t
 
--- what is told of a trace where nothing boots, and where a machine does; a boot stands behind a carve-out
-abbrev pub OnBoot : (Told → Type 0) → (Machine → Told → Type 0) → Asking → Told → Type 0
-OnBoot Idle Tells a t = MatchOption a.boot (Idle t) (λ number. MatchOption a.told.carve (Idle t) (λ carve. IsNoBoot a carve number t ⊎ IsBoot Tells a carve t))
+-- what is told of a trace whose boot is refused, where nothing boots, and where a machine does; a boot stands behind a carve-out
+abbrev pub OnBoot : {T : Type 0} → (ℕ → Fault → T → Type 0) → (T → Type 0) → (Machine → T → Type 0) → Asking → T → Type 0
+OnBoot Faults Idle Tells a t = MatchOption a.boot (Idle t) (λ number. MatchOption a.told.carve (Idle t) (λ carve. IsNoBoot Faults a carve number t ⊎ IsBoot Tells a carve t))
 
--- what is told of what a whole trace asks for; a fault of a line is the whole text
+-- the report of what a whole trace asks for; a fault of a line is the whole text
 abbrev pub OnRead : (Asking → Told → Type 0) → Result Asking (ℕ × Fault) → Told → Type 0
 OnRead Tells (Err told) t = TellsFault told.0 told.1 t
 OnRead Tells (Ok a) t = Tells a t
@@ -83,14 +83,14 @@ TellsRaced limit a m t = TellsAll m a t ⊎ TellsTooMany m a (nothing_told a.ste
 
 -- all outcomes of a trace
 abbrev pub TellsOutcomes : ℕ → Result Asking (ℕ × Fault) → Told → Type 0
-TellsOutcomes limit = OnRead (λ a. OnBoot (TellsClean (end_said 0 0)) (TellsRaced limit a) a)
+TellsOutcomes limit = OnRead (λ a. OnBoot TellsFault (TellsClean (end_said 0 0)) (TellsRaced limit a) a)
 
--- a reply reads as it was told, where anything was
+-- a reply has the given text, if one was given
 abbrev pub is_read : List ℕ → Option (List ℕ) → Bool
 is_read said None = true
 is_read said (Some text) = bytes_eq said text
 
--- the first step of which something else is told than its reply, by its line, with the reply
+-- the first step with another text than its reply, by its line, with the reply
 abbrev pub first_apart : List Asked → List Reply → Texts → Option (ℕ × Reply)
 first_apart [] replies texts = None
 first_apart (a ∷ more) [] texts = None
@@ -98,27 +98,27 @@ first_apart (a ∷ more) (reply ∷ replies) [] = None
 first_apart (a ∷ more) (reply ∷ replies) (text ∷ texts) = if is_read (text_of_reply reply) text then first_apart more replies texts else Some (a.line, reply)
 
 module _ (m : Machine) (a : Asking) (texts : Texts) where
-  -- some order of the steps after `start` gives the replies that are told, and the text has it; or no order does
+  -- some order of the steps after `start` gives these replies, and the text has it; or no order does
   abbrev pub TellsOrder : List (Option (Vec ℕ Global)) → Told → Type 0
   TellsOrder wanted t =
       ((order : List ℕ) × GivesWanted m.layout (told_first m a texts).1 (turns_raced a texts) wanted order × TellsClean (order_said (raced_of a) order) t)
       ⊎ (NoneWanted m.layout (told_first m a texts).1 (turns_raced a texts) wanted × TellsUnclean none_said t)
 
-  -- so it is with the replies that are told of these steps, unless there are too many points
+  -- so it is with the replies to these steps, unless there are too many points
   pub record TellsBehind (limit : ℕ) (t : Told) : Type 0 where
     pub wanted : List (Option (Vec ℕ Global))
     pub wanted_is : texts_in wanted ≡ drop (in_order_of a) texts
     pub tells : TellsOrder wanted t ⊎ TellsTooMany m a texts wanted limit t
 
-  -- and where nothing else is told of the steps before `start` than what the model tells them
+  -- and if the replies to the steps before `start` are the model's
   abbrev pub TellsObserved : ℕ → Told → Type 0
   TellsObserved limit t =
       MatchOption (first_apart (first_of a) (told_first m a texts).0 (take (in_order_of a) texts)) (TellsBehind limit t) (λ x. TellsUnclean (otherwise_said x.0 (text_of_reply x.1)) t)
 
--- what is told of what a report tells, or the place of its fault
+-- the answer for a report, or the place of its fault
 abbrev pub TellsBy : ℕ → Asking → Result Texts (List ℕ) → Told → Type 0
 TellsBy limit a (Err said) t = TellsPlace said t
-TellsBy limit a (Ok texts) t = OnBoot (TellsClean (order_said [] [])) (λ m. TellsObserved m a texts limit) a t
+TellsBy limit a (Ok texts) t = OnBoot TellsFault (TellsClean (order_said [] [])) (λ m. TellsObserved m a texts limit) a t
 
 -- whether some order of a trace's steps gives the replies of a report of these lines
 abbrev pub TellsReported : List ℕ → List (List ℕ) → ℕ → Result Asking (ℕ × Fault) → Told → Type 0

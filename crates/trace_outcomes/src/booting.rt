@@ -10,7 +10,7 @@ use trace_lines::Settings;
 use trace_text::{Fault, Stop, told_memory};
 use world::World;
 
-/// The boot state of the machine of what was told.
+/// The boot state of the machine of the settings.
 pub(crate) fn boot_state(
     global: Global,
     settings: &Settings,

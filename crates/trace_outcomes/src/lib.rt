@@ -3,6 +3,7 @@
 #![tactic(auto)]
 
 mod booting;
+mod finding;
 pub mod laws;
 mod making;
 mod observed;
@@ -10,4 +11,7 @@ mod reading;
 mod telling;
 mod writing;
 
+pub use finding::{Found, Outcomes, find_outcomes};
+pub use reading::{Read, read_trace};
 pub use telling::{Told, tell_order, tell_outcomes};
+pub use writing::{add_kinds, add_places, is_among, kinds_at, text_at};

@@ -20,7 +20,7 @@ use trace_words::is_name;
 /// Where the steps of a trace are to be made at once.
 #[derive(Drop)]
 pub(crate) struct Race {
-    /// What the steps before `start` are told.
+    /// The replies to the steps before `start`.
     pub replies: Vec<Reply>,
     /// The model's state after them.
     pub state: Ghost,
@@ -28,7 +28,7 @@ pub(crate) struct Race {
     pub turns: Vec<Turn>,
 }
 
-/// Nothing is told of any of so many steps.
+/// No reply to any of so many steps.
 pub(crate) fn nothing_told(
     global: Global,
     steps: &[Asked],
@@ -43,7 +43,7 @@ pub(crate) fn nothing_told(
     Ok(texts)
 }
 
-/// Whether a step is told `nomemory`.
+/// Whether a step gets the reply `nomemory`.
 fn wants(text: &Option<Vec<u8>>) -> bool
     ensures { result ≡ wants_by (option_map (λ v. v.items) text.now) }
 {
@@ -53,7 +53,7 @@ fn wants(text: &Option<Vec<u8>>) -> bool
     }
 }
 
-/// Steps with what is told of them: just those find no memory that are told `nomemory`.
+/// Steps with their replies: exactly those with `nomemory` find no memory.
 fn turns_of(
     global: Global,
     steps: &[Asked],

@@ -1,4 +1,4 @@
-//! Reading the report of a machine or of another hypervisor: what it tells of each step of a trace.
+//! Reading the report of a machine or of another hypervisor: its reply to each step of a trace.
 ghost use Rattle.std.specs.Prelude.{◌≡◌, ◌<◌, ◌++◌, IfOk, OnOk, length, map};
 ghost use Rattle.trace_reader.specs.Reading.{lines_of};
 ghost use Rattle.trace_outcomes.specs.Noted.{IsCounted, IsNoted, IsReportOf};
@@ -14,7 +14,7 @@ use trace_words::{Words, decimal, is_name};
 /// What reading a report came to.
 #[derive(Drop)]
 pub(crate) enum Report {
-    /// What is told of each step, where anything is: the text of its reply.
+    /// The text of the reply to each step, if there is one.
     Texts(Vec<Option<Vec<u8>>>),
     /// The place of the first fault, and what was found and wanted there.
     Fault(Vec<u8>),
@@ -25,15 +25,15 @@ pub(crate) enum Report {
 enum ReportFault {
     /// It is none of a race's report.
     Form,
-    /// It tells of no step of the trace.
+    /// It is of no step of the trace.
     NoStep,
-    /// What it tells is no reply.
+    /// It has no reply.
     NoReply,
-    /// A line before it told of the same step.
+    /// A line before it is of the same step.
     Twice,
 }
 
-/// Whether a line tells of no step: that of the boot, of a query or of the end.
+/// Whether a line is of no step: that of the boot, of a query or of the end.
 fn is_passed(line: &[u8]) -> bool
     ensures { result ≡ is_passed_line line.now }
 {
@@ -119,7 +119,7 @@ fn read_line(
     put(global, place, behind_space(behind_space(line)), texts)
 }
 
-/// Puts down what is told of the step at a place.
+/// Notes the reply to the step at a place.
 fn put(
     global: Global,
     place: usize,
@@ -214,7 +214,7 @@ fn place_said(global: Global, name: &str, number: u64) -> Result<Vec<u8>, AllocE
     Ok(said)
 }
 
-/// What was found in a line, and what is wanted of it.
+/// The word found in a line, and the form wanted there.
 fn add_found(said: &mut Vec<u8>, line: &[u8], wanted: &str) -> Result<(), AllocError>
     ensures { OnOk result (said.new.items ≡ said.old.items ++ found_said line.now wanted.now) }
 {

@@ -11,14 +11,14 @@ use trace_text::{Fault, MOST_LINES, Stop};
 
 /// What reading a whole trace came to.
 #[derive(Drop)]
-pub(crate) enum Read {
+pub enum Read {
     Whole(Course),
     /// The first fault, and the number of its line.
     Fault(u64, Fault),
 }
 
 /// Reads all lines of a trace.
-pub(crate) fn read_trace(global: Global, trace: &[u8]) -> Result<Read, AllocError>
+pub fn read_trace(global: Global, trace: &[u8]) -> Result<Read, AllocError>
     ensures { IfOk result (IsReadOf (lines_of trace.now)) }
 {
     let lines = lines(global, trace)?;

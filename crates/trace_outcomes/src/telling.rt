@@ -7,12 +7,14 @@ ghost use Rattle.ghost_spec.specs.States.{contents_in};
 ghost use Rattle.trace_race.specs.Booted.{machine_in};
 ghost use Rattle.trace_race.specs.Judged.{HasGenerationsTo};
 ghost use Rattle.trace_race.specs.Courses.{IsSound, course_in, course_of, in_order_of, nothing_asked};
+ghost use Rattle.trace_outcomes.specs.Finds.{found_said};
 ghost use Rattle.trace_outcomes.specs.Made.{IsNoGeneration, IsReady, OnMade};
-ghost use Rattle.trace_outcomes.specs.Races.{first_of, nothing_wanted, raced_of, texts_in};
-ghost use Rattle.trace_outcomes.specs.Texts.{all_said, end_said, none_said, order_said, otherwise_said, too_many_said};
-ghost use Rattle.trace_outcomes.specs.Told.{TellsBehind, TellsBy, TellsClean, TellsFault, TellsObserved, TellsOutcomes, TellsRaced, TellsReported, TellsUnclean, first_apart as first_apart_of, is_read};
+ghost use Rattle.trace_outcomes.specs.Races.{first_of, raced_of, texts_in};
+ghost use Rattle.trace_outcomes.specs.Texts.{end_said, none_said, order_said, otherwise_said, too_many_said};
+ghost use Rattle.trace_outcomes.specs.Told.{TellsBehind, TellsBy, TellsClean, TellsFault, TellsObserved, TellsOutcomes, TellsReported, TellsUnclean, first_apart as first_apart_of, is_read};
 
 use crate::booting::boot_state;
+use crate::finding::{Found, Outcomes, find_outcomes};
 use crate::making::{Race, first_made, nothing_told};
 use crate::observed::{Report, read_report};
 use crate::reading::{Read, read_trace};
@@ -21,17 +23,17 @@ use crate::writing::{
 };
 use call_table::Reply;
 use ghost_spec::state::Ghost;
-use race_outcomes::{OutcomesFault, explained, outcomes};
+use race_outcomes::{OutcomesFault, explained};
 use std::alloc::{AllocError, Global};
 use trace_race::{Asked, Course};
-use trace_reader::Outcome;
+use trace_reader::{Outcome, Progress};
 use trace_text::{Fault, Stop};
 
-/// What is told of a trace whose steps after `start` are made at once.
+/// The report of a trace whose steps after `start` are made at once.
 #[derive(Drop)]
 pub struct Told {
     pub text: Vec<u8>,
-    /// Clean where all outcomes are told, or an order; Fault where the trace or the report has a fault; Disagreed otherwise.
+    /// Clean if all outcomes are given, or an order; Fault if the trace or the report has a fault; Disagreed otherwise.
     pub outcome: Outcome,
     /// The trace's fault, and the number of its line, where it has one.
     pub fault: Option<(u64, Fault)>,
@@ -72,17 +74,13 @@ fn unclean(text: Vec<u8>) -> Told
     }
 }
 
-/// Why outcomes aren't told.
+/// Why there is no list of outcomes.
 fn too_many(global: Global, fault: OutcomesFault) -> Result<Told, AllocError>
     requires { IsNoGeneration fault }
     ensures { IfOk result (λ t. (made : ℕ) × (fault ≡ OutcomesFault.TooMany made) × TellsUnclean (too_many_said made) t) }
 {
     match fault {
-        OutcomesFault::TooMany(made) => {
-            let mut text = Vec::new(global);
-            add_too_many(&mut text, global, made)?;
-            Ok(unclean(text))
-        }
+        OutcomesFault::TooMany(made) => many_told(global, made),
         OutcomesFault::NoMemory => Err(AllocError),
         OutcomesFault::Generation => unreachable!(),
     }
@@ -90,12 +88,18 @@ fn too_many(global: Global, fault: OutcomesFault) -> Result<Told, AllocError>
 
 /// Tells what the steps of a trace may be told: those before `start` in order, and those after it in any order that keeps each
 /// CPU's own. Each list of replies is told once, with an order that gives it. Where orders of some number of steps lead to more
-/// points than `limit`, which are states with the replies so far, that is the whole text. Err where memory was refused.
-pub fn tell_outcomes(global: Global, trace: &[u8], limit: usize) -> Result<Told, AllocError>
+/// points than `limit`, which are states with the replies so far, that is the whole text. Err where memory was refused. `progress`
+/// is told of each point that is left.
+pub fn tell_outcomes<P: Progress>(
+    global: Global,
+    trace: &[u8],
+    limit: usize,
+    progress: &P,
+) -> Result<Told, AllocError>
     ensures { IfOk result (TellsOutcomes limit (course_of 1 nothing_asked (lines_of trace.now))) }
 {
     match read_trace(global, trace)? {
-        Read::Whole(course) => outcomes_of(global, &course, limit),
+        Read::Whole(course) => outcomes_of(global, &course, limit, progress),
         Read::Fault(line, fault) => faulty(global, line, fault),
     }
 }
@@ -110,75 +114,37 @@ fn idle(global: Global) -> Result<Told, AllocError>
 }
 
 /// All outcomes of what a trace asks for.
-fn outcomes_of(global: Global, course: &Course, limit: usize) -> Result<Told, AllocError>
+fn outcomes_of<P: Progress>(
+    global: Global,
+    course: &Course,
+    limit: usize,
+    progress: &P,
+) -> Result<Told, AllocError>
     requires { IsSound (course_in course.now) }
     ensures { IfOk result (TellsOutcomes limit (Ok (course_in course.now))) }
 {
-    let boot = match course.boot {
-        Some(boot) => boot,
-        None => return idle(global),
-    };
-    let carve = match course.settings.carve {
-        Some(carve) => carve,
-        None => return idle(global),
-    };
-    match boot_state(global, &course.settings, carve) {
-        Ok(state) => all_from(global, state, course, limit),
-        Err(Stop::Fault(fault)) => faulty(global, boot, fault),
-        Err(Stop::NoMemory) => Err(AllocError),
+    match find_outcomes(global, course, limit, progress)? {
+        Found::Idle => idle(global),
+        Found::Fault(line, fault) => faulty(global, line, fault),
+        Found::TooMany(made) => many_told(global, made),
+        Found::All(outcomes) => all_told(global, course, &outcomes),
     }
 }
 
-/// The same from the boot state.
-fn all_from(global: Global, state: Ghost, course: &Course, limit: usize) -> Result<Told, AllocError>
-    requires sound { IsSound (course_in course.now) }
-    requires config { state.layout.config ≡ config_of (course_in course.now).told }
-    requires low { HasGenerationsTo 1 (contents_in state) }
-    ensures { IfOk result (TellsRaced limit (course_in course.now) (machine_in state)) }
+/// That there are too many points.
+fn many_told(global: Global, made: u64) -> Result<Told, AllocError>
+    ensures { IfOk result (TellsUnclean (too_many_said made)) }
 {
-    let texts = nothing_told(global, course.steps.as_slice())?;
-    match first_made(global, state, course, texts.as_slice()) {
-        Ok(race) => all_of(global, &race, course, texts.as_slice(), limit),
-        Err(_) => Err(AllocError),
-    }
-}
-
-/// The same once the steps before `start` are made.
-fn all_of(
-    global: Global,
-    race: &Race,
-    course: &Course,
-    texts: &[Option<Vec<u8>>],
-    limit: usize,
-) -> Result<Told, AllocError>
-    requires sound { IsSound (course_in course.now) }
-    requires ready { IsReady (course_in course.now) (drop (in_order_of (course_in course.now)) texts.now) race.now }
-    requires nothing { texts.now ≡ nothing_wanted course.now.steps.items }
-    ensures { IfOk result (OnMade (λ m a _. TellsRaced limit a m) (course_in course.now) (texts_in texts.now) race.now) }
-{
-    let count = course.in_order();
-    match outcomes(
-        global,
-        &race.state,
-        race.turns.as_slice(),
-        &texts[count..],
-        limit,
-    ) {
-        Ok(found) => all_told(global, race, course, found.as_slice()),
-        Err(fault) => too_many(global, fault),
-    }
+    let mut text = Vec::new(global);
+    add_too_many(&mut text, global, made)?;
+    Ok(unclean(text))
 }
 
 /// Tells all outcomes.
-fn all_told(
-    global: Global,
-    race: &Race,
-    course: &Course,
-    found: &[race_outcomes::Outcome],
-) -> Result<Told, AllocError>
+fn all_told(global: Global, course: &Course, outcomes: &Outcomes) -> Result<Told, AllocError>
     requires sound { IsSound (course_in course.now) }
-    requires count { length race.now.replies.items ≡ length (first_of (course_in course.now)) }
-    ensures { IfOk result (TellsClean (all_said (first_of (course_in course.now)) race.now.replies.items (raced_of (course_in course.now)) found.now)) }
+    requires count { length outcomes.now.replies.items ≡ length (first_of (course_in course.now)) }
+    ensures { IfOk result (TellsClean (found_said (course_in course.now) outcomes.now)) }
 {
     let count = course.in_order();
     let steps = course.steps.as_slice();
@@ -187,45 +153,47 @@ fn all_told(
         &mut text,
         global,
         &steps[..count],
-        race.replies.as_slice(),
+        outcomes.replies.as_slice(),
         &steps[count..],
-        found,
+        outcomes.found.as_slice(),
     )?;
     Ok(clean(text))
 }
 
 /// Tells an order of a trace's steps after `start` that gives the replies of a report, or that none does, or the first step before
 /// `start` of which the report tells something else than the model. `name` is the report's file, for the place of its first fault.
-/// A step of which it tells nothing may be told anything but `nomemory`. Too many points, and Err, are as for all outcomes.
-pub fn tell_order(
+/// A step without a reply in it may get any reply but `nomemory`. Too many points, and Err, are as for all outcomes.
+pub fn tell_order<P: Progress>(
     global: Global,
     trace: &[u8],
     name: &str,
     report: &[u8],
     limit: usize,
+    progress: &P,
 ) -> Result<Told, AllocError>
     ensures { IfOk result (TellsReported name.now (lines_of report.now) limit (course_of 1 nothing_asked (lines_of trace.now))) }
 {
     match read_trace(global, trace)? {
-        Read::Whole(course) => order_of(global, &course, name, report, limit),
+        Read::Whole(course) => order_of(global, &course, name, report, limit, progress),
         Read::Fault(line, fault) => faulty(global, line, fault),
     }
 }
 
 /// An order of what a trace asks for that gives the replies of a report.
-fn order_of(
+fn order_of<P: Progress>(
     global: Global,
     course: &Course,
     name: &str,
     report: &[u8],
     limit: usize,
+    progress: &P,
 ) -> Result<Told, AllocError>
     requires { IsSound (course_in course.now) }
     ensures { IfOk result (TellsReported name.now (lines_of report.now) limit (Ok (course_in course.now))) }
 {
     let texts = nothing_told(global, course.steps.as_slice())?;
     match read_report(global, name, report, course.steps.as_slice(), texts)? {
-        Report::Texts(texts) => order_by(global, course, texts.as_slice(), limit),
+        Report::Texts(texts) => order_by(global, course, texts.as_slice(), limit, progress),
         Report::Fault(text) => Ok(Told {
             text,
             outcome: Outcome::Fault,
@@ -243,12 +211,13 @@ fn idle_order(global: Global) -> Result<Told, AllocError>
     Ok(clean(text))
 }
 
-/// An order that gives what is told of each step.
-fn order_by(
+/// An order that gives these replies.
+fn order_by<P: Progress>(
     global: Global,
     course: &Course,
     texts: &[Option<Vec<u8>>],
     limit: usize,
+    progress: &P,
 ) -> Result<Told, AllocError>
     requires sound { IsSound (course_in course.now) }
     requires count { length texts.now ≡ length course.now.steps.items }
@@ -263,19 +232,20 @@ fn order_by(
         None => return idle_order(global),
     };
     match boot_state(global, &course.settings, carve) {
-        Ok(state) => order_from(global, state, course, texts, limit),
+        Ok(state) => order_from(global, state, course, texts, limit, progress),
         Err(Stop::Fault(fault)) => faulty(global, boot, fault),
         Err(Stop::NoMemory) => Err(AllocError),
     }
 }
 
 /// The same from the boot state.
-fn order_from(
+fn order_from<P: Progress>(
     global: Global,
     state: Ghost,
     course: &Course,
     texts: &[Option<Vec<u8>>],
     limit: usize,
+    progress: &P,
 ) -> Result<Told, AllocError>
     requires sound { IsSound (course_in course.now) }
     requires config { state.layout.config ≡ config_of (course_in course.now).told }
@@ -284,12 +254,12 @@ fn order_from(
     ensures { IfOk result (TellsObserved (machine_in state) (course_in course.now) (texts_in texts.now) limit) }
 {
     match first_made(global, state, course, texts) {
-        Ok(race) => order_in(global, &race, course, texts, limit),
+        Ok(race) => order_in(global, &race, course, texts, limit, progress),
         Err(_) => Err(AllocError),
     }
 }
 
-/// Tells that a step before `start` was told something else.
+/// Reports that a step before `start` has another reply than the model's.
 fn otherwise(global: Global, line: u64, reply: Reply) -> Result<Told, AllocError>
     ensures { IfOk result (TellsUnclean (otherwise_said line (text_of_reply reply))) }
 {
@@ -300,12 +270,13 @@ fn otherwise(global: Global, line: u64, reply: Reply) -> Result<Told, AllocError
 }
 
 /// The same once the steps before `start` are made.
-fn order_in(
+fn order_in<P: Progress>(
     global: Global,
     race: &Race,
     course: &Course,
     texts: &[Option<Vec<u8>>],
     limit: usize,
+    progress: &P,
 ) -> Result<Told, AllocError>
     requires sound { IsSound (course_in course.now) }
     requires count { length texts.now ≡ length course.now.steps.items }
@@ -321,17 +292,18 @@ fn order_in(
         &texts[..count],
     )? {
         Some((line, reply)) => otherwise(global, line, reply),
-        None => order_behind(global, race, course, texts, limit),
+        None => order_behind(global, race, course, texts, limit, progress),
     }
 }
 
-/// Tells an order of the steps after `start` that gives what is told of them, or that none does.
-fn order_behind(
+/// Reports an order of the steps after `start` that gives these replies, or that none does.
+fn order_behind<P: Progress>(
     global: Global,
     race: &Race,
     course: &Course,
     texts: &[Option<Vec<u8>>],
     limit: usize,
+    progress: &P,
 ) -> Result<Told, AllocError>
     requires sound { IsSound (course_in course.now) }
     requires count { length texts.now ≡ length course.now.steps.items }
@@ -345,6 +317,7 @@ fn order_behind(
         race.turns.as_slice(),
         &texts[count..],
         limit,
+        progress,
     ) {
         Ok(Some(order)) => order_told(global, course, order.as_slice()),
         Ok(None) => none_told(global),
@@ -372,7 +345,7 @@ fn none_told(global: Global) -> Result<Told, AllocError>
     Ok(unclean(text))
 }
 
-/// Whether a reply reads as it was told, where anything was.
+/// Whether a reply has the given text, if one was given.
 fn reads(global: Global, reply: Reply, text: &Option<Vec<u8>>) -> Result<bool, AllocError>
     ensures { IfOk result (λ b. b ≡ is_read (text_of_reply reply) (option_map (λ v. v.items) text.now)) }
 {
@@ -385,7 +358,7 @@ fn reads(global: Global, reply: Reply, text: &Option<Vec<u8>>) -> Result<bool, A
     }
 }
 
-/// The first step that was told something else than its reply.
+/// The first step with another text than its reply.
 fn first_apart(
     global: Global,
     steps: &[Asked],

@@ -80,7 +80,7 @@ fn add_first(
 }
 
 /// The text of the reply at a place.
-fn text_at(global: Global, replies: &[Reply], place: usize) -> Result<Vec<u8>, AllocError>
+pub fn text_at(global: Global, replies: &[Reply], place: usize) -> Result<Vec<u8>, AllocError>
     ensures { IfOk result (λ v. v.items ≡ text_at_of place replies.now) }
 {
     match replies.get(place) {
@@ -98,7 +98,7 @@ pub(crate) fn text_of(global: Global, reply: Reply) -> Result<Vec<u8>, AllocErro
 }
 
 /// Whether a text is among others.
-fn is_among(texts: &[Vec<u8>], text: &[u8]) -> bool
+pub fn is_among(texts: &[Vec<u8>], text: &[u8]) -> bool
     ensures { result ≡ is_among_of (map (λ v. v.items) texts.now) text.now }
 {
     for other in texts {
@@ -122,7 +122,7 @@ fn add_kind(kinds: &mut Vec<Vec<u8>>, text: Vec<u8>) -> Result<(), AllocError>
 }
 
 /// All texts of the replies at a place, each once.
-fn kinds_at(global: Global, found: &[Outcome], place: usize) -> Result<Vec<Vec<u8>>, AllocError>
+pub fn kinds_at(global: Global, found: &[Outcome], place: usize) -> Result<Vec<Vec<u8>>, AllocError>
     ensures { IfOk result (λ v. map (λ v. v.items) v.items ≡ kinds_at_of found.now place) }
 {
     let mut kinds = Vec::new(global);
@@ -145,7 +145,7 @@ fn add_behind(text: &mut Vec<u8>, kinds: &[Vec<u8>]) -> Result<(), AllocError>
 }
 
 /// Texts with ` | ` between them.
-fn add_kinds(text: &mut Vec<u8>, kinds: &[Vec<u8>]) -> Result<(), AllocError>
+pub fn add_kinds(text: &mut Vec<u8>, kinds: &[Vec<u8>]) -> Result<(), AllocError>
     ensures { OnOk result (text.new.items ≡ text.old.items ++ kinds_said (map (λ v. v.items) kinds.now)) }
 {
     match kinds {
@@ -260,7 +260,7 @@ pub(crate) fn add_order(
     Ok(())
 }
 
-fn add_places(
+pub fn add_places(
     text: &mut Vec<u8>,
     global: Global,
     steps: &[Asked],
@@ -369,7 +369,7 @@ fn add_number(text: &mut Vec<u8>, global: Global, number: u64) -> Result<(), All
     Ok(())
 }
 
-/// That a step before `start` was told something else than the model tells it.
+/// That a step before `start` has another reply than the model's.
 pub(crate) fn add_otherwise(
     text: &mut Vec<u8>,
     global: Global,

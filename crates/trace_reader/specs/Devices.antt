@@ -11,7 +11,7 @@ one_more n = min (n + 1) 18446744073709551615
 abbrev pub Counts : {X E : Type 0} → ℕ → ℕ → Result X E → Type 0
 Counts before after r = MatchResult r (λ _. after ≡ before) (λ _. after ≡ one_more before)
 
--- a failed read is told just where the source has failed, which was once
+-- a failed read is reported exactly if the source has failed, which was once
 abbrev pub TellsRead : {X : Type 0} → ℕ → ℕ → Result X EngineFault → Type 0
 TellsRead before after (Ok x) = after ≡ before
 TellsRead before after (Err Read) = after ≡ one_more before

@@ -17,7 +17,7 @@ abbrev pub HasNoEnd : List ℕ → Type 0
 HasNoEnd [] = Unit {0}
 HasNoEnd (byte ∷ bytes) = ((byte == 10) ≡ false) × HasNoEnd bytes
 
--- the first line of these bytes, of which as much was read as shows that it is long, and what is left
+-- the first line of these bytes, read as far as shows that it is long, and the bytes left
 pub record IsFirstLine (bytes line : List ℕ) (left : Option (List ℕ)) : Type 0 where
   pub whole : List ℕ
   pub rest : List (List ℕ)

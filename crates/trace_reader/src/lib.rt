@@ -4,6 +4,7 @@
 mod ahead;
 mod counting;
 mod outcome;
+mod progress;
 mod reading;
 mod source;
 mod status;
@@ -12,6 +13,7 @@ mod whole;
 pub use ahead::ReadAhead;
 pub use counting::Counting;
 pub use outcome::{EngineFault, Outcome};
+pub use progress::{Progress, Silent};
 pub use reading::{MOST_BYTES, read_line};
 pub use source::{Failed, Source};
 pub use status::exit_status;

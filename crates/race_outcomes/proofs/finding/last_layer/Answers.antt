@@ -3,22 +3,28 @@ use Rattle.std.specs.Prelude.{All}
 use Rattle.page_state.specs.LayoutView.{layout_of}
 use Rattle.ghost_spec.specs.States.{ghost_state}
 use Rattle.race_outcomes.specs.declared.node.Node.{Node}
-use Rattle.race_outcomes.specs.Layers.{AreNext, IsLayer, IsLayerFault, IsReady}
+use Rattle.race_outcomes.specs.Layers.{AreNext, HaveOneLayout, IsLayer, IsLayerFault, IsReady}
 use Rattle.race_outcomes.specs.Orders.{IsOutcomesFault}
 use Rattle.race_outcomes.proofs.Crowded.{outcomes_fault}
 use Rattle.race_outcomes.proofs.Found.{passed}
-use Rattle.race_outcomes.proofs.Layers.{layer_next, layer_ready}
+use Rattle.race_outcomes.proofs.Layers.{layer_layouts, layer_next, layer_ready}
 use Rattle.race_outcomes.proofs.finding.last_layer.Goals as goal
 
 pub next_layer-requires-clause-ready : goal.next_layer-requires-clause-ready
-next_layer-requires-clause-ready c =
+next_layer-requires-clause-ready g c =
     let turns = c.args.turns.now in
     let wanted = c.args.wanted.now in
     let state = c.args.state.now in
-    subst (All (IsReady turns wanted)) (sym c.as_slice.ensures.value) (layer_ready turns wanted (layout_of state.layout) (ghost_state state) c.loop-made.made c.loop-made.nodes.items c.requires.cpus c.loop-made.invariant)
+    subst (All (IsReady turns wanted)) (sym c.as_slice.ensures.value) (layer_ready turns wanted (layout_of state.layout) (ghost_state state) c.loop-made.made c.loop-made.nodes.items c.requires.cpus c.requires.count c.loop-made.invariant)
+
+pub next_layer-requires-clause-layouts : goal.next_layer-requires-clause-layouts
+next_layer-requires-clause-layouts g c =
+    let turns = c.args.turns.now in
+    let state = c.args.state.now in
+    subst HaveOneLayout (sym c.as_slice.ensures.value) (layer_layouts turns c.args.wanted.now (layout_of state.layout) (ghost_state state) c.loop-made.made c.loop-made.nodes.items c.loop-made.invariant)
 
 pub loop-made-preserved : goal.loop-made-preserved
-loop-made-preserved c =
+loop-made-preserved g c =
     let turns = c.args.turns.now in
     let wanted = c.args.wanted.now in
     let l = layout_of c.args.state.now.layout in
@@ -29,7 +35,7 @@ loop-made-preserved c =
     subst (λ (v : Vec Node Global). IsLayer turns wanted l s (c.loop-made.made + 1) v.items) (sym c.replace.ensures.after) (layer_next turns wanted l s c.loop-made.made old new c.loop-made.invariant goes)
 
 pub returns-in_err-next-clause-fault : goal.returns-in_err-next-clause-fault
-returns-in_err-next-clause-fault c =
+returns-in_err-next-clause-fault g c =
     let turns = c.args.turns.now in
     let wanted = c.args.wanted.now in
     let l = layout_of c.args.state.now.layout in

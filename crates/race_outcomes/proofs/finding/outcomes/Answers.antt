@@ -6,7 +6,7 @@ use Rattle.race_outcomes.proofs.Found.{all_outcomes}
 use Rattle.race_outcomes.proofs.finding.outcomes.Goals as goal
 
 pub returns-in-Ok-clause-all : goal.returns-in-Ok-clause-all
-returns-in-Ok-clause-all c =
+returns-in-Ok-clause-all g c =
     let ns = c.in_ok-nodes.nodes.items in
     let os = c.in-Ok.found.items in
     let found : AreOutcomes ns os = subst (λ xs. AreOutcomes xs os) c.as_slice.ensures.value c.in-Ok.ensures in

@@ -20,6 +20,7 @@ loop-place-preserved c =
     record {
       spread = spread_more turns wanted node c.args.layer.now.nodes.items old new so.spread more.spread;
       indexed = more.indexed;
+      at_hand = more.at_hand;
       has = below_more (λ k. HasStep turns wanted node new k) c.loop-place.place (λ k h. has_stays turns wanted node node old new k more.spread (so.has k h)) more.has;
     }
 

@@ -11,7 +11,7 @@ use Rattle.trace_outcomes.proofs.Turns.{rest_is}
 use Rattle.trace_outcomes.proofs.telling.order_behind.Goals as goal
 
 pub returns-in-Ok-Some : goal.returns-in-Ok-Some
-returns-in-Ok-Some c =
+returns-in-Ok-Some g c =
     let race = c.args.race.now in
     let n = c.in_order-count.result in
     let order = c.in-Ok-Some.order in
@@ -20,7 +20,7 @@ returns-in-Ok-Some c =
     (subst (IsExplained (layout_of race.state.layout) (ghost_state race.state) c.as_slice.result.now _) c.in-Ok-Some.field-0-is c.in-Ok-Some.ensures.order)) tells) c.order_told.ensures
 
 pub returns-in-Ok-None : goal.returns-in-Ok-None
-returns-in-Ok-None c =
+returns-in-Ok-None g c =
     let race = c.args.race.now in
     let n = c.in_order-count.result in
     mapped c.none_told.result _ _ (λ t tells m made. none_tells m (course_in c.args.course.now) race c.as_slice.result.now c.as_slice.ensures.value c.args.texts.now n c.in_order-count.ensures made c.args.limit t
@@ -28,14 +28,14 @@ returns-in-Ok-None c =
     (subst (IsExplained (layout_of race.state.layout) (ghost_state race.state) c.as_slice.result.now _) c.in-Ok-None.field-0-is c.in-Ok-None.ensures.order)) tells) c.none_told.ensures
 
 pub returns-in-Err : goal.returns-in-Err
-returns-in-Err c =
+returns-in-Err g c =
     let race = c.args.race.now in
     let n = c.in_order-count.result in
     mapped c.too_many.result _ _ (λ t tells m made. behind_many m (course_in c.args.course.now) race c.as_slice.result.now c.as_slice.ensures.value c.args.texts.now n c.in_order-count.ensures made c.args.limit t c.in-Err.fault
     (subst (λ w. IsOutcomesFault (layout_of race.state.layout) (ghost_state race.state) c.as_slice.result.now w c.args.limit c.in-Err.fault) (rest_is n c.args.texts.now) c.in-Err.ensures.fault) tells) c.too_many.ensures
 
 pub too_many-requires : goal.too_many-requires
-too_many-requires c =
+too_many-requires g c =
     let race = c.args.race.now in
     let few = c.requires.ready.few in
     let same = ap length c.as_slice.ensures.value in

@@ -1,0 +1,20 @@
+//! Who is told how far long work is.
+
+/// Is told of the units of long work that are done. No answer depends on it.
+pub trait Progress {
+    /// So many units more are done.
+    fn advance(&self, by: u64);
+
+    /// The work is done.
+    fn finish(&self);
+}
+
+/// Shows nothing.
+#[derive(Clone, Copy)]
+pub struct Silent;
+
+impl Progress for Silent {
+    fn advance(&self, _by: u64) {}
+
+    fn finish(&self) {}
+}
