@@ -20,7 +20,7 @@ use Rattle.trace_race.specs.Courses.{course_of, nothing_asked}
 use Rattle.trace_race.specs.Raced.{HasOneHistory, IsRaceReport}
 use Rattle.trace_outcomes.specs.Told.{TellsOutcomes, TellsReported}
 use Rattle.trace_outcomes.specs.declared.telling.Told.{Told as OutcomesTold}
-use Rattle.trace_check.specs.Checks.{IsChecked}
+use Rattle.trace_cases.specs.Cases.{IsCaseChecked}
 use Rattle.trace_check.specs.declared.checking.Checked.{Checked}
 use Rattle.trace_draw.specs.declared.course.Ended.{Ended}
 use Rattle.trace_draw.specs.declared.course.Ended.TheVariants as ends
@@ -52,7 +52,7 @@ HasRaceReport bytes outcome = IfSome bytes (λ all. (lines : List ReportLine) ×
 abbrev pub HasAuditReport : Option (List ℕ) → Outcome → Type 0
 HasAuditReport bytes outcome = IfSome bytes (λ all. (lines : List ReportLine) × reports.IsReport (RunsLine {A = Global}) Ends 1 nothing_audited (lines_of all) lines outcome)
 
--- all that the steps after `start` of a trace of these bytes may be told
+-- all replies that the steps after `start` of a trace of these bytes may get
 pub record FindsOutcomes (limit : ℕ) (all : List ℕ) (outcome : Outcome) : Type 0 where
   pub told : OutcomesTold
   pub tells : TellsOutcomes limit (course_of 1 nothing_asked (lines_of all)) told
@@ -75,7 +75,7 @@ abbrev pub outcome_of_check : Bool → Outcome
 outcome_of_check clean = if clean then Clean else Disagreed
 
 abbrev pub HasChecked : List ℕ → Option (List ℕ) → Outcome → Type 0
-HasChecked path bytes outcome = IfSome bytes (λ all. (checked : Checked) × IsChecked path all checked × (outcome ≡ outcome_of_check checked.clean))
+HasChecked path bytes outcome = IfSome bytes (λ all. (checked : Checked) × IsCaseChecked Global path all checked × (outcome ≡ outcome_of_check checked.clean))
 
 -- a trace of these bytes is explained, or one line of it
 abbrev pub HasExplained : List ℕ → Option ℕ → Option (List ℕ) → Outcome → Type 0
@@ -199,7 +199,7 @@ module _ {F E : Type 0} (bytes : F → Option (List ℕ)) (opens : List ℕ → 
 -- and of the program, by what opening an image may come to as well
 module _ {F I E : Type 0} (bytes : F → Option (List ℕ)) (opens : List ℕ → Result F E → Type 0)
     (known : I → Option (List ℕ)) (may_fail : I → ℕ → ℕ → Type 0) (opens_image : List ℕ → Result I E → Type 0) where
-  -- of what is asked
+  -- of the requests
   abbrev pub HasAskedStatus : Asking → ℕ → Type 0
   HasAskedStatus (Replaying file heap looks output) status = HasFileStatus bytes opens (tasks.Replay heap looks output) file status
   HasAskedStatus (Racing file output) status = HasFileStatus bytes opens (tasks.Race output) file status

@@ -4,15 +4,17 @@ ghost use Rattle.image_dump.specs.Dumped.{IsRoot};
 ghost use Rattle.trace_command.specs.Asked.{dump_asked};
 ghost use Rattle.trace_cli.specs.Dumping.{HasDumpStatus, IsDumpAnswer, form_by};
 
-use crate::files::OpensImage;
+use crate::files::{OpensImage, ShowsWork};
+use crate::progress::WatchedImage;
 use crate::tasks::unopened;
 use crate::telling::REFUSED;
 use dump_words::{Given, NotGiven, read_words};
 use image_dump::{Dumped, Form, NotDumped, dump_image, dump_status};
 use memory_image::{ImageBytes, Refused};
 use report_json::{DUMPS, JsonLines};
-use std::io;
+use std::io::{self, Write};
 use trace_command::{Dump, Output};
+use trace_reader::Progress;
 
 /// The form of an image, by the address that `--base` gives.
 fn form_of(base: Option<u64>) -> Form
@@ -25,11 +27,12 @@ fn form_of(base: Option<u64>) -> Form
 }
 
 /// Dumps the image at a path, and gives the exit status.
-pub fn dumped<R: AllocGlobal + Print + Eprint, I: ImageBytes + Drop, O: OpensImage<I>>(
-    rt: &R,
-    files: &O,
-    dump: Dump<'_>,
-) -> u8
+pub fn dumped<
+    R: AllocGlobal + Print + Eprint,
+    I: ImageBytes + Drop,
+    P: Progress + Drop,
+    O: OpensImage<I> + ShowsWork<P>,
+>(rt: &R, files: &O, dump: Dump<'_>) -> u8
     ensures { HasDumpStatus I.bytes I.may_fail (O.opens_image files.now) (dump_asked dump.entry) result }
 {
     let Dump {
@@ -55,7 +58,8 @@ pub fn dumped<R: AllocGlobal + Print + Eprint, I: ImageBytes + Drop, O: OpensIma
     };
     match files.open_image(path) {
         Ok(image) => {
-            let answer = written(rt, &image, form_of(base), &given, output);
+            let progress = files.progress("pages read", output != Output::Nothing);
+            let answer = written(rt, &image, form_of(base), &given, output, &progress);
             told(rt, path, answer);
             dump_status(answer)
         }
@@ -74,13 +78,14 @@ fn not_given<R: Eprint>(rt: &R, fault: NotGiven) -> u8
     REFUSED
 }
 
-/// Writes the report of an image to standard output, or to nothing.
-fn written<R: AllocGlobal + Print, I: ImageBytes>(
+/// Writes the report of an image to standard output, or to nothing, once all is read.
+fn written<R: AllocGlobal + Print, I: ImageBytes, P: Progress>(
     rt: &R,
     image: &I,
     form: Form,
     given: &Given,
     output: Output,
+    progress: &P,
 ) -> Result<Dumped, NotDumped>
     requires roots { All IsRoot given.now.roots.items }
     requires few { length given.now.roots.items < 2 ^ 32 }
@@ -88,13 +93,19 @@ fn written<R: AllocGlobal + Print, I: ImageBytes>(
 {
     let roots = given.roots.as_slice();
     let skips = given.skips.as_slice();
-    match output {
-        Output::Report => dump_image(rt.alloc(), image, form, roots, skips, &mut io::writer(rt)),
-        Output::Json => {
-            let mut lines = JsonLines::new(rt.alloc(), DUMPS, io::writer(rt));
-            dump_image(rt.alloc(), image, form, roots, skips, &mut lines)
-        }
-        Output::Nothing => dump_image(rt.alloc(), image, form, roots, skips, &mut io::sink()),
+    let watched = WatchedImage { image, progress };
+    let mut report = Vec::new(rt.alloc());
+    let answer = dump_image(rt.alloc(), &watched, form, roots, skips, &mut report);
+    progress.finish();
+    let text = report.as_slice();
+    let written = match output {
+        Output::Report => io::writer(rt).write_all(text),
+        Output::Json => JsonLines::new(rt.alloc(), DUMPS, io::writer(rt)).write_all(text),
+        Output::Nothing => Ok(()),
+    };
+    match written {
+        Ok(()) => answer,
+        Err(_) => Err(NotDumped::Unwritten),
     }
 }
 

@@ -1,7 +1,7 @@
 //! Where the files of traces come from.
 ghost use Rattle.std.specs.Prelude.{⊤};
 
-use crate::progress::Watched;
+use crate::progress::{Shown, Watched};
 use either::Either;
 use std::fs;
 use std::io::{self, Input};
@@ -34,15 +34,21 @@ pub trait OpensImage<I> {
         ensures { opens_image self.now path.now result };
 }
 
+/// What shows how far long work is.
+pub trait ShowsWork<P> {
+    /// What counts so many `units` of work from here on. `is_shown` says whether the user asked for anything to be shown.
+    fn progress(&self, units: &'static str, is_shown: bool) -> P;
+}
+
 /// The machine's own files, and standard input under the path `-`.
 #[derive(Drop)]
 pub struct HostFiles<'a, R> {
     pub rt: &'a R,
-    /// Whether a long run shows its progress.
+    /// Whether long work shows how far it is.
     pub shows: bool,
 }
 
-impl<'a, R: Files + Input + Clock + Eprint> Opens<Watched<'a, R, Either<R::Reader, R::File>>>
+impl<'a, R: Files + Input + Clock + Eprint> Opens<Watched<Either<R::Reader, R::File>, Shown<'a, R>>>
     for HostFiles<'a, R> {
     ghost opens = { λ files path file. ⊤ };
 
@@ -50,14 +56,14 @@ impl<'a, R: Files + Input + Clock + Eprint> Opens<Watched<'a, R, Either<R::Reade
         &self,
         path: &str,
         is_long: bool,
-    ) -> Result<Watched<'a, R, Either<R::Reader, R::File>>, io::Error> {
-        let shows = self.shows && is_long;
+    ) -> Result<Watched<Either<R::Reader, R::File>, Shown<'a, R>>, io::Error> {
+        let progress = self.progress("lines read", is_long);
         if path == "-" {
             let input = Either::Left(self.rt.reader());
-            return Ok(Watched::new(self.rt, input, shows));
+            return Ok(Watched::new(input, progress));
         }
         match fs::open(self.rt, path) {
-            Ok(file) => Ok(Watched::new(self.rt, Either::Right(file), shows)),
+            Ok(file) => Ok(Watched::new(Either::Right(file), progress)),
             Err(error) => Err(error),
         }
     }
@@ -68,5 +74,11 @@ impl<'a, R: Files> OpensImage<R::File> for HostFiles<'a, R> {
 
     fn open_image(&self, path: &str) -> Result<R::File, io::Error> {
         fs::open(self.rt, path)
+    }
+}
+
+impl<'a, R: Clock + Eprint> ShowsWork<Shown<'a, R>> for HostFiles<'a, R> {
+    fn progress(&self, units: &'static str, is_shown: bool) -> Shown<'a, R> {
+        Shown::new(self.rt, units, self.shows && is_shown)
     }
 }

@@ -5,22 +5,25 @@ ghost use Rattle.trace_cli.specs.Status.{IsAnswerPut, IsMade, IsPut, status_writ
 use crate::telling::{FAILED, REFUSED};
 use std::io::{self, Write};
 use trace_generate::{GenerateFault, Options, generate};
+use trace_reader::Progress;
 
 /// Writes the trace of these options, and gives the exit status.
-pub fn made<R: AllocGlobal + Eprint, W: Write>(
+pub fn made<R: AllocGlobal + Eprint, W: Write, P: Progress>(
     rt: &R,
     writer: &mut W,
     seed: u64,
     steps: u64,
     options: &Options,
+    progress: &P,
 ) -> u8
     ensures { IsMade steps options.now (W.contents writer.old) (W.contents writer.new) result }
 {
-    let answer = generate(rt.alloc(), seed, steps, options);
+    let answer = generate(rt.alloc(), seed, steps, options, progress);
+    progress.finish();
     written(rt, writer, answer)
 }
 
-/// Writes a trace that was made, or tells why none was, and gives the exit status.
+/// Writes a trace that was made, or says why none was, and returns the exit status.
 fn written<R: Eprint, W: Write>(rt: &R, writer: &mut W, answer: Result<String, GenerateFault>) -> u8
     ensures { IsAnswerPut string_bytes answer (W.contents writer.old) (W.contents writer.new) result }
 {

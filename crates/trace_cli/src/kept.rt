@@ -1,4 +1,4 @@
-//! What a run reads and the end of what it writes, kept for what is said beside its report.
+//! What a run reads and the end of what it writes, kept for the text beside its report.
 ghost use Rattle.std.specs.Prelude.{◌≡◌};
 
 use std::alloc::{AllocError, Global};
@@ -12,7 +12,7 @@ pub struct KeptReader<'a, F> {
 }
 
 impl<'a, F> KeptReader<'a, F> {
-    /// Keeps it behind what is in `trace`.
+    /// Appends it to `trace`.
     pub fn new(file: F, trace: &'a mut Vec<u8>) -> KeptReader<'a, F>
         ensures { result.file ≡ file }
     {

@@ -35,7 +35,7 @@ mod telling;
 mod texts;
 
 use dumping::dumped;
-use files::{HostFiles, Opens, OpensImage};
+use files::{HostFiles, Opens, OpensImage, ShowsWork};
 use generated::made;
 use memory_image::ImageBytes;
 use std::io::IsTerminal;
@@ -48,13 +48,15 @@ use tasks::{Opened, Task, order_status, status_of, unopened};
 use telling::{FAILED, refused};
 use trace_command::{Invocation, Output, command};
 use trace_generate::Options;
+use trace_reader::Progress;
 
 /// Runs the program, and gives the exit status.
 fn run<
     R: AllocGlobal + Env + Print + Eprint + Threads + Wait + Sync,
     F: io::Read + Drop,
     I: ImageBytes + Drop,
-    O: Opens<F> + OpensImage<I>,
+    P: Progress + Drop,
+    O: Opens<F> + OpensImage<I> + ShowsWork<P>,
 >(rt: &R, files: &O) -> Result<u8, io::Error>
     ensures { IfOk result (HasSomeStatus F.remaining (O.opens files.now) I.bytes I.may_fail (O.opens_image files.now)) }
 {
@@ -67,7 +69,8 @@ fn done_by_words<
     R: AllocGlobal + Print + Eprint + Threads + Wait + Sync,
     F: io::Read + Drop,
     I: ImageBytes + Drop,
-    O: Opens<F> + OpensImage<I>,
+    P: Progress + Drop,
+    O: Opens<F> + OpensImage<I> + ShowsWork<P>,
 >(rt: &R, files: &O, words: &[String]) -> u8
     ensures { HasWordsStatus F.remaining (O.opens files.now) I.bytes I.may_fail (O.opens_image files.now) (map (λ w. w.bytes.items) words.now) result }
 {
@@ -82,7 +85,8 @@ fn done<
     R: AllocGlobal + Print + Eprint + Threads + Wait + Sync,
     F: io::Read + Drop,
     I: ImageBytes + Drop,
-    O: Opens<F> + OpensImage<I>,
+    P: Progress + Drop,
+    O: Opens<F> + OpensImage<I> + ShowsWork<P>,
 >(rt: &R, files: &O, asked: Invocation<'_>) -> u8
     ensures { HasAskedStatus F.remaining (O.opens files.now) I.bytes I.may_fail (O.opens_image files.now) (asking_of asked.entry) result }
 {
@@ -146,6 +150,7 @@ fn done<
                 geometry,
                 hostile,
             },
+            &files.progress("calls", true),
         ),
         Invocation::Draw { file, text } => done_with(rt, files, file, Task::Draw { text }),
         Invocation::Dump(dump) => dumped(rt, files, dump),
@@ -156,7 +161,8 @@ fn done<
 fn done_with_each<
     R: AllocGlobal + Print + Eprint + Threads + Wait + Sync,
     F: io::Read + Drop,
-    O: Opens<F>,
+    P: Progress + Drop,
+    O: Opens<F> + ShowsWork<P>,
 >(rt: &R, files: &O, paths: &[&str], task: Task) -> u8
     ensures { HasGreatestStatus F.remaining (O.opens files.now) task (map (λ path. path.now) paths.now) result }
 {
@@ -171,23 +177,23 @@ fn done_with_each<
 fn done_with<
     R: AllocGlobal + Print + Eprint + Threads + Wait + Sync,
     F: io::Read + Drop,
-    O: Opens<F>,
+    P: Progress + Drop,
+    O: Opens<F> + ShowsWork<P>,
 >(rt: &R, files: &O, path: &str, task: Task) -> u8
     ensures { HasFileStatus F.remaining (O.opens files.now) task path.now result }
 {
     let file = files.open(path, task.shows());
-    status_of(rt, Opened { task, path, file })
+    let progress = files.progress("points", task.searches());
+    status_of(rt, Opened { task, path, file }, &progress)
 }
 
 /// Tells whether some order gives the replies of the report at a path, and gives the exit status.
-fn done_with_both<R: AllocGlobal + Print + Eprint, F: io::Read + Drop, O: Opens<F>>(
-    rt: &R,
-    files: &O,
-    path: &str,
-    report: &str,
-    limit: u64,
-    output: Output,
-) -> u8
+fn done_with_both<
+    R: AllocGlobal + Print + Eprint,
+    F: io::Read + Drop,
+    P: Progress + Drop,
+    O: Opens<F> + ShowsWork<P>,
+>(rt: &R, files: &O, path: &str, report: &str, limit: u64, output: Output) -> u8
     ensures { HasOrderStatus F.remaining (O.opens files.now) path.now report.now limit result }
 {
     let file = match files.open(path, false) {
@@ -195,7 +201,10 @@ fn done_with_both<R: AllocGlobal + Print + Eprint, F: io::Read + Drop, O: Opens<
         Err(error) => return unopened(rt, path, error),
     };
     match files.open(report, false) {
-        Ok(observed) => order_status(rt, path, report, limit, output, file, observed),
+        Ok(observed) => {
+            let progress = files.progress("points", output != Output::Nothing);
+            order_status(rt, path, report, limit, output, file, observed, &progress)
+        }
         Err(error) => {
             drop(file);
             unopened(rt, report, error)

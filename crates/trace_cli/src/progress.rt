@@ -1,75 +1,115 @@
-//! A reader that shows how far a long run is.
+//! How far long work is, on standard error.
 ghost use Rattle.std.specs.Prelude.{◌≡◌};
 
+use memory_image::{ImageBytes, Unread};
+use std::cell::Cell;
 use std::io::{self, Read};
 use std::time::{Clock, Duration, Instant};
+use trace_reader::Progress;
 
-/// A trace's reader that shows on standard error, once a second, how many lines were read, and wipes that at the end.
+/// Shows on standard error, once a second, how many units of work are done, and wipes that at the end.
 #[derive(Drop)]
-pub struct Watched<'a, R: Clock + Eprint, F> {
+pub struct Shown<'a, R: Clock + Eprint> {
     rt: &'a R,
-    file: F,
-    /// When the progress was shown last. None where it isn't shown.
-    shown: Option<Instant>,
-    /// Whether something was shown.
-    is_shown: bool,
-    lines: u64,
+    /// What is counted.
+    units: &'static str,
+    /// When it was shown last. None where it isn't shown.
+    last: Cell<Option<Instant>>,
+    /// Whether something is shown.
+    is_shown: Cell<bool>,
+    count: Cell<u64>,
 }
 
-impl<'a, R: Clock + Eprint, F> Watched<'a, R, F> {
+impl<'a, R: Clock + Eprint> Shown<'a, R> {
     /// `shows` says whether it shows anything.
-    pub fn new(rt: &'a R, file: F, shows: bool) -> Watched<'a, R, F>
-        ensures { result.file ≡ file }
-    {
-        let shown = if shows { Instant::now(rt).ok() } else { None };
-        Watched {
+    pub fn new(rt: &'a R, units: &'static str, shows: bool) -> Shown<'a, R> {
+        let last = if shows { Instant::now(rt).ok() } else { None };
+        Shown {
             rt,
-            file,
-            shown,
-            is_shown: false,
-            lines: 0,
+            units,
+            last: Cell::new(last),
+            is_shown: Cell::new(false),
+            count: Cell::new(0),
         }
     }
+}
 
-    /// Shows how many lines were read, where a second has passed.
-    fn show(&mut self)
-        ensures { self.new.file ≡ self.old.file }
-    {
-        let Some(shown) = self.shown else {
+impl<'a, R: Clock + Eprint> Progress for Shown<'a, R> {
+    /// Shows how many units are done, where a second has passed.
+    fn advance(&self, by: u64) {
+        let count = self.count.get().saturating_add(by);
+        self.count.set(count);
+        let Some(last) = self.last.get() else {
             return;
         };
         let Ok(now) = Instant::now(self.rt) else {
             return;
         };
-        if now.duration_since(shown) < Duration::from_secs(1) {
+        if now.duration_since(last) < Duration::from_secs(1) {
             return;
         }
-        self.shown = Some(now);
-        self.is_shown = true;
-        let lines = self.lines;
-        let _ = eprint!(self.rt; "\r./run: {lines} lines read");
+        self.last.set(Some(now));
+        self.is_shown.set(true);
+        let units = self.units;
+        let _ = eprint!(self.rt; "\r./run: {count} {units}");
     }
 
-    /// Counts the lines of what was read, and wipes what is shown where nothing was.
-    fn count(&mut self, bytes: &[u8])
-        ensures { self.new.file ≡ self.old.file }
-    {
-        let lines = bytes.iter().filter(|byte| **byte == b'\n').count();
-        self.lines = self.lines.saturating_add(lines as u64);
-        if bytes.is_empty() && self.is_shown {
-            self.is_shown = false;
+    fn finish(&self) {
+        if self.is_shown.get() {
+            self.is_shown.set(false);
             let _ = eprint!(self.rt; "\r\u{1b}[K");
         }
     }
 }
 
-impl<'a, R: Clock + Eprint, F: Read> Read for Watched<'a, R, F> {
+/// A trace's reader that shows how many lines were read.
+#[derive(Drop)]
+pub struct Watched<F, P: Drop> {
+    file: F,
+    progress: P,
+}
+
+impl<F, P: Progress + Drop> Watched<F, P> {
+    pub fn new(file: F, progress: P) -> Watched<F, P>
+        ensures { result.file ≡ file }
+    {
+        Watched { file, progress }
+    }
+}
+
+impl<F: Read, P: Progress + Drop> Read for Watched<F, P> {
     ghost remaining = { λ watched. F.remaining watched.file };
 
     fn read(&mut self, buf: &mut [u8]) -> io::Result<usize> {
-        self.show();
         let count = self.file.read(buf)?;
-        self.count(&buf[..count]);
+        let lines = buf[..count].iter().filter(|byte| **byte == b'\n').count();
+        self.progress.advance(lines as u64);
+        if count == 0 {
+            self.progress.finish();
+        }
         Ok(count)
+    }
+}
+
+/// An image of memory that shows how often a page, or a piece of the header, was read.
+#[derive(Drop)]
+pub struct WatchedImage<'a, I, P> {
+    pub image: &'a I,
+    pub progress: &'a P,
+}
+
+impl<'a, I: ImageBytes, P: Progress> ImageBytes for WatchedImage<'a, I, P> {
+    ghost bytes = { λ watched. I.bytes watched.image.now };
+
+    ghost may_fail = { λ watched. I.may_fail watched.image.now };
+
+    fn count(&self) -> Result<u64, Unread> {
+        self.image.count()
+    }
+
+    fn fill(&self, at: u64, into: &mut [u8]) -> Result<(), Unread> {
+        self.image.fill(at, into)?;
+        self.progress.advance(1);
+        Ok(())
     }
 }

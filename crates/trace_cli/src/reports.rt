@@ -165,7 +165,7 @@ fn audited_to<R: AllocGlobal + Eprint, F: io::Read + Drop, W: io::Write + Drop>(
     }
 }
 
-/// Why a replay or an audit stopped, as a race tells it.
+/// Why a replay or an audit stopped, as a race says it.
 fn halted<W: Drop>(stopped: Stopped<W>) -> Halted
     ensures { result.fault ≡ RaceFault.Engine stopped.fault }
 {

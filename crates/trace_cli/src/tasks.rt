@@ -10,7 +10,7 @@ use std::sync::Wait;
 use std::thread::Threads;
 use trace_command::{Looks, Output};
 use trace_race::Halted;
-use trace_reader::{Outcome, exit_status};
+use trace_reader::{Outcome, Progress, exit_status};
 
 /// What is done with the file of a trace.
 #[derive(Clone, Copy, PartialEq)]
@@ -26,7 +26,7 @@ pub enum Task {
     Audit {
         output: Output,
     },
-    /// Find all that the steps after `start` may be told, where no step has more points than this.
+    /// Find all replies that the steps after `start` may get, if no step has more points than this.
     Outcomes {
         limit: u64,
         output: Output,
@@ -56,6 +56,14 @@ impl Task {
             _ => false,
         }
     }
+
+    /// Whether orders are searched, which may take a while, and something is to be written.
+    pub fn searches(self) -> bool {
+        match self {
+            Task::Outcomes { output, .. } => output != Output::Nothing,
+            _ => false,
+        }
+    }
 }
 
 /// A task, the path of its file, and what came of opening that.
@@ -66,17 +74,18 @@ pub struct Opened<'a, F> {
     pub file: Result<F, io::Error>,
 }
 
-/// Does the task, writes to standard error what is in no report, and gives the exit status.
-pub fn status_of<R: AllocGlobal + Print + Eprint + Threads + Wait + Sync, F: io::Read + Drop>(
-    rt: &R,
-    opened: Opened<'_, F>,
-) -> u8
+/// Does the task, writes to standard error what is in no report, and returns the exit status.
+pub fn status_of<
+    R: AllocGlobal + Print + Eprint + Threads + Wait + Sync,
+    F: io::Read + Drop,
+    P: Progress,
+>(rt: &R, opened: Opened<'_, F>, progress: &P) -> u8
     ensures { HasStatus F.remaining opened.entry result }
 {
     let Opened { task, path, file } = opened;
     match file {
         Ok(file) => {
-            let answer = answered(rt, task, path, file);
+            let answer = answered(rt, task, path, file, progress);
             told(rt, path, answer)
         }
         Err(error) => unopened(rt, path, error),
@@ -92,7 +101,7 @@ pub fn unopened<R: Eprint>(rt: &R, path: &str, error: io::Error) -> u8
 }
 
 /// Tells whether some order of a trace's steps gives the replies of a report, and gives the exit status.
-pub fn order_status<R: AllocGlobal + Print + Eprint, F: io::Read + Drop>(
+pub fn order_status<R: AllocGlobal + Print + Eprint, F: io::Read + Drop, P: Progress>(
     rt: &R,
     path: &str,
     name: &str,
@@ -100,10 +109,11 @@ pub fn order_status<R: AllocGlobal + Print + Eprint, F: io::Read + Drop>(
     output: Output,
     file: F,
     report: F,
+    progress: &P,
 ) -> u8
     ensures { HasOrderAnswer name.now limit (F.remaining file) (F.remaining report) result }
 {
-    let answer = order_told(rt, path, name, limit, output, file, report);
+    let answer = order_told(rt, path, name, limit, output, file, report, progress);
     told(rt, path, answer)
 }
 
@@ -123,12 +133,11 @@ fn told<R: Eprint>(rt: &R, path: &str, answer: Result<Outcome, Halted>) -> u8
 
 /// Does the task with an opened file, writes the report to standard output, whose bytes no contract knows, and what is said
 /// beside it to standard error.
-fn answered<R: AllocGlobal + Print + Eprint + Threads + Wait + Sync, F: io::Read + Drop>(
-    rt: &R,
-    task: Task,
-    path: &str,
-    file: F,
-) -> Result<Outcome, Halted>
+fn answered<
+    R: AllocGlobal + Print + Eprint + Threads + Wait + Sync,
+    F: io::Read + Drop,
+    P: Progress,
+>(rt: &R, task: Task, path: &str, file: F, progress: &P) -> Result<Outcome, Halted>
     ensures { IfOk result (HasReport task path.now (F.remaining file)) }
 {
     match task {
@@ -139,7 +148,7 @@ fn answered<R: AllocGlobal + Print + Eprint + Threads + Wait + Sync, F: io::Read
         } => replayed(rt, path, heap, looks, output, file),
         Task::Race { output } => raced(rt, path, output, file),
         Task::Audit { output } => audited(rt, path, output, file),
-        Task::Outcomes { limit, output } => outcomes_told(rt, path, limit, output, file),
+        Task::Outcomes { limit, output } => outcomes_told(rt, path, limit, output, file, progress),
         Task::Check { looks, output } => checked(rt, path, looks, output, file),
         Task::Record => recorded(rt, file),
         Task::Explain { line, output } => explained(rt, path, line, output, file),

@@ -5,27 +5,31 @@ ghost use Rattle.trace_cli.specs.Status.{EndsAsDrawn, EndsAsTold, HasChecked, Ha
 use crate::telling::{no_memory, tell_beside};
 use report_json::{CHECKS, EXPLANATIONS, Form, JsonLines, OUTCOMES};
 use std::io::{self, ErrorKind, Write};
-use trace_check::{Watch, check, record};
+use trace_cases::{check, record};
+use trace_check::Watch;
 use trace_command::{Looks, Output};
 use trace_draw::{Ended, draw, draw_text};
 use trace_explain::explain;
 use trace_outcomes::{tell_order, tell_outcomes};
 use trace_race::{Halted, RaceFault};
-use trace_reader::{EngineFault, Outcome};
+use trace_reader::{EngineFault, Outcome, Progress};
 use trace_text::Fault;
 
-/// Finds all that the steps after `start` may be told, and writes it.
-pub fn outcomes_told<R: AllocGlobal + Print + Eprint, F: io::Read + Drop>(
+/// Finds all replies that the steps after `start` may get, and writes them.
+pub fn outcomes_told<R: AllocGlobal + Print + Eprint, F: io::Read + Drop, P: Progress>(
     rt: &R,
     path: &str,
     limit: u64,
     output: Output,
     file: F,
+    progress: &P,
 ) -> Result<Outcome, Halted>
     ensures { IfOk result (HasOutcomes limit (F.remaining file)) }
 {
     let trace = whole(rt, file)?;
-    let Ok(told) = tell_outcomes(rt.alloc(), trace.as_slice(), limit as usize) else {
+    let answer = tell_outcomes(rt.alloc(), trace.as_slice(), limit as usize, progress);
+    progress.finish();
+    let Ok(told) = answer else {
         return Err(no_memory());
     };
     show(rt, output, OUTCOMES, told.text.as_slice())?;
@@ -34,7 +38,7 @@ pub fn outcomes_told<R: AllocGlobal + Print + Eprint, F: io::Read + Drop>(
 }
 
 /// Tells whether some order of the steps after `start` gives the replies of a report.
-pub fn order_told<R: AllocGlobal + Print + Eprint, F: io::Read + Drop>(
+pub fn order_told<R: AllocGlobal + Print + Eprint, F: io::Read + Drop, P: Progress>(
     rt: &R,
     path: &str,
     name: &str,
@@ -42,18 +46,22 @@ pub fn order_told<R: AllocGlobal + Print + Eprint, F: io::Read + Drop>(
     output: Output,
     file: F,
     report: F,
+    progress: &P,
 ) -> Result<Outcome, Halted>
     ensures { IfOk result (HasOrder name.now limit (F.remaining file) (F.remaining report)) }
 {
     let trace = whole(rt, file)?;
     let report = whole(rt, report)?;
-    let Ok(told) = tell_order(
+    let answer = tell_order(
         rt.alloc(),
         trace.as_slice(),
         name,
         report.as_slice(),
         limit as usize,
-    ) else {
+        progress,
+    );
+    progress.finish();
+    let Ok(told) = answer else {
         return Err(no_memory());
     };
     show(rt, output, OUTCOMES, told.text.as_slice())?;

@@ -20,7 +20,7 @@ use Rattle.trace_command.specs.declared.words.UsageFault.{UsageFault}
 use Rattle.trace_command.specs.declared.words.UsageFault.TheVariants.{NoMemory, Usage}
 use Rattle.trace_command.specs.Words.{program}
 
--- an image of memory and what is known of it, in the words that were given
+-- an image of memory and the facts known of it, in the given words
 pub record DumpAsked : Type 0 where
   pub image : Text
   pub host : Text
@@ -194,7 +194,7 @@ dumping rows =
     option_and_then (λ image. option_and_then (λ host. option_and_then (λ hyp. option_map (λ base. Dumping (dump_in rows image host hyp base)) (base_told (first_of (codes "base") rows)))
     (first_of (codes "hyp") rows)) (first_of (codes "host") rows)) (first_of (codes "IMAGE") rows)
 
--- what is asked for by a subcommand's name and its values
+-- the task asked for by a subcommand's name and its values
 abbrev pub asked_in : Text × List Row → Option Asking
 asked_in (name, rows) =
     if bytes_eq name (codes "replay") then replaying rows
@@ -219,7 +219,7 @@ IsRead words (Ok invocation) = (fault_of program words ≡ []) × (asked_by word
 IsRead words (Err (Usage error)) = IsAmong (kind_of error) (fault_of program words) ⊎ ((fault_of program words ≡ []) × (asked_by words ≡ None))
 IsRead words (Err NoMemory) = ⊤
 
--- this is what is asked for, unless memory was refused
+-- the trace asks for this, unless memory was refused
 abbrev pub Gives : Asking → Result Invocation UsageFault → Type 0
 Gives asking (Ok invocation) = asking_of invocation ≡ asking
 Gives asking (Err (Usage error)) = ⊥
@@ -263,7 +263,7 @@ pub record Takes (words : List Text) (r : Result Invocation UsageFault) : Type 0
 
 -- ---- parts of it
 
--- the fault that stands for an error of clap's
+-- the fault for an error of clap's
 abbrev pub StandsFor : Error → UsageFault → Type 0
 StandsFor error (Usage shown) = (shown ≡ error) × (kind_of error ≢ OutOfMemory)
 StandsFor error NoMemory = kind_of error ≡ OutOfMemory

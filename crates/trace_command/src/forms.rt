@@ -150,7 +150,7 @@ fn oracle<'a>(global: Global) -> Arg<'a>
         global,
         "oracle",
         "WHEN",
-        "each: the oracle looks after each step, as without this option; end: once, after the last line",
+        "when the oracle checks: 'each' step, or once at the 'end' (default each)",
     )
 }
 
@@ -175,24 +175,20 @@ fn quiet<'a>(global: Global) -> Arg<'a>
     ensures rule { rule_of result ≡ flag_rule (codes "quiet") }
     ensures local { result.global ≡ false }
 {
-    flag(global, "quiet", "writes no report: the exit status tells")
+    flag(global, "quiet", "print no report, only set the exit status")
 }
 
 fn replay<'a>(global: Global) -> Result<Command<'a>, AllocError>
     ensures app { IfOk result (λ form. app_of form ≡ replay_app) }
     ensures local { IfOk result (λ form. (fields_of form).has_globals ≡ false) }
 {
-    let form = subcommand(
-        global,
-        "replay",
-        "Runs the steps of a trace in order and reports each reply",
-    );
+    let form = subcommand(global, "replay", "Run a trace and report each reply");
     let form = with(form, file(global))?;
     let heap = option(
         global,
         "heap",
         "BYTES",
-        "keeps the trees' tables in a heap of this size, 4096 to 1073741824; without it they lie in the machine's memory",
+        "size of a heap for page tables, 4096 to 1073741824 (default: the process's memory)",
     );
     let form = with(form, heap)?;
     let form = with(form, oracle(global))?;
@@ -206,7 +202,7 @@ fn race<'a>(global: Global) -> Result<Command<'a>, AllocError>
     let form = subcommand(
         global,
         "race",
-        "Runs the steps of a trace, those after 'start' on one thread for each CPU, and reports each reply",
+        "Run a trace, the steps after 'start' on one thread per CPU, and report each reply",
     );
     let form = with(form, file(global))?;
     reporting(global, form)
@@ -219,7 +215,7 @@ fn audit<'a>(global: Global) -> Result<Command<'a>, AllocError>
     let form = subcommand(
         global,
         "audit",
-        "Runs the steps of a trace, sets the words that it pokes, and compares what is kept with a walk of all words",
+        "Run a trace, overwrite the table words that it pokes, and compare the kept maps with a walk of all tables",
     );
     let form = with(form, file(global))?;
     reporting(global, form)
@@ -232,21 +228,21 @@ fn outcomes<'a>(global: Global) -> Result<Command<'a>, AllocError>
     let form = subcommand(
         global,
         "outcomes",
-        "Finds all replies that the steps after 'start' may have, in any order of the CPUs",
+        "Find all replies that the steps after 'start' may get, in any order of the CPUs",
     );
     let form = with(form, file(global))?;
     let limit = option(
         global,
         "limit",
         "N",
-        "gives up where more than N points have to be kept at once, 1 to 4294967296; without it 100000",
+        "give up if more than N states must be kept at once, 1 to 4294967296 (default 100000)",
     );
     let form = with(form, limit)?;
     let observed = option(
         global,
         "observed",
         "REPORT",
-        "tells whether some order gives the replies of this report",
+        "say whether some order gives the replies of this report",
     );
     let form = with(form, observed)?;
     reporting(global, form)
@@ -259,13 +255,13 @@ fn check<'a>(global: Global) -> Result<Command<'a>, AllocError>
     let form = subcommand(
         global,
         "check",
-        "Runs traces and tells where a line reports something else than the comment '#= ..' after it expects",
+        "Run traces and compare each reply with the comment '#= ..' after its line",
     );
     let form = with(form, files_arg(global))?;
     let record = flag(
         global,
         "record",
-        "writes the trace with what its lines report as expectations; takes one FILE",
+        "write the trace with its replies as expectations (one FILE)",
     );
     let form = with(form, record)?;
     let form = with(form, oracle(global))?;
@@ -279,10 +275,10 @@ fn explain<'a>(global: Global) -> Result<Command<'a>, AllocError>
     let form = subcommand(
         global,
         "explain",
-        "Shows a trace line by line, with its report, and what each step looked at and changed",
+        "Show a trace line by line: replies, what each step looked at and what it changed",
     );
     let form = with(form, file(global))?;
-    let line = option(global, "line", "N", "shows the Nth line alone");
+    let line = option(global, "line", "N", "show only line N");
     let form = with(form, line)?;
     reporting(global, form)
 }
@@ -294,14 +290,17 @@ fn generate<'a>(global: Global) -> Result<Command<'a>, AllocError>
     let form = subcommand(
         global,
         "generate",
-        "Makes a trace of all calls: the same words make the same trace",
+        "Generate a random trace of all calls (the same arguments give the same trace)",
     );
-    let form = with(form, needed(global, "SEED", "which trace of its kind"))?;
-    let form = with(form, needed(global, "STEPS", "how many step lines"))?;
-    let form = with(form, option(global, "cpus", "N", "1 to 64; without it 4"))?;
+    let form = with(form, needed(global, "SEED", "random seed"))?;
+    let form = with(form, needed(global, "STEPS", "number of steps"))?;
     let form = with(
         form,
-        option(global, "pages", "N", "pages of memory; without it 2048"),
+        option(global, "cpus", "N", "number of CPUs, 1 to 64 (default 4)"),
+    )?;
+    let form = with(
+        form,
+        option(global, "pages", "N", "pages of memory (default 2048)"),
     )?;
     let form = with(
         form,
@@ -309,7 +308,7 @@ fn generate<'a>(global: Global) -> Result<Command<'a>, AllocError>
             global,
             "geometry",
             "N",
-            "the width of input addresses, 39 or 48; without it 39",
+            "bits of input addresses, 39 or 48 (default 39)",
         ),
     )?;
     with(
@@ -318,7 +317,7 @@ fn generate<'a>(global: Global) -> Result<Command<'a>, AllocError>
             global,
             "hostile",
             "N",
-            "of a hundred calls, how many the model is to refuse; without it 0",
+            "percentage of calls that the model should refuse (default 0)",
         ),
     )
 }
@@ -327,17 +326,9 @@ fn draw<'a>(global: Global) -> Result<Command<'a>, AllocError>
     ensures app { IfOk result (λ form. app_of form ≡ draw_app) }
     ensures local { IfOk result (λ form. (fields_of form).has_globals ≡ false) }
 {
-    let form = subcommand(
-        global,
-        "draw",
-        "Draws as an SVG who owns what, step by step",
-    );
+    let form = subcommand(global, "draw", "Draw page ownership, step by step, as SVG");
     let form = with(form, file(global))?;
-    let text = flag(
-        global,
-        "text",
-        "writes the state at the end as text in place of a picture",
-    );
+    let text = flag(global, "text", "write the final state as text instead");
     with(form, text)
 }
 
@@ -348,19 +339,19 @@ fn dump<'a>(global: Global) -> Result<Command<'a>, AllocError>
     let form = subcommand(
         global,
         "dump",
-        "Finds in an image of a machine's memory who owns what, and what isn't sound",
+        "Read page tables from a memory image: who owns what, and what is unsound",
     );
     let image = needed(
         global,
         "IMAGE",
-        "an ELF core of physical memory, or with --base its raw bytes",
+        "an ELF core of physical memory, or raw bytes with --base",
     );
     let form = with(form, image)?;
     let host = needed_option(
         global,
         "host",
         "ROOT",
-        "the host's root table: FRAME[:LEVEL[:PAGES]]; without them level 0 and 1 page",
+        "the host's root table: FRAME[:LEVEL[:PAGES]] (default level 0, 1 page)",
     );
     let form = with(form, host)?;
     let form = with(
@@ -382,7 +373,7 @@ fn dump<'a>(global: Global) -> Result<Command<'a>, AllocError>
             global,
             "profile",
             "TREE=NAME",
-            "how the words of a tree are written: model, or 6.12 or 7.3, then -fwb or -hvhe or nothing, then -lpa2 or nothing; TREE is host, hyp or a guest's number",
+            "descriptor format of a tree: model, or 6.12 or 7.3, with -fwb or -hvhe, and -lpa2 (TREE: host, hyp or a guest's number)",
         ),
     )?;
     let form = with(
@@ -391,14 +382,14 @@ fn dump<'a>(global: Global) -> Result<Command<'a>, AllocError>
             global,
             "skip",
             "TREE=FIRST-LAST",
-            "pages of a tree that are left out",
+            "pages of a tree to leave out",
         ),
     )?;
     let base = option(
         global,
         "base",
         "ADDRESS",
-        "the image is raw, and its first byte lies at this physical address",
+        "the image is raw and starts at this physical address",
     );
     let form = with(form, base)?;
     reporting(global, form)
@@ -410,7 +401,7 @@ pub(crate) fn form<'a>(global: Global) -> Result<Command<'a>, AllocError>
 {
     let named = Command::new(global, "trace_cli").bin_name(PROGRAM)?;
     let form = named
-        .about("Runs traces of hypercalls on a model of protected KVM's page ownership")
+        .about("Run traces of hypercalls on a model of protected KVM's page ownership")
         .version(VERSION)
         .after_help(HELP)
         .subcommand_required(true)

@@ -97,7 +97,7 @@ pub enum Invocation<'a> {
     },
 }
 
-/// An image of memory, and what is known of it, in the words that were given.
+/// An image of memory, and the facts known of it, in the given words.
 #[derive(Drop)]
 pub struct Dump<'a> {
     /// The path of the image.

@@ -1,0 +1,9 @@
+pub mod Audits
+pub mod Cases
+pub mod Kinds
+pub mod Laws
+pub mod Meaning
+pub mod RaceChecks
+pub mod Raced
+pub mod Races
+pub mod Ways

@@ -1,0 +1,18 @@
+//! Traces as tests: each is carried out by what stands in it, and compared with what its comments expect. One with a poke is
+//! audited; the steps after `start` are made in each order; any other trace is replayed.
+#![tactic(auto)]
+
+mod audited;
+mod checking;
+mod found;
+mod kinds;
+pub mod laws;
+mod race_notes;
+mod raced;
+mod races;
+mod ways;
+
+pub use checking::{check, record};
+
+#[cfg(test)]
+mod tests;
