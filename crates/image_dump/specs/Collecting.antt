@@ -26,7 +26,7 @@ pub record Found : Type 0 where
 abbrev pub found_of : Root → Tree → Found
 found_of root tree = record { root = root; walked = Ok (tree.runs.items, tree.tables.items) }
 
--- the runs that are told
+-- the runs of the report
 abbrev pub runs_of : List Skip → Found → List (Run Said)
 runs_of skips f = elim f.walked [ Ok w ↦ filter (is_left skips f.root.tree) w.0 | Err why ↦ [] ]
 

@@ -15,7 +15,7 @@ use Rattle.image_dump.specs.declared.image.Form.{Form}
 use Rattle.image_dump.specs.declared.image.Form.TheVariants.{Core, Raw}
 use Rattle.image_dump.specs.declared.skip.Skip.{Skip}
 
--- the segments that the bytes of a file have by its form, or what is wrong
+-- the segments of a file's bytes by its form, or the first fault
 abbrev pub segments_by : Form → List ℕ → Result (List Segment) Fault
 segments_by Core bytes = core_of bytes
 segments_by (Raw base) bytes = raw_of base bytes

@@ -1,4 +1,4 @@
--- Ranges of pages that aren't told.
+-- Ranges of pages that the report leaves out.
 use Rattle.std.specs.Prelude.{ℕ, ◌+◌, ◌-◌, ◌==◌, ◌&&◌, not, nat_le, Bool, List}
 use Rattle.std.specs.List.{list_any}
 use Rattle.run_list.specs.declared.run.Run.{Run}

@@ -16,7 +16,7 @@ use run_list::Run;
 use std::alloc::{AllocError, Global};
 use walked_tables::{Reached, Said};
 
-/// What was told of trees so far, and what they claim.
+/// The trees given so far, and the frames that they claim.
 #[derive(Drop)]
 pub(crate) struct Collected {
     pub lines: Vec<DumpLine>,

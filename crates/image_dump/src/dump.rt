@@ -49,7 +49,7 @@ fn all_say_states(roots: &[Root]) -> bool
     roots.iter().all(|root| root.profile.has_states)
 }
 
-/// Adds what is found from a root.
+/// Adds the trees found from a root.
 fn add_root<I: ImageBytes>(
     alloc: Global,
     image: &I,

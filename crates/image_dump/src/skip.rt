@@ -1,4 +1,4 @@
-//! Ranges of pages that aren't told.
+//! Ranges of pages that the report leaves out.
 ghost use Rattle.std.specs.Prelude.{◌≡◌, IfOk};
 ghost use Rattle.std.specs.List.{filter, list_any};
 ghost use Rattle.image_dump.specs.Skips.{covers, is_left};
@@ -7,7 +7,7 @@ use run_list::Run;
 use std::alloc::{AllocError, Global};
 use walked_tables::Said;
 
-/// Pages of a tree that aren't told: a run that lies in them claims nothing.
+/// Pages of a tree that the report leaves out: a run that lies in them claims nothing.
 #[derive(Clone, Copy, PartialEq)]
 pub struct Skip {
     /// The tree.
@@ -36,14 +36,14 @@ fn is_skipped(skips: &[Skip], tree: u64, run: &Run<Said>) -> bool
     skips.iter().any(|skip| is_covered(skip, tree, run))
 }
 
-/// Whether a run is told.
+/// Whether a run is reported.
 fn is_told(skips: &[Skip], tree: u64, run: &Run<Said>) -> bool
     ensures { result ≡ is_left skips.now tree run.now }
 {
     !is_skipped(skips, tree, run)
 }
 
-/// The runs of a tree that are told.
+/// The runs of a tree in the report.
 pub(crate) fn left_runs(
     alloc: Global,
     skips: &[Skip],

@@ -1,4 +1,4 @@
--- What isn't sound, in the order in which it is told.
+-- The findings (what isn't sound), in the order of the report.
 use Rattle.std.specs.Prelude.{ℕ, zero, suc, ◌-◌, ◌==◌, ◌&&◌, ◌||◌, not, nat_lt, nat_le, Bool, List, [], ◌++◌, take, slice_get, Option, Some, None, if◌then◌else◌}
 use Rattle.std.specs.List.{filter_map}
 use Rattle.run_list.specs.declared.run.Run.{Run}

@@ -5,7 +5,7 @@ use Rattle.walked_tables.specs.declared.reached.Stopped.TheVariants as stopped
 use Rattle.image_trees.specs.declared.root.Unwalked.{Unwalked}
 use Rattle.image_trees.specs.declared.root.Unwalked.TheVariants.{Again, Failed}
 
--- as it is told of a tree
+-- as the report of a tree has it
 abbrev pub unwalked_by : Stopped → Unwalked
 unwalked_by (stopped.Again first second) = Again first second
 unwalked_by stopped.NoMemory = Failed NoMemory

@@ -44,7 +44,7 @@ fn push_page(kept: &mut Vec<KeptPage>, page: KeptPage) -> Result<(), AllocError>
     Ok(())
 }
 
-/// Adds the page of a frame, where the image has it, and tells whether it has.
+/// Adds the page of a frame, if the image has it, and returns whether it has.
 fn add_page<I: ImageBytes>(
     alloc: Global,
     image: &I,

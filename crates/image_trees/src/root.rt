@@ -1,4 +1,4 @@
-//! Roots, and what is found from them.
+//! Roots, and the trees found from them.
 ghost use Rattle.std.specs.Prelude.{◌≡◌};
 
 use memory_image::Refused;

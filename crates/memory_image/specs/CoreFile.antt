@@ -60,7 +60,7 @@ shares_address s t = if nat_lt s.address t.address then nat_lt (t.address - s.ad
 abbrev pub IsPlaced : Segment → Type 0
 IsPlaced s = s.at + s.count < 2 ^ 64
 
--- what is wrong with the segment of the program header at `place`, after those before it
+-- the fault of the segment of the program header at `place`, after those before it
 abbrev pub fault_of : (count : ℕ) → List Segment → ℕ → Segment → Option Fault
 fault_of count before place s =
     if nat_lt (2 ^ 52) (s.address + s.count) then Some (record { at = place + 24; why = PastLimit })

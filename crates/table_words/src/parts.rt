@@ -189,7 +189,7 @@ fn has_leaves_at(level: Level) -> bool
     }
 }
 
-/// Whether tables may stand below words of the level.
+/// Whether tables may be below words of the level.
 pub fn is_upper_level(level: Level) -> bool
     ensures { result ≡ is_upper level }
 {
