@@ -78,7 +78,13 @@ static void note(struct held it)
 
 void shim_take(hyp_spinlock_t *lock)
 {
-	pthread_mutex_lock(&lock->lock);
+	/* Where CPUs take turns, the one that has the lock gets one. */
+	while (pthread_mutex_trylock(&lock->lock)) {
+		if (!lock_met()) {
+			pthread_mutex_lock(&lock->lock);
+			break;
+		}
+	}
 	note((struct held){lock, true, true});
 }
 
@@ -105,6 +111,11 @@ static void let_go_of_all(void)
 {
 	while (held_len)
 		shim_let_go(held[held_len - 1].lock);
+}
+
+void shim_meet(bool is_written)
+{
+	word_met(is_written);
 }
 
 /* --- A call --- */

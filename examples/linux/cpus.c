@@ -246,7 +246,8 @@ static struct pkvm_step next_step(uint64_t cpu)
 	bool is_hostile = any(100) < wanted.hostile;
 	bool is_guests = vms_loaded(cpu, &slot) || life->stage == RECLAIM;
 
-	if (is_guests && any(2) && (is_hostile || mapped_page(&after, life->slot, &page)))
+	/* Of a VM's lock alone there is one call, and that must meet another one of its pages. */
+	if (is_guests && any(3) && (is_hostile || mapped_page(&after, life->slot, &page)))
 		return page_step(cpu, page);
 	return host_step(cpu, some_frame(), is_hostile);
 }

@@ -38,6 +38,8 @@ struct machine {
 	struct pkvm_layout layout;
 	uint64_t linear;  /* EL2's own page of frame 0 */
 	bool is_hvhe;	  /* the words of its tables */
+	bool is_lpa2;	  /* of all leaves */
+	bool is_fwb;	  /* and of those of stage 2 */
 	bool lacks_lists; /* where guests' tables come from isn't known */
 	uint64_t cpus;	  /* that run it at once */
 	/* Frames of Linux itself: its image, its CPUs' data and stacks, EL2's pool, and pages that
@@ -123,6 +125,8 @@ uint64_t linux_guest_leaf(uint64_t slot, uint64_t page);
 
 /* --- words.c: what words of tables say --- */
 
+/* A word as it would be without LPA2. */
+uint64_t as_without_lpa2(uint64_t level, uint64_t word);
 struct pkvm_word said_by_host(uint64_t level, uint64_t word);
 struct pkvm_word said_by_hyp(uint64_t level, uint64_t word);
 struct pkvm_word said_by_guest(uint64_t level, uint64_t word);
@@ -264,7 +268,7 @@ void count_other(void);
 /* Writes the summary. Whether no difference is unknown. */
 bool print_summary(FILE *to);
 
-/* --- trace.c, random.c, cpus.c: where steps come from --- */
+/* --- trace.c, random.c, cpus.c, rounds.c: where steps come from --- */
 
 int run_trace(const char *path);
 /* Until so many calls are made by Linux; or, where `is_first`, until one differs that isn't known.
@@ -275,6 +279,12 @@ int run_cpus(uint64_t cpus, uint64_t seed, uint64_t steps, uint64_t hostile, boo
 /* Linux took the lock of a tree on this CPU; it is about to let it go. */
 void tree_taken(uint64_t tree);
 void tree_let_go(uint64_t tree);
+/* Some calls of two CPUs at once: written as PATH.trace, and what Linux told as PATH.report. */
+int run_round(const char *path, uint64_t seed);
+/* Linux is about to read a word that other CPUs may write, or to write one. */
+void word_met(bool is_written);
+/* Another CPU has the lock. False where CPUs take no turns. */
+bool lock_met(void);
 
 /* Ends the program with status 2 and a line on standard error. */
 void refuse(const char *format, ...) __attribute__((noreturn, format(printf, 1, 2)));

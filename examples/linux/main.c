@@ -1,5 +1,5 @@
 /* run VERSION hands the words over: TRACE, or --seed N --calls N [--cpus N] [--hostile PERCENT]
- * [--print] [--first].
+ * [--print] [--first]. rounds hands --seed N --round PATH over.
  */
 #include "harness.h"
 #include <errno.h>
@@ -22,7 +22,7 @@ static uint64_t number_of(const char *name, const char *word)
 int main(int argc, char **argv)
 {
 	uint64_t seed = 1, steps = UINT64_MAX, hostile = 10, cpus = 1;
-	const char *trace = NULL;
+	const char *trace = NULL, *round = NULL;
 	bool is_printed = false, is_first = false;
 
 	if (pkvm_version() >> 32 != PKVM_VERSION >> 32)
@@ -36,6 +36,8 @@ int main(int argc, char **argv)
 			cpus = number_of("--cpus", argv[++i]);
 		else if (!strcmp(argv[i], "--hostile"))
 			hostile = number_of("--hostile", argv[++i]);
+		else if (!strcmp(argv[i], "--round") && argv[i + 1])
+			round = argv[++i];
 		else if (!strcmp(argv[i], "--print"))
 			is_printed = true;
 		else if (!strcmp(argv[i], "--first"))
@@ -45,6 +47,8 @@ int main(int argc, char **argv)
 		else
 			refuse("%s is no word here", argv[i]);
 	}
+	if (round)
+		return run_round(round, seed);
 	if (hostile > 100)
 		refuse("--hostile wants 0 to 100");
 	if (!trace == (steps == UINT64_MAX))

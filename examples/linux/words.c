@@ -37,14 +37,36 @@ static struct pkvm_word decoded(uint64_t level, uint64_t word)
 	return kept[at].out;
 }
 
+/* There bits 9:8 of a leaf are 3, and with LPA2 they are bits 51:50 of its address, which are 0,
+ * since no memory lies so high.
+ */
+uint64_t as_without_lpa2(uint64_t level, uint64_t word)
+{
+	bool is_leaf = (word & 1) && (level == 3 || !(word & 2));
+
+	return machine.is_lpa2 && is_leaf ? word ^ 3 << 8 : word;
+}
+
+/* A word of stage 2, whose kind of memory has other bits with FWB: Normal, or as stage 1 says. */
+static struct pkvm_word decoded_stage_2(uint64_t level, uint64_t word)
+{
+	enum { NORMAL_BITS = 15, FWB_NORMAL = 6, FWB_AS_STAGE_1 = 7 };
+	bool is_leaf = (word & 1) && (level == 3 || !(word & 2));
+	uint64_t kind = bits(word, 5, 2);
+
+	if (machine.is_fwb && is_leaf && (kind == FWB_NORMAL || kind == FWB_AS_STAGE_1))
+		word |= NORMAL_BITS << 2;
+	return decoded(level, as_without_lpa2(level, word));
+}
+
 struct pkvm_word said_by_guest(uint64_t level, uint64_t word)
 {
-	return decoded(level, word);
+	return decoded_stage_2(level, word);
 }
 
 struct pkvm_word said_by_host(uint64_t level, uint64_t word)
 {
-	struct pkvm_word out = decoded(level, word);
+	struct pkvm_word out = decoded_stage_2(level, word);
 
 	if (linux_has_guests && word && !(word & 1)) {
 		/* Bits 63:60 are the kind of annotation, 3:1 the owner, 19:4 a guest's handle. */
@@ -69,15 +91,18 @@ struct pkvm_word said_by_hyp(uint64_t level, uint64_t word)
 	uint64_t ap = bits(word, 7, 6) ^ machine.is_hvhe, attributes = bits(word, 4, 2);
 	struct pkvm_word out = {.says = PKVM_MALFORMED};
 
+	word = as_without_lpa2(level, word);
 	if (!(word & 1)) {
 		out.says = PKVM_UNMAPPED;
-	} else if (level < 3 && bits(word, 1, 0) == TABLE) {
+	} else if (level != 3 && bits(word, 1, 0) == TABLE) {
 		out.says = PKVM_TABLE;
 		out.frame = bits(word, 47, 12);
 	} else if ((ap == AP_RW || ap == AP_RO) && (attributes == NORMAL || attributes == DEVICE) &&
 		   bits(word, 9, 8) == INNER_SHAREABLE && bits(word, 10, 10) &&
 		   bits(word, 1, 1) == (level == 3) && bits(word, 58, 55) <= PKVM_SHARED_BORROWED) {
-		bool is_executable = !(word >> (machine.is_hvhe ? 53 : 54) & 1);
+		/* Under hVHE 54 is for EL0 and 53 for EL2; 6.12 sets 54 alone, and means both. */
+		int bit = machine.is_hvhe && linux_has_guests ? 53 : 54;
+		bool is_executable = !(word >> bit & 1);
 
 		out = leaf(bits(word, 47, 12),
 			   PKVM_R | (ap == AP_RW ? 2u : 0u) | (is_executable ? 1u : 0u),

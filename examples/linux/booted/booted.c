@@ -352,6 +352,8 @@ static void machine_of_record(void)
 	machine.regions_len = len;
 	machine.linear = (0 - named("hyp_physvirt_offset")) / PAGE;
 	machine.is_hvhe = named("is_hvhe");
+	machine.is_lpa2 = named("is_lpa2");
+	machine.is_fwb = named("is_fwb");
 	machine.lacks_lists = true;
 	machine.layout = (struct pkvm_layout){
 		.address_bits = linux_tree(HOST).level ? 39 : 48,
@@ -666,7 +668,7 @@ static void library_words(const struct pkvm_table *table, uint64_t *words)
 		uint64_t page = (table->index << 9 | i) << shift;
 		struct pkvm_word word = said_by_hyp(level, from[i]);
 
-		words[i] = from[i];
+		words[i] = as_without_lpa2(level, from[i]);
 		if (table->tree != HYP || !from[i])
 			continue;
 		words[i] = 0;
@@ -689,12 +691,38 @@ static bool is_difference(const char *text)
 	return false;
 }
 
+/* Both trees have one geometry in an audit, so a root of level 1 gets a table above it, with a word
+ * for each of its pages. The frame of the root then.
+ */
+static uint64_t root_above(uint64_t tree, struct recorded *to, struct pkvm_page *tables)
+{
+	enum { NO_MEMORY = 0x3ffff00, TABLE = 3 };
+	struct linux_tree it = linux_tree(tree);
+	struct pkvm_table above = {tree, 4, 0, NO_MEMORY + tree};
+	uint64_t *words;
+
+	if (!it.level)
+		return it.root;
+	words = calloc(512, sizeof(*words));
+	to->tables = realloc(to->tables, (to->tables_len + 1) * sizeof(*to->tables));
+	if (!words || !to->tables)
+		refuse("out of memory");
+	for (uint64_t k = 0; k < it.pages; k++)
+		words[k] = (it.root + k) << 12 | TABLE;
+	tables[to->tables_len] = (struct pkvm_page){above.frame, words, 512};
+	to->tables[to->tables_len++] = above;
+	to->state.tables = to->tables;
+	to->state.tables_len = to->tables_len;
+	return above.frame;
+}
+
 /* Whether the last tables are what is kept, and sound. EL2's pages are told where they lie. */
 static bool audit(void)
 {
 	static struct recorded now;
 	uint64_t moved = machine.linear - LINEAR;
-	struct pkvm_root roots[2] = {{HOST, linux_tree(HOST).root}, {HYP, linux_tree(HYP).root}};
+	struct pkvm_layout layout = machine.layout;
+	struct pkvm_root roots[2] = {{.tree = HOST}, {.tree = HYP}};
 	struct pkvm_page *tables;
 	struct pkvm_refused why = {0};
 	char text[512] = "";
@@ -703,7 +731,7 @@ static bool audit(void)
 
 	frames_told = SIZE_MAX;
 	record(&now);
-	tables = calloc(now.tables_len + 1, sizeof(*tables));
+	tables = calloc(now.tables_len + 2, sizeof(*tables));
 	if (!tables)
 		refuse("out of memory");
 	for (size_t i = 0; i < now.tables_len; i++) {
@@ -722,8 +750,11 @@ static bool audit(void)
 			now.runs[i].word.kind = PKVM_NORMAL;
 	}
 	plain_rows(&now, moved);
-	status = pkvm_audit(&machine.layout, &now.state, tables, now.tables_len, roots, 2,
-			    (uint8_t *)text, sizeof(text) - 1, &len, &why);
+	layout.address_bits = 48;
+	for (uint64_t tree = HOST; tree <= HYP; tree++)
+		roots[tree].frame = root_above(tree, &now, tables);
+	status = pkvm_audit(&layout, &now.state, tables, now.tables_len, roots, 2, (uint8_t *)text,
+			    sizeof(text) - 1, &len, &why);
 	text[len] = 0;
 	if (status == PKVM_DISAGREES && !is_difference(text))
 		status = PKVM_AGREES;
@@ -777,6 +808,7 @@ int main(int argc, char **argv)
 	read_record(calls);
 	if (is_traced)
 		return print_summary(stderr) ? 0 : 1;
-	is_good = linux_has_guests || audit();
+	/* An audit has no root of level -1, as EL2's is with 52 bits of address. */
+	is_good = linux_has_guests || linux_tree(HYP).level > 3 || audit();
 	return print_summary(stdout) && is_good ? 0 : 1;
 }

@@ -1,5 +1,6 @@
 /* The first program of the booted machine: it makes VMs, runs them and ends them, and then turns
- * the machine off. A word of its command line says how many plain ones, another how many protected.
+ * the machine off. A word of its command line says how many plain ones, another how many
+ * protected, and at_once=1 that they live at once, each in a process of its own.
  */
 #include <fcntl.h>
 #include <linux/kvm.h>
@@ -101,6 +102,17 @@ static int number(const char *name)
 	return word ? atoi(word) : 0;
 }
 
+static void live_each(int kvm, int count, unsigned long kind, const uint32_t *code, size_t size)
+{
+	while (count--) {
+		if (number("at_once") && fork())
+			continue;
+		live(kvm, kind, code, size);
+		if (number("at_once"))
+			exit(0);
+	}
+}
+
 int main(void)
 {
 	int console, kvm;
@@ -124,9 +136,9 @@ int main(void)
 		reboot(RB_POWER_OFF);
 	}
 	kvm = asked("/dev/kvm", open("/dev/kvm", O_RDWR));
-	for (int i = number("plain"); i--;)
-		live(kvm, 0, plain_code, sizeof(plain_code));
-	for (int i = number("protected"); i--;)
-		live(kvm, PROTECTED, protected_code, sizeof(protected_code));
+	live_each(kvm, number("plain"), 0, plain_code, sizeof(plain_code));
+	live_each(kvm, number("protected"), PROTECTED, protected_code, sizeof(protected_code));
+	while (wait(0) > 0)
+		;
 	return 0;
 }

@@ -1,5 +1,5 @@
 #!/usr/bin/env python3
-"""record.py KERNEL INITRD FOLDER CPU MEGABYTES CALLS WORDS..: boots a kernel under QEMU and records its hypervisor's calls from outside.
+"""record.py KERNEL INITRD FOLDER CPU CPUS MEGABYTES CALLS WORDS..: boots a kernel under QEMU and records its hypervisor's calls from outside.
 
 KERNEL has `Image` and `names` (see `kernel`). QEMU's gdb stub stops the machine where a call begins and where it returns; nothing is
 changed in it. FOLDER gets `calls`, lines of text, and `pages`, the pages that they name:
@@ -8,6 +8,8 @@ changed in it. FOLDER gets `calls`, lines of text, and `pages`, the pages that t
   page FRAME INDEX             from here on the frame has the INDEX-th page of `pages`
   call NUMBER NAME ARGUMENTS   a call begins, in the state of all pages so far
   return NUMBER VALUE          it ends, in the state of all pages so far
+
+Of several CPUs the one that begins a call runs alone until it ends, so that the states are those before and after it.
 
 What is recorded: EL2's pool, its variables, and tables of guests and the pages of their VMs' structs. It ends after CALLS calls, when
 the machine is off, or when `pages` has a gigabyte.
@@ -57,7 +59,8 @@ class Gdb:
         self.socket.connect(path)
         self.socket.settimeout(PATIENCE)
         self.buffer = b""
-        self.here = None  # a breakpoint where the machine stands
+        self.here = None  # a breakpoint where the CPU stands
+        self.cpu = None  # that stopped last
         self.ask("qSupported:multiprocess+")
         self.registers = {}
         number = 0
@@ -106,19 +109,25 @@ class Gdb:
         if self.here == address:
             self.here = None
 
-    def go_on(self, stops):
+    def resume(self, how):
+        answer = self.ask(f"vCont;{how}")
+        if answer[0] in "WX":
+            raise EOFError
+        self.cpu = re.search(r"thread:([^;]+)", answer).group(1)
+        assert self.ask(f"Hg{self.cpu}") == "OK"
+
+    def go_on(self, stops, is_alone=False):
         """Until a breakpoint. It would stop where it stands: so that one is taken out for a step."""
         if self.here is not None:
             here = self.here
             self.stop_no_more_at(here)
-            self.ask("s")
+            self.resume(f"s:{self.cpu}")
             while self.register("pc") == here:
-                self.ask("s")
+                self.resume(f"s:{self.cpu}")
             self.stop_at(here)
         pc = self.register("pc")
         if self.here is None or pc not in stops:
-            if self.ask("c")[0] in "WX":
-                raise EOFError
+            self.resume(f"c:{self.cpu}" if is_alone else "c")
             pc = self.register("pc")
         self.here = pc if pc in stops else None
         return pc
@@ -169,7 +178,7 @@ def tables(memory, frame, level, found):
 
 
 def main():
-    kernel, initrd, folder, cpu, megabytes, most, *words = sys.argv[1:]
+    kernel, initrd, folder, cpu, cpus, megabytes, most, *words = sys.argv[1:]
     size, most = int(megabytes) << 20, int(most)
     with open(f"{kernel}/names", encoding="ascii") as file:
         names = {name: int(value, 0) for name, value in (line.split() for line in file)}
@@ -178,7 +187,7 @@ def main():
     with open(f"{folder}/memory", "w+b") as file:
         file.truncate(size)
         memory = mmap.mmap(file.fileno(), size)
-    machine = ["-M", "virt,virtualization=on,gic-version=3,memory-backend=memory", "-cpu", cpu, "-smp", "1", "-m", megabytes]
+    machine = ["-M", "virt,virtualization=on,gic-version=3,memory-backend=memory", "-cpu", cpu, "-smp", cpus, "-m", megabytes]
     with subprocess.Popen(
         ["qemu-system-aarch64", *machine, "-display", "none", "-nic", "none", "-no-reboot", "-S", "-kernel", f"{kernel}/Image"]
         + ["-object", f"memory-backend-file,id=memory,size={megabytes}M,mem-path={folder}/memory,share=on", "-initrd", initrd]
@@ -192,12 +201,13 @@ def main():
                     break
                 time.sleep(0.1)
             record = Record(folder, memory)
-            number = run(Gdb(f"{folder}/gdb"), names, calls, memory, record, most)
+            made = run(Gdb(f"{folder}/gdb"), names, calls, memory, record, most)
             record.close()
         finally:
             qemu.terminate()
             os.unlink(f"{folder}/memory")
-    print(f"recorded {number} calls and {len(record.index_of)} pages", file=sys.stderr)
+    each = f" ({', '.join(map(str, made.values()))} by CPU)" if len(made) > 1 else ""
+    print(f"recorded {sum(made.values())} calls{each} and {len(record.index_of)} pages", file=sys.stderr)
 
 
 def run(gdb, names, calls, memory, record, most):
@@ -251,10 +261,10 @@ def run(gdb, names, calls, memory, record, most):
             value = (int.from_bytes(memory[place : place + 8], "little") + offset) % (1 << 64)
         return value
 
-    number, open_calls = 0, []
+    number, open_calls, made = 0, [], {}
     try:
         while number < most or open_calls:
-            pc = gdb.go_on(set(at) | {it[1] for it in open_calls})
+            pc = gdb.go_on(set(at) | {it[1] for it in open_calls}, is_alone=bool(open_calls))
             if open_calls and pc == open_calls[-1][1]:
                 own, back, name, arguments = open_calls.pop()
                 gdb.stop_no_more_at(back)
@@ -270,6 +280,8 @@ def run(gdb, names, calls, memory, record, most):
                     arguments = [gdb.register("HPFAR_EL2")]
                 if number == 0:
                     record.line("name", "is_hvhe", hex(gdb.register("HCR_EL2") >> 34 & 1))
+                    record.line("name", "is_fwb", hex(gdb.register("HCR_EL2") >> 46 & 1))
+                    record.line("name", "is_lpa2", hex(gdb.register("VTCR_EL2") >> 32 & 1))
                 back = gdb.register("x30")
                 if name == "__pkvm_finalize_teardown_vm":
                     vms = {vm: root for vm, root in vms.items() if handle_of(vm) != arguments[0]}
@@ -278,6 +290,7 @@ def run(gdb, names, calls, memory, record, most):
                 open_calls.append((number, back, name, arguments))
                 gdb.stop_at(back)
                 number += 1
+                made[gdb.cpu] = made.get(gdb.cpu, 0) + 1
                 if len(open_calls) > 8:
                     refuse("calls lie in each other without end")
             else:
@@ -286,7 +299,7 @@ def run(gdb, names, calls, memory, record, most):
         pass
     except socket.timeout:
         print(f"examples/linux/live: the machine says nothing for {PATIENCE} seconds", file=sys.stderr)
-    return number
+    return made
 
 
 main()

@@ -68,11 +68,25 @@ typedef struct {
 #define __ro_after_init
 #define __percpu
 #define __rcu
-#define READ_ONCE(x) (*(volatile __typeof__(x) *)&(x))
-#define WRITE_ONCE(x, v) (*(volatile __typeof__(x) *)&(x) = (v))
-/* Calls are made one after another, so order and atomicity are those of the program. */
+/* A word that other CPUs may read or write: the harness may let them go first. */
+void shim_meet(bool is_written);
+#define READ_ONCE(x)                                                                               \
+	({                                                                                         \
+		shim_meet(false);                                                                  \
+		*(volatile __typeof__(x) *)&(x);                                                   \
+	})
+#define WRITE_ONCE(x, v)                                                                           \
+	({                                                                                         \
+		shim_meet(true);                                                                   \
+		*(volatile __typeof__(x) *)&(x) = (v);                                             \
+	})
+/* Locks order what CPUs do at once. */
 #define smp_store_release(p, v) WRITE_ONCE(*(p), v)
-#define cmpxchg(p, old, new) __sync_val_compare_and_swap(p, old, new)
+#define cmpxchg(p, old, new)                                                                       \
+	({                                                                                         \
+		shim_meet(true);                                                                   \
+		__sync_val_compare_and_swap(p, old, new);                                          \
+	})
 #define BUILD_BUG_ON(x) _Static_assert(!(x), "")
 
 /* 1 where the option is defined as 1: the name then becomes two arguments. */

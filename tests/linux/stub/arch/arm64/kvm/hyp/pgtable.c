@@ -8,7 +8,7 @@ kvm_pte_t *stub_word(struct kvm_pgtable *pgt, struct hyp_pool *pool, u64 address
 	for (int level = 1; level < 3; level++) {
 		kvm_pte_t *word = &table[address >> (12 + 9 * (3 - level)) & 511];
 
-		if (!*word)
+		if (!READ_ONCE(*word))
 			*word = __hyp_pa(hyp_alloc_pages(pool, 0)) | 3;
 		table = __hyp_va(*word & ADDRESS);
 	}

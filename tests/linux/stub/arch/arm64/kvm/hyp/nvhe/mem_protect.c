@@ -25,12 +25,16 @@ static int unlock_host(int result)
 static void lock_both(void)
 {
 	lock_host();
+#ifndef STUB_UNLOCKED
 	hyp_spin_lock(&pkvm_pgd_lock);
+#endif
 }
 
 static int unlock_both(int result)
 {
+#ifndef STUB_UNLOCKED
 	hyp_spin_unlock(&pkvm_pgd_lock);
+#endif
 	return unlock_host(result);
 }
 
@@ -38,13 +42,13 @@ static int unlock_both(int result)
 
 static void set_host(u64 phys, u64 word, int state)
 {
-	*stub_word(&host_mmu.pgt, &host_s2_pool, phys) = word;
+	WRITE_ONCE(*stub_word(&host_mmu.pgt, &host_s2_pool, phys), word);
 	hyp_phys_to_page(phys)->host = state;
 }
 
 static void set_hyp(u64 phys, u64 word, int state)
 {
-	*stub_word(&pkvm_pgtable, hyp_pool, (u64)__hyp_va(phys)) = word;
+	WRITE_ONCE(*stub_word(&pkvm_pgtable, hyp_pool, (u64)__hyp_va(phys)), word);
 	hyp_phys_to_page(phys)->hyp = state;
 }
 
