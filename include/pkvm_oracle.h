@@ -31,7 +31,7 @@
  *   3. judge     pkvm_judge compares the two with the model's step; pkvm_predict and
  *                pkvm_predict_reply tell what the model does
  *   4. audit     pkvm_audit compares a state that is kept with the tables as they lie in memory
- *   5. check     pkvm_check tests whether a state is one that the model's runs may lead to
+ *   5. check     pkvm_check tests whether a state is legal, as each state of a run is
  *
  * docs/C_LIBRARY.md is a walk through them. pkvm_replay needs no hypervisor: it runs a trace.
  *
