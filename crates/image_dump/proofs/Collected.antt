@@ -2,13 +2,15 @@
 use Rattle.std.proofs.Common.{◌≡◌, ℕ, zero, suc, ◌+◌, ◌<◌, ◌≤◌, Bool, List, [], ◌∷◌, ◌++◌, length, map, take, get_or, Option, Some, None, Result, Ok, Err, refl, sym, ap, subst, ◌∙◌, append_assoc, arith}
 use Rattle.std.specs.List.{flat_map, list_all}
 use Rattle.std.specs.Io.KnownBytes.{Appends}
-use Rattle.std.proofs.lemmas.List.{map-append, take_more}
-use Rattle.std.proofs.lemmas.List.Elements.{All-push}
+use Rattle.std.specs.Option.{is_some}
+use Rattle.std.proofs.lemmas.List.{take_more}
+use Rattle.image_trees.specs.declared.records.Records.{Records}
+use Rattle.image_dump.specs.Stating.{hyp_root, AreRecords}
 use Rattle.memory_image.specs.declared.segment.Segment.{Segment}
 use Rattle.image_trees.specs.declared.root.Root.{Root}
 use Rattle.image_findings.specs.declared.finding.Finding.{Finding}
 use Rattle.image_dump.specs.Collecting.{claims_of, findings_by, lines_of, tables_of, words_of, Found}
-use Rattle.image_dump.specs.Dumped.{fault_count, faults_in, findings_of, outcome_of, report_of, says_states, text_of_lines, AreCollected, IsAdded, IsDumped, IsFoundIn}
+use Rattle.image_dump.specs.Dumped.{fault_count, faults_in, findings_of, outcome_of, report_of, says_states, text_of_lines, AreCollected, AreFoundIn, IsAdded, IsDumped, IsFoundIn}
 use Rattle.image_dump.specs.declared.dump.Dumped.{Dumped}
 use Rattle.image_dump.specs.declared.line.DumpLine.TheVariants as line
 use Rattle.image_dump.specs.Texts.{text_of_line}
@@ -42,12 +44,17 @@ fault_small : {X Y : Type 0} (r : Result X Y) → fault_count r ≤ 1
 fault_small (Ok x) = omega arith
 fault_small (Err y) = omega arith
 
-module _ (known : Option (List ℕ)) (may_fail : ℕ → ℕ → Type 0) (segments : List Segment) (skips : List Skip) where
-  pub none_collected : (roots : List Root) (start : Collected) → AreCollected known may_fail segments (take 0 roots) skips start start 0
+module _ (known : Option (List ℕ)) (may_fail : ℕ → ℕ → Type 0) (segments : List Segment) (records : Option Records) (skips : List Skip) where
+  found_more : (roots : List Root) (fs : List Found) (root : Root) (f : Found) → AreFoundIn known may_fail segments records roots fs → IsFoundIn known may_fail segments records root f → AreFoundIn known may_fail segments records (roots ++ root ∷ []) (fs ++ f ∷ [])
+  found_more [] [] root f h k = (k, tt)
+  found_more [] (g ∷ gs) root f h k = absurd h
+  found_more (r ∷ rs) [] root f h k = absurd h
+  found_more (r ∷ rs) (g ∷ gs) root f h k = (h.0, found_more rs gs root f h.1 k)
+
+  pub none_collected : (roots : List Root) (start : Collected) → AreCollected known may_fail segments records (take 0 roots) skips start start 0
   none_collected roots start = record {
     trees = [];
-    roots_are = refl;
-    each = λ k d h. absurd (omega arith);
+    each = tt;
     lines_are = sym (append_nil _);
     words_are = sym (append_nil _);
     claims_are = sym (append_nil _);
@@ -55,11 +62,10 @@ module _ (known : Option (List ℕ)) (may_fail : ℕ → ℕ → Type 0) (segmen
     faults_are = refl;
   }
 
-  pub more_collected : (roots : List Root) (i : ℕ) (d : Root) (start now next : Collected) (n r : ℕ) → i < length roots → AreCollected known may_fail segments (take i roots) skips start now n → IsAdded known may_fail segments (get_or roots i d) skips now next r → AreCollected known may_fail segments (take (i + 1) roots) skips start next (n + r)
+  pub more_collected : (roots : List Root) (i : ℕ) (d : Root) (start now next : Collected) (n r : ℕ) → i < length roots → AreCollected known may_fail segments records (take i roots) skips start now n → IsAdded known may_fail segments records (get_or roots i d) skips now next r → AreCollected known may_fail segments records (take (i + 1) roots) skips start next (n + r)
   more_collected roots i d start now next n r inside h a = record {
     trees = h.trees ++ a.found ∷ [];
-    roots_are = map-append (λ (f : Found). f.root) h.trees (a.found ∷ []) ∙ (ap (λ rs. rs ++ a.found.root ∷ []) h.roots_are ∙ (ap (λ (s : Root). take i roots ++ s ∷ []) a.root_is ∙ sym (take_more roots i d inside)));
-    each = All-push (IsFoundIn known may_fail segments) h.trees a.found h.each a.found_in;
+    each = subst (λ rs. AreFoundIn known may_fail segments records rs (h.trees ++ a.found ∷ [])) (sym (take_more roots i d inside)) (found_more (take i roots) h.trees (get_or roots i d) a.found h.each a.found_in);
     lines_are = joined (lines_of skips) h.trees a.found start.lines.items now.lines.items next.lines.items h.lines_are a.grows.lines_are;
     words_are = joined (words_of skips) h.trees a.found start.words.items now.words.items next.words.items h.words_are a.grows.words_are;
     claims_are = joined (claims_of skips) h.trees a.found start.claims.items now.claims.items next.claims.items h.claims_are a.grows.claims_are;
@@ -67,7 +73,7 @@ module _ (known : Option (List ℕ)) (may_fail : ℕ → ℕ → Type 0) (segmen
     faults_are = let more = faults_more h.trees a.found in omega (arith, h.faults_are, a.faults_are, more);
   }
 
-  pub one_fault : (root : Root) (now next : Collected) (r : ℕ) → IsAdded known may_fail segments root skips now next r → r ≤ 1
+  pub one_fault : (root : Root) (now next : Collected) (r : ℕ) → IsAdded known may_fail segments records root skips now next r → r ≤ 1
   one_fault root now next r a = let small = fault_small a.found.walked in omega (arith, a.faults_are, small)
 
 -- lines one after another
@@ -106,10 +112,11 @@ from_none : {X : Type 0} (start xs now : List X) → start ≡ [] → now ≡ st
 from_none start xs now e n = n ∙ ap (λ z. z ++ xs) e
 
 -- what the last lines say
-pub all_dumped : (known : Option (List ℕ)) (may_fail : ℕ → ℕ → Type 0) (segments : List Segment) (roots : List Root) (skips : List Skip) (before after : Option (List ℕ)) (start all : Collected) (unwalked : ℕ) (states : Bool) (words : List Finding) (first lines : List DumpLine) (trees findings : ℕ) (outcome : Dumped)
-    → AreCollected known may_fail segments roots skips start all unwalked
+pub all_dumped : (known : Option (List ℕ)) (may_fail : ℕ → ℕ → Type 0) (segments : List Segment) (roots : List Root) (vmemmap : Option ℕ) (records : Option Records) (skips : List Skip) (before after : Option (List ℕ)) (start all : Collected) (unwalked : ℕ) (states : Bool) (words : List Finding) (first lines : List DumpLine) (trees findings : ℕ) (outcome : Dumped)
+    → AreRecords known may_fail segments (hyp_root roots) vmemmap records
+    → AreCollected known may_fail segments records roots skips start all unwalked
     → start.lines.items ≡ [] → start.words.items ≡ [] → start.claims.items ≡ [] → start.tables.items ≡ []
-    → states ≡ list_all says_states roots
+    → states ≡ list_all (says_states (is_some records)) roots
     → words ≡ all.words.items ++ findings_by states all.claims.items all.tables.items
     → first ≡ all.lines.items ++ map (λ finding. line.Finding finding) words
     → findings ≡ unwalked + length words
@@ -117,21 +124,22 @@ pub all_dumped : (known : Option (List ℕ)) (may_fail : ℕ → ℕ → Type 0)
     → lines ≡ first ++ line.End trees findings ∷ []
     → Appends before after (text_of_lines lines)
     → outcome ≡ outcome_of findings
-    → IsDumped known may_fail segments roots skips before after outcome
-all_dumped known may_fail segments roots skips before after start all unwalked states words first lines trees findings outcome h no_lines no_words no_claims no_tables s w f n t l written o =
+    → IsDumped known may_fail segments roots vmemmap skips before after outcome
+all_dumped known may_fail segments roots vmemmap records skips before after start all unwalked states words first lines trees findings outcome are h no_lines no_words no_claims no_tables s w f n t l written o =
     let fs = h.trees in
     let ws = from_none start.words.items (flat_map (words_of skips) fs) all.words.items no_words h.words_are in
     let cs = from_none start.claims.items (flat_map (claims_of skips) fs) all.claims.items no_claims h.claims_are in
     let ts = from_none start.tables.items (flat_map tables_of fs) all.tables.items no_tables h.tables_are in
     let ls = from_none start.lines.items (flat_map (lines_of skips) fs) all.lines.items no_lines h.lines_are in
-    let by : findings_by states all.claims.items all.tables.items ≡ findings_by (list_all says_states roots) (flat_map (claims_of skips) fs) (flat_map tables_of fs) = ap (λ b. findings_by b all.claims.items all.tables.items) s ∙ (ap (λ cl. findings_by (list_all says_states roots) cl all.tables.items) cs ∙ ap (findings_by (list_all says_states roots) (flat_map (claims_of skips) fs)) ts) in
-    let named : words ≡ findings_of skips roots fs = w ∙ (ap (λ z. z ++ findings_by states all.claims.items all.tables.items) ws ∙ ap (λ z. flat_map (words_of skips) fs ++ z) by) in
-    let count : findings ≡ faults_in fs + length (findings_of skips roots fs) = n ∙ (ap (λ k. k + length words) h.faults_are ∙ ap (λ z. faults_in fs + length z) named) in
-    let begun : first ≡ flat_map (lines_of skips) fs ++ map (λ finding. line.Finding finding) (findings_of skips roots fs) = f ∙ (ap (λ z. z ++ map (λ finding. line.Finding finding) words) ls ∙ ap (λ z. flat_map (lines_of skips) fs ++ map (λ finding. line.Finding finding) z) named) in
-    let told : lines ≡ report_of skips roots fs = l ∙ (ap (λ z. z ++ line.End trees findings ∷ []) begun ∙ (ap (λ (k : ℕ). (flat_map (lines_of skips) fs ++ map (λ finding. line.Finding finding) (findings_of skips roots fs)) ++ line.End k findings ∷ []) t ∙ ap (λ (k : ℕ). (flat_map (lines_of skips) fs ++ map (λ finding. line.Finding finding) (findings_of skips roots fs)) ++ line.End (length roots) k ∷ []) count)) in
+    let by : findings_by states all.claims.items all.tables.items ≡ findings_by (list_all (says_states (is_some records)) roots) (flat_map (claims_of skips) fs) (flat_map tables_of fs) = ap (λ b. findings_by b all.claims.items all.tables.items) s ∙ (ap (λ cl. findings_by (list_all (says_states (is_some records)) roots) cl all.tables.items) cs ∙ ap (findings_by (list_all (says_states (is_some records)) roots) (flat_map (claims_of skips) fs)) ts) in
+    let named : words ≡ findings_of (is_some records) skips roots fs = w ∙ (ap (λ z. z ++ findings_by states all.claims.items all.tables.items) ws ∙ ap (λ z. flat_map (words_of skips) fs ++ z) by) in
+    let count : findings ≡ faults_in fs + length (findings_of (is_some records) skips roots fs) = n ∙ (ap (λ k. k + length words) h.faults_are ∙ ap (λ z. faults_in fs + length z) named) in
+    let begun : first ≡ flat_map (lines_of skips) fs ++ map (λ finding. line.Finding finding) (findings_of (is_some records) skips roots fs) = f ∙ (ap (λ z. z ++ map (λ finding. line.Finding finding) words) ls ∙ ap (λ z. flat_map (lines_of skips) fs ++ map (λ finding. line.Finding finding) z) named) in
+    let told : lines ≡ report_of (is_some records) skips roots fs = l ∙ (ap (λ z. z ++ line.End trees findings ∷ []) begun ∙ (ap (λ (k : ℕ). (flat_map (lines_of skips) fs ++ map (λ finding. line.Finding finding) (findings_of (is_some records) skips roots fs)) ++ line.End k findings ∷ []) t ∙ ap (λ (k : ℕ). (flat_map (lines_of skips) fs ++ map (λ finding. line.Finding finding) (findings_of (is_some records) skips roots fs)) ++ line.End (length roots) k ∷ []) count)) in
     record {
+      records = records;
+      records_are = are;
       trees = fs;
-      roots_are = h.roots_are;
       each = h.each;
       written = subst (λ z. Appends before after (text_of_lines z)) told written;
       outcome_is = o ∙ ap outcome_of count;

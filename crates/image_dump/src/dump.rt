@@ -3,12 +3,16 @@ ghost use Rattle.std.specs.Prelude.{◌≡◌, ◌≤◌, ◌<◌, ◌^◌, [], 
 ghost use Rattle.std.specs.List.{list_all};
 ghost use Rattle.std.specs.Io.KnownBytes.{Appends};
 ghost use Rattle.memory_image.specs.CoreFile.{IsPlaced};
+ghost use Rattle.std.specs.Option.{ForSome};
+ghost use Rattle.std.specs.Option.{is_some};
+ghost use Rattle.image_trees.specs.Records.{CanRead};
 ghost use Rattle.image_dump.specs.Dumped.{outcome_of, says_states, text_of_lines, AreCollected, IsAdded, IsDumped, IsFault, IsRoot};
 
 use crate::collect::{Collected, add_findings, add_line, add_tree, add_unsound};
 use crate::line::DumpLine;
+use crate::records::{records_of, told_root, told_runs};
 use crate::skip::Skip;
-use image_trees::{Root, Unwalked, walk_tree};
+use image_trees::{Records, Root, Tree, Unwalked, walk_tree};
 use memory_image::{ImageBytes, Refused, Segment};
 use std::alloc::{AllocError, Global};
 use std::io::Write;
@@ -31,6 +35,16 @@ pub enum NotDumped {
     Unwritten,
 }
 
+impl From<Refused> for NotDumped {
+    ghost use Rattle.image_dump.specs.declared.dump.NotDumped.TheVariants.{Refused};
+
+    ghost from_gives = { λ refused fault. fault ≡ Refused refused };
+
+    fn from(refused: Refused) -> NotDumped {
+        NotDumped::Refused(refused)
+    }
+}
+
 impl From<AllocError> for NotDumped {
     ghost use Rattle.image_dump.specs.declared.dump.NotDumped.TheVariants.{Refused};
     ghost use Rattle.memory_image.specs.declared.refused.Refused.TheVariants.{NoMemory};
@@ -42,11 +56,13 @@ impl From<AllocError> for NotDumped {
     }
 }
 
-/// Whether words of all trees say states.
-fn all_say_states(roots: &[Root]) -> bool
-    ensures { result ≡ list_all says_states roots.now }
+/// Whether words or records say the states of all trees.
+fn all_say_states(has_records: bool, roots: &[Root]) -> bool
+    ensures { result ≡ list_all (says_states has_records) roots.now }
 {
-    roots.iter().all(|root| root.profile.has_states)
+    roots
+        .iter()
+        .all(|root| told_root(has_records, *root).profile.has_states)
 }
 
 /// Adds the trees found from a root.
@@ -54,18 +70,22 @@ fn add_root<I: ImageBytes>(
     alloc: Global,
     image: &I,
     segments: &[Segment],
+    records: &Option<Records>,
     root: Root,
     skips: &[Skip],
     all: &mut Collected,
 ) -> Result<u64, NotDumped>
     requires placed { All IsPlaced segments.now }
+    requires records { ForSome records.now CanRead }
     requires root { IsRoot root }
-    ensures added { IfOk result (IsAdded (I.bytes image.now) (I.may_fail image.now) segments.now root skips.now all.old all.new) }
+    ensures added { IfOk result (IsAdded (I.bytes image.now) (I.may_fail image.now) segments.now records.now root skips.now all.old all.new) }
     ensures fault { IfErr result (IsFault (I.may_fail image.now)) }
 {
     match walk_tree(alloc, image, segments, &root) {
-        Ok(tree) => {
-            add_tree(alloc, root, &tree, skips, all)?;
+        Ok(Tree { runs, tables }) => {
+            let runs = told_runs(alloc, image, segments, records, &root, runs)?;
+            let root = told_root(records.is_some(), root);
+            add_tree(alloc, root, &Tree { runs, tables }, skips, all)?;
             Ok(0)
         }
         Err(Unwalked::Failed(refused)) => Err(NotDumped::Refused(refused)),
@@ -126,20 +146,22 @@ fn collect<I: ImageBytes>(
     alloc: Global,
     image: &I,
     segments: &[Segment],
+    records: &Option<Records>,
     roots: &[Root],
     skips: &[Skip],
     all: &mut Collected,
 ) -> Result<u64, NotDumped>
     requires placed { All IsPlaced segments.now }
+    requires records { ForSome records.now CanRead }
     requires roots { All IsRoot roots.now }
     requires few { length roots.now < 2 ^ 32 }
-    ensures collected { IfOk result (AreCollected (I.bytes image.now) (I.may_fail image.now) segments.now roots.now skips.now all.old all.new) }
+    ensures collected { IfOk result (AreCollected (I.bytes image.now) (I.may_fail image.now) segments.now records.now roots.now skips.now all.old all.new) }
     ensures few { IfOk result (λ n. n ≤ length roots.now) }
     ensures fault { IfErr result (IsFault (I.may_fail image.now)) }
 {
     let mut unwalked = 0u64;
     for i in 0..roots.len() {
-        unwalked += add_root(alloc, image, segments, roots[i], skips, all)?;
+        unwalked += add_root(alloc, image, segments, records, roots[i], skips, all)?;
     }
     Ok(unwalked)
 }
@@ -155,12 +177,15 @@ fn outcome(findings: u64) -> Dumped
     }
 }
 
-/// Dumps the trees of an image: a line for each tree and each of its runs, then what isn't sound, and an end line.
+/// Dumps the trees of an image: a line for each tree and each of its runs, then what isn't sound, and an end line. With `vmemmap`,
+/// the hypervisor's page from which on it maps a record for each frame, the states of its tree and the host's are those that the
+/// records say, where words say none.
 pub fn dump_trees<I: ImageBytes, W: Write>(
     alloc: Global,
     image: &I,
     segments: &[Segment],
     roots: &[Root],
+    vmemmap: Option<u64>,
     skips: &[Skip],
     writer: &mut W,
 ) -> Result<Dumped, NotDumped>
@@ -168,7 +193,7 @@ pub fn dump_trees<I: ImageBytes, W: Write>(
     requires roots { All IsRoot roots.now }
     requires few { length roots.now < 2 ^ 32 }
     ensures dumped { IfOk result
-        (IsDumped (I.bytes image.now) (I.may_fail image.now) segments.now roots.now skips.now (W.contents writer.old) (W.contents writer.new)) }
+        (IsDumped (I.bytes image.now) (I.may_fail image.now) segments.now roots.now vmemmap skips.now (W.contents writer.old) (W.contents writer.new)) }
     ensures fault { IfErr result (IsFault (I.may_fail image.now)) }
 {
     let mut all = Collected {
@@ -177,8 +202,9 @@ pub fn dump_trees<I: ImageBytes, W: Write>(
         claims: Vec::new(alloc),
         tables: Vec::new(alloc),
     };
-    let unwalked = collect(alloc, image, segments, roots, skips, &mut all)?;
-    let states = all_say_states(roots);
+    let records = records_of(alloc, image, segments, roots, vmemmap)?;
+    let unwalked = collect(alloc, image, segments, &records, roots, skips, &mut all)?;
+    let states = all_say_states(records.is_some(), roots);
     let Collected {
         mut lines,
         mut words,

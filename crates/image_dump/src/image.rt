@@ -38,17 +38,26 @@ pub fn dump_image<I: ImageBytes, W: Write>(
     image: &I,
     form: Form,
     roots: &[Root],
+    vmemmap: Option<u64>,
     skips: &[Skip],
     writer: &mut W,
 ) -> Result<Dumped, NotDumped>
     requires roots { All IsRoot roots.now }
     requires few { length roots.now < 2 ^ 32 }
     ensures dumped { IfOk result
-        (IsImageDumped (I.bytes image.now) (I.may_fail image.now) form roots.now skips.now (W.contents writer.old) (W.contents writer.new)) }
+        (IsImageDumped (I.bytes image.now) (I.may_fail image.now) form roots.now vmemmap skips.now (W.contents writer.old) (W.contents writer.new)) }
     ensures refused { IfErr result (IsImageRefused (I.bytes image.now) (I.may_fail image.now) form) }
 {
     match open(alloc, image, form) {
-        Ok(segments) => dump_trees(alloc, image, segments.as_slice(), roots, skips, writer),
+        Ok(segments) => dump_trees(
+            alloc,
+            image,
+            segments.as_slice(),
+            roots,
+            vmemmap,
+            skips,
+            writer,
+        ),
         Err(refused) => Err(NotDumped::Refused(refused)),
     }
 }

@@ -5,6 +5,7 @@ mod collect;
 mod dump;
 mod image;
 mod line;
+mod records;
 mod skip;
 mod texts;
 

@@ -67,6 +67,7 @@ fn report(
         &image,
         segments.as_slice(),
         roots.as_slice(),
+        None,
         skips,
         &mut text,
     ) {

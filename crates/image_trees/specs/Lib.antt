@@ -4,3 +4,4 @@ pub mod InImage
 pub mod Stops
 pub mod Unwalked
 pub mod Trees
+pub mod Records

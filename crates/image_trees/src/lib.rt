@@ -2,9 +2,11 @@
 #![tactic(auto)]
 
 mod kept;
+mod records;
 mod root;
 mod walk;
 
+pub use records::{Records, with_states};
 pub use root::{Root, Tree, Unwalked};
 pub use walk::walk_tree;
 

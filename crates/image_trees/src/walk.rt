@@ -1,6 +1,8 @@
 //! The walk.
 ghost use Rattle.std.specs.Prelude.{◌≡◌, ◌≤◌, ◌<◌, ◌^◌, ◌+◌, All, IfOk, IfErr, length, map};
 ghost use Rattle.memory_image.specs.CoreFile.{IsPlaced};
+ghost use Rattle.run_list.specs.View.{IsKept};
+ghost use Rattle.walked_tables.specs.Values.{advance_said, CanGoOn};
 ghost use Rattle.image_trees.specs.KeptPages.{kept_told, HasWords, IsWalkedBy};
 ghost use Rattle.image_trees.specs.Trees.{IsTreeOf};
 ghost use Rattle.image_trees.specs.Unwalked.{IsStoppedBy, IsUnwalked};
@@ -50,6 +52,7 @@ pub fn walk_tree<I: ImageBytes>(
     requires few { root.now.count ≤ 16 }
     requires frames { root.now.frame + root.now.count < 2 ^ 64 }
     ensures tree { IfOk result (λ tree. IsTreeOf (I.bytes image.now) segments.now root.now tree.runs.items tree.tables.items) }
+    ensures kept { IfOk result (λ tree. IsKept advance_said CanGoOn tree.runs.items) }
     ensures unwalked { IfErr result (IsUnwalked (I.bytes image.now) (I.may_fail image.now) segments.now root.now) }
 {
     let mut buffer = page_buffer(alloc)?;

@@ -43,6 +43,7 @@ pub fn dumped<
         profiles,
         skips,
         base,
+        vmemmap,
         output,
     } = dump;
     let given = match read_words(
@@ -59,7 +60,15 @@ pub fn dumped<
     match files.open_image(path) {
         Ok(image) => {
             let progress = files.progress("pages read", output != Output::Nothing);
-            let answer = written(rt, &image, form_of(base), &given, output, &progress);
+            let answer = written(
+                rt,
+                &image,
+                form_of(base),
+                &given,
+                vmemmap,
+                output,
+                &progress,
+            );
             told(rt, path, answer);
             dump_status(answer)
         }
@@ -84,18 +93,27 @@ fn written<R: AllocGlobal + Print, I: ImageBytes, P: Progress>(
     image: &I,
     form: Form,
     given: &Given,
+    vmemmap: Option<u64>,
     output: Output,
     progress: &P,
 ) -> Result<Dumped, NotDumped>
     requires roots { All IsRoot given.now.roots.items }
     requires few { length given.now.roots.items < 2 ^ 32 }
-    ensures { IsDumpAnswer (I.bytes image.now) (I.may_fail image.now) form given.now.roots.items given.now.skips.items result }
+    ensures { IsDumpAnswer (I.bytes image.now) (I.may_fail image.now) form given.now.roots.items vmemmap given.now.skips.items result }
 {
     let roots = given.roots.as_slice();
     let skips = given.skips.as_slice();
     let watched = WatchedImage { image, progress };
     let mut report = Vec::new(rt.alloc());
-    let answer = dump_image(rt.alloc(), &watched, form, roots, skips, &mut report);
+    let answer = dump_image(
+        rt.alloc(),
+        &watched,
+        form,
+        roots,
+        vmemmap,
+        skips,
+        &mut report,
+    );
     progress.finish();
     let text = report.as_slice();
     let written = match output {

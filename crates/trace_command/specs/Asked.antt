@@ -30,6 +30,8 @@ pub record DumpAsked : Type 0 where
   pub skips : List Text
   -- the physical address of a raw image's first byte
   pub base : Option ℕ
+  -- the hypervisor's page from which on it maps a record for each frame
+  pub vmemmap : Option ℕ
   pub output : Output
 
 -- what may be asked for
@@ -59,6 +61,7 @@ dump_asked d = record {
   profiles = map (λ word. word.now) d.profiles.items;
   skips = map (λ word. word.now) d.skips.items;
   base = d.base;
+  vmemmap = d.vmemmap;
   output = d.output;
 }
 
@@ -111,10 +114,10 @@ abbrev pub line_told : Option Text → Option (Option ℕ)
 line_told None = Some None
 line_told (Some word) = option_map (λ line. Some line) (number_within 1 18446744073709551615 word)
 
--- an address that is a number; none without a word
-abbrev pub base_told : Option Text → Option (Option ℕ)
-base_told None = Some None
-base_told (Some word) = option_map (λ base. Some base) (number_of word)
+-- an address or a page that is a number; none without a word
+abbrev pub number_given : Option Text → Option (Option ℕ)
+number_given None = Some None
+number_given (Some word) = option_map (λ number. Some number) (number_of word)
 
 -- a flag is given
 abbrev pub is_set : Text → List Row → Bool
@@ -177,8 +180,8 @@ drawing rows = option_map (λ file. Drawing file (is_set (codes "text") rows)) (
 abbrev pub words_given : Text → List Row → List Text
 words_given id rows = unwrap_or (all_of id rows) []
 
-abbrev pub dump_in : List Row → Text → Text → Text → Option ℕ → DumpAsked
-dump_in rows image host hyp base = record {
+abbrev pub dump_in : List Row → Text → Text → Text → Option ℕ → Option ℕ → DumpAsked
+dump_in rows image host hyp base vmemmap = record {
   image = image;
   host = host;
   hyp = hyp;
@@ -186,12 +189,14 @@ dump_in rows image host hyp base = record {
   profiles = words_given (codes "profile") rows;
   skips = words_given (codes "skip") rows;
   base = base;
+  vmemmap = vmemmap;
   output = output_in rows;
 }
 
 abbrev pub dumping : List Row → Option Asking
 dumping rows =
-    option_and_then (λ image. option_and_then (λ host. option_and_then (λ hyp. option_map (λ base. Dumping (dump_in rows image host hyp base)) (base_told (first_of (codes "base") rows)))
+    option_and_then (λ image. option_and_then (λ host. option_and_then (λ hyp. option_and_then (λ base. option_map (λ vmemmap. Dumping (dump_in rows image host hyp base vmemmap))
+    (number_given (first_of (codes "vmemmap") rows))) (number_given (first_of (codes "base") rows)))
     (first_of (codes "hyp") rows)) (first_of (codes "host") rows)) (first_of (codes "IMAGE") rows)
 
 -- the task asked for by a subcommand's name and its values
@@ -236,7 +241,7 @@ IsPlain word = slice_get word 0 ≢ Some 45
 
 -- an ELF core, of which nothing is known but both roots
 abbrev pub of_core : Text → Text → Text → DumpAsked
-of_core image host hyp = record { image = image; host = host; hyp = hyp; guests = []; profiles = []; skips = []; base = None; output = Report }
+of_core image host hyp = record { image = image; host = host; hyp = hyp; guests = []; profiles = []; skips = []; base = None; vmemmap = None; output = Report }
 
 -- the heap that `replay` takes, with its size, and that a race and an audit take none
 pub record TakesHeaps (words : List Text) (r : Result Invocation UsageFault) : Type 0 where

@@ -76,7 +76,7 @@ abbrev pub roots : App
 roots = with_rule (with_rule (with_rule (with_rule (new_app (codes "dump")) (needed (codes "IMAGE"))) (needed_option (codes "host"))) (needed_option (codes "hyp"))) (options (codes "guest"))
 
 abbrev pub dump : App
-dump = reporting (with_rule (with_rule (with_rule roots (options (codes "profile"))) (options (codes "skip"))) (option (codes "base")))
+dump = reporting (with_rule (with_rule (with_rule (with_rule roots (options (codes "profile"))) (options (codes "skip"))) (option (codes "base"))) (option (codes "vmemmap")))
 
 -- the program: it needs a subcommand, shows help without words, and has a version
 abbrev pub named : App

@@ -10,7 +10,7 @@ ghost use Rattle.trace_command.specs.Asked.{
   asked_in,
   auditing,
   checking,
-  base_told,
+  number_given,
   drawing,
   dumping,
   explaining,
@@ -66,6 +66,7 @@ pub(crate) enum Wanted {
     OneInput,
     Root,
     Address,
+    Page,
 }
 
 /// Why what clap has read asks for nothing.
@@ -254,16 +255,16 @@ fn line(inner: &ArgMatches<'_>) -> Result<Option<u64>, Unread>
     }
 }
 
-/// The address that is given as `--base`.
-fn base(inner: &ArgMatches<'_>) -> Result<Option<u64>, Unread>
-    ensures { IsReadAs (base_told (first_of (codes "base") (rows_of (found_of inner.now)))) (λ base. base) result }
+/// The number that is given as an option, where it is given.
+fn given_number(inner: &ArgMatches<'_>, id: &str, wanted: Wanted) -> Result<Option<u64>, Unread>
+    ensures { IsReadAs (number_given (first_of id.now (rows_of (found_of inner.now)))) (λ number. number) result }
 {
-    let Some(word) = value(inner, "base") else {
+    let Some(word) = value(inner, id) else {
         return Ok(None);
     };
     match number(word.as_bytes()) {
-        Some(base) => Ok(Some(base)),
-        None => Err(Unread::Word(Wanted::Address)),
+        Some(number) => Ok(Some(number)),
+        None => Err(Unread::Word(wanted)),
     }
 }
 
@@ -419,7 +420,8 @@ fn dump_asked<'a>(global: Global, inner: &ArgMatches<'a>) -> Result<Invocation<'
     let image = word(inner, "IMAGE")?;
     let host = word(inner, "host")?;
     let hyp = word(inner, "hyp")?;
-    let base = base(inner)?;
+    let base = given_number(inner, "base", Wanted::Address)?;
+    let vmemmap = given_number(inner, "vmemmap", Wanted::Page)?;
     let guests = words(global, inner, "guest")?;
     let profiles = words(global, inner, "profile")?;
     let skips = words(global, inner, "skip")?;
@@ -431,6 +433,7 @@ fn dump_asked<'a>(global: Global, inner: &ArgMatches<'a>) -> Result<Invocation<'
         profiles,
         skips,
         base,
+        vmemmap,
         output: output(inner),
     }))
 }

@@ -392,6 +392,13 @@ fn dump<'a>(global: Global) -> Result<Command<'a>, AllocError>
         "the image is raw and starts at this physical address",
     );
     let form = with(form, base)?;
+    let vmemmap = option(
+        global,
+        "vmemmap",
+        "PAGE",
+        "the hypervisor's page where __hyp_vmemmap begins (7.3): states of its pages and the host's",
+    );
+    let form = with(form, vmemmap)?;
     reporting(global, form)
 }
 
@@ -436,6 +443,7 @@ fn text_of(wanted: Wanted) -> &'static str {
             "N of --limit must be a number from 1 to 4294967296, decimal or 0x and hexadecimal",
         Wanted::Root => "IMAGE, --host and --hyp are needed",
         Wanted::Address => "ADDRESS must be a number below 2^64, decimal or 0x and hexadecimal",
+        Wanted::Page => "PAGE must be a number below 2^64, decimal or 0x and hexadecimal",
         Wanted::OneInput => "FILE and REPORT can't both be standard input",
         Wanted::Line =>
             "N of --line must be a number from 1 on and below 2^64, decimal or 0x and hexadecimal",

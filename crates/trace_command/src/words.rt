@@ -113,6 +113,8 @@ pub struct Dump<'a> {
     pub skips: Vec<&'a str>,
     /// The physical address of a raw image's first byte; without it the image is an ELF core.
     pub base: Option<u64>,
+    /// The hypervisor's page from which on it maps a record for each frame.
+    pub vmemmap: Option<u64>,
     pub output: Output,
 }
 

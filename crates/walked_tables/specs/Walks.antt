@@ -2,7 +2,7 @@
 use Rattle.std.specs.Prelude.{◌≡◌, ℕ, ◌+◌, ◌*◌, List, AllPairs, ◌++◌}
 use Rattle.page_state.specs.Geometries.{block_pages}
 use Rattle.run_list.specs.declared.run.Run.{Run}
-use Rattle.run_list.specs.Runs.{EndBefore, IsCoarsest, run_map}
+use Rattle.run_list.specs.Runs.{AreInReach, EndBefore, IsCoarsest, run_map}
 use Rattle.run_list.specs.View.{IsKept}
 use Rattle.table_words.specs.declared.profile.Profile.{Profile}
 use Rattle.walked_tables.specs.declared.follow.TablePage.{TablePage}
@@ -17,6 +17,7 @@ use Rattle.walked_tables.specs.Values.{CanGoOn, advance_said}
 pub record IsTreeWalked (profile : Profile) (pages : List TablePage) (tree depth : ℕ) (roots : List TablePage) (before after : List Reached) (runs : List (Run Said)) : Type 0 where
   pub map : run_map advance_said runs ≡ map_by_frames profile pages depth roots
   pub coarsest : IsCoarsest advance_said runs
+  pub in_reach : AreInReach CanGoOn runs
   pub met : after ≡ before ++ tables_by_frames profile pages tree depth roots
   pub apart : AllPairs AreOtherFrames after
 

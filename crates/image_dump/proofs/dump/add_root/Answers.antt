@@ -1,12 +1,13 @@
 use Rattle.std.proofs.Common.{Err, refl, sym}
+use Rattle.std.specs.Option.{is_some}
+use Rattle.image_dump.specs.Stating.{told_root}
 use Rattle.image_dump.proofs.Collected.{append_nil}
 use Rattle.image_dump.proofs.dump.add_root.Goals as goal
 
 pub returns-in_ok-add_line-in-Err-clause-added : goal.returns-in_ok-add_line-in-Err-clause-added
 returns-in_ok-add_line-in-Err-clause-added g c = record {
-  found = record { root = c.args.root; walked = Err c.in-Err.why };
-  root_is = refl;
-  found_in = c.in-Err.ensures.unwalked;
+  found = record { root = told_root (is_some c.args.records.now) c.args.root; walked = Err c.in-Err.why };
+  found_in = record { root_is = refl; walk = c.in-Err.ensures.unwalked };
   grows = record {
     lines_are = c.in_ok-add_line-in-Err.ensures;
     words_are = sym (append_nil _);

@@ -18,6 +18,6 @@ returns-in-Ok-clause-dumped g c =
     let words = c.in_ok-add_unsound.ensures ∙ (ap (λ cl. all.words.items ++ findings_by states cl c.as_slice-2.result.now) c.as_slice.ensures.value ∙ ap (λ tb. all.words.items ++ findings_by states all.claims.items tb) c.as_slice-2.ensures.value) in
     let first = c.in_ok-add_findings.ensures ∙ ap (λ ws. all.lines.items ++ map (λ (f : Finding). line.Finding f) ws) c.as_slice-3.ensures.value in
     let written = subst (λ ls. Appends (g.W.Write.contents c.args.writer.now) (g.W.Write.contents c.write_lines.new.writer) (text_of_lines ls)) c.as_slice-4.ensures.value c.in-Ok.ensures in
-    all_dumped (g.I.ImageBytes.bytes c.args.image.now) (g.I.ImageBytes.may_fail c.args.image.now) c.args.segments.now c.args.roots.now c.args.skips.now (g.W.Write.contents c.args.writer.now) (g.W.Write.contents c.write_lines.new.writer)
+    all_dumped (g.I.ImageBytes.bytes c.args.image.now) (g.I.ImageBytes.may_fail c.args.image.now) c.args.segments.now c.args.roots.now c.args.vmemmap c.in_ok-records.records c.args.skips.now (g.W.Write.contents c.args.writer.now) (g.W.Write.contents c.write_lines.new.writer)
     (record { lines = c.new.result; words = c.new-2.result; claims = c.new-3.result; tables = c.new-4.result }) all c.in_ok-unwalked.unwalked states found.items c.add_findings.new.lines.items c.add_line.new.lines.items (length c.args.roots.now) (c.in_ok-unwalked.unwalked + c.len.result) c.outcome.result
-    c.in_ok-unwalked.ensures.collected c.new.ensures.items c.new-2.ensures.items c.new-3.ensures.items c.new-4.ensures.items c.all_say_states-states.ensures words first (ap (λ k. c.in_ok-unwalked.unwalked + k) (c.len.ensures ∙ found.ok.0)) refl c.in_ok-add_line.ensures written c.outcome.ensures
+    c.in_ok-records.ensures.records c.in_ok-unwalked.ensures.collected c.new.ensures.items c.new-2.ensures.items c.new-3.ensures.items c.new-4.ensures.items c.all_say_states-states.ensures words first (ap (λ k. c.in_ok-unwalked.unwalked + k) (c.len.ensures ∙ found.ok.0)) refl c.in_ok-add_line.ensures written c.outcome.ensures

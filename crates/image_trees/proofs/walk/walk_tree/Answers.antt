@@ -24,3 +24,9 @@ loop-bytes-preserved g c = record {
       let m = c.in_ok-add_missing.ensures.more all e in
       still_read (page_words all c.args.segments.now) c.args.root.now c.args.root.now.count (map kept_told c.loop-bytes.kept.items) (map kept_told c.add_missing.new.kept.items) m.more (c.loop-bytes.invariant.read all e) m.pages m.given (omega (arith, length-map c.loop-bytes.kept.items kept_told, c.loop-bytes.invariant.long));
 }
+
+pub returns-then-len-before-clause-kept : goal.returns-then-len-before-clause-kept
+returns-then-len-before-clause-kept g c = record {
+  coarsest = c.in_ok-tree.ensures.walked.walked.coarsest;
+  in_reach = c.in_ok-tree.ensures.walked.walked.in_reach;
+}

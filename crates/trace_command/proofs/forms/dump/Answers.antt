@@ -13,4 +13,5 @@ returns-clause-app c =
     let five = c.in_ok-form-5.ensures.app ∙ ap₂ with_rule four c.options-2.ensures.rule in
     let six = c.in_ok-form-6.ensures.app ∙ ap₂ with_rule five c.options-3.ensures.rule in
     let seven = c.in_ok-form-7.ensures.app ∙ ap₂ with_rule six c.option-base.ensures.rule in
-    IfOk-weaker c.reporting.result _ _ (λ r h. h ∙ ap reporting seven) c.reporting.ensures.app
+    let eight = c.in_ok-form-8.ensures.app ∙ ap₂ with_rule seven c.option-vmemmap.ensures.rule in
+    IfOk-weaker c.reporting.result _ _ (λ r h. h ∙ ap reporting eight) c.reporting.ensures.app

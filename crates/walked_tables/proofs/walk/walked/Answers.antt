@@ -21,6 +21,7 @@ pub returns-clause-walked : goal.returns-clause-walked
 returns-clause-walked c = record {
   map = all_map c.args.profile.now c.args.pages.now c.args.tree c.args.depth c.args.roots.now c.args.met.now.items c.loop-k.k c.loop-k.met.items c.loop-k.runs.items c.loop-k.invariant (omega (arith, c.loop-k.auto.k-end)) (omega (arith, c.loop-k-test.false));
   coarsest = c.loop-k.invariant.kept.coarsest;
+  in_reach = c.loop-k.invariant.kept.in_reach;
   met = all_met c.args.profile.now c.args.pages.now c.args.tree c.args.depth c.args.roots.now c.args.met.now.items c.loop-k.k c.loop-k.met.items c.loop-k.runs.items c.loop-k.invariant (omega (arith, c.loop-k.auto.k-end)) (omega (arith, c.loop-k-test.false));
   apart = c.loop-k.invariant.apart;
 }
