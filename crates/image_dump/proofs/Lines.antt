@@ -16,11 +16,20 @@ module _ {X Y : Type 0} (f : X → Y) where
   pub none_told : (xs : List X) (start : List Y) → start ≡ start ++ map f (take 0 xs)
   none_told xs start = sym (append_nil start)
 
-  pub more_told : (xs : List X) (i : ℕ) (d : X) (start now next : List Y) → i < length xs → now ≡ start ++ map f (take i xs) → next ≡ now ++ f (get_or xs i d) ∷ [] → next ≡ start ++ map f (take (i + 1) xs)
+  pub more_told : (xs : List X) (i : ℕ) (d : X) (start now next : List Y)
+      → i < length xs
+      → now ≡ start ++ map f (take i xs)
+      → next ≡ now ++ f (get_or xs i d) ∷ []
+      → next ≡ start ++ map f (take (i + 1) xs)
   more_told xs i d start now next inside e n =
       let x = get_or xs i d in
       let step = ap (map f) (take_more xs i d inside) ∙ map-append f (take i xs) (x ∷ []) in
-      n ∙ (ap (λ z. z ++ f x ∷ []) e ∙ (append_assoc start (map f (take i xs)) (f x ∷ []) ∙ ap (λ z. start ++ z) (sym step)))
+      n
+      ∙ (ap (λ z. z ++ f x ∷ []) e
+      ∙ (append_assoc start (map f (take i xs)) (f x ∷ []) ∙ ap (λ z. start ++ z) (sym step)))
 
-  pub all_told : (xs : List X) (i : ℕ) (start now : List Y) → length xs ≤ i → now ≡ start ++ map f (take i xs) → now ≡ start ++ map f xs
+  pub all_told : (xs : List X) (i : ℕ) (start now : List Y)
+      → length xs ≤ i
+      → now ≡ start ++ map f (take i xs)
+      → now ≡ start ++ map f xs
   all_told xs i start now past e = e ∙ ap (λ ys. start ++ map f ys) (taken_all xs i past)

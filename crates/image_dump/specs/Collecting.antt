@@ -34,8 +34,12 @@ abbrev pub tables_of : Found → List Reached
 tables_of f = elim f.walked [ Ok w ↦ w.1 | Err why ↦ [] ]
 
 -- the lines of a tree
-abbrev pub lines_by : List Skip → Root → Result (List (Run Said) × List Reached) Unwalked → List DumpLine
-lines_by skips root (Ok w) = line.Tree root (length w.1) ∷ map (λ run. line.Run run) (filter (is_left skips root.tree) w.0)
+abbrev pub lines_by : List Skip
+    → Root
+    → Result (List (Run Said) × List Reached) Unwalked
+    → List DumpLine
+lines_by skips root (Ok w) =
+    line.Tree root (length w.1) ∷ map (λ run. line.Run run) (filter (is_left skips root.tree) w.0)
 lines_by skips root (Err why) = line.Unwalked root.tree why ∷ []
 
 abbrev pub lines_of : List Skip → Found → List DumpLine
@@ -55,7 +59,11 @@ pub record Grows (skips : List Skip) (f : Found) (before after : Collected) : Ty
   pub claims_are : after.claims.items ≡ before.claims.items ++ claims_of skips f
   pub tables_are : after.tables.items ≡ before.tables.items ++ tables_of f
 
--- what isn't sound by claims and tables; shared frames are to have borrowers where all words say states
+-- what isn't sound by claims and tables; shared frames are to have borrowers where all words say
+-- states
 abbrev pub findings_by : Bool → List Claim → List Reached → List Finding
 findings_by states claims tables =
-    ((clashes_of claims (length claims) ++ (if states then filter_map (unborrowed_of claims) claims else [])) ++ mapped_in claims tables (length tables)) ++ met_in tables (length tables)
+    ((clashes_of claims (length claims)
+    ++ (if states then filter_map (unborrowed_of claims) claims else []))
+    ++ mapped_in claims tables (length tables))
+    ++ met_in tables (length tables)

@@ -40,13 +40,25 @@ unfoldable pub text_of_lines : List DumpLine → List ℕ
 text_of_lines [] = []
 text_of_lines (l ∷ ls) = (text_of_line l ++ 10 ∷ []) ++ text_of_lines ls
 
--- what was found is the tree in the image, with the states that records say, or it isn't walked for that reason
-abbrev pub IsWalkOf : Option (List ℕ) → (ℕ → ℕ → Type 0) → List Segment → Option Records → Root → Result (List (Run Said) × List Reached) Unwalked → Type 0
-IsWalkOf known may_fail segments records root (Ok w) = (walked : List (Run Said)) × IsTreeOf known segments root walked w.1 × AreTold known segments records root walked w.0
-IsWalkOf known may_fail segments records root (Err why) = IsUnwalked known may_fail segments root why
+-- what was found is the tree in the image, with the states that records say, or it isn't walked for
+-- that reason
+abbrev pub IsWalkOf : Option (List ℕ)
+    → (ℕ → ℕ → Type 0)
+    → List Segment
+    → Option Records
+    → Root
+    → Result (List (Run Said) × List Reached) Unwalked
+    → Type 0
+IsWalkOf known may_fail segments records root (Ok w) =
+    (walked : List (Run Said))
+    × IsTreeOf known segments root walked w.1
+    × AreTold known segments records root walked w.0
+IsWalkOf known may_fail segments records root (Err why) =
+    IsUnwalked known may_fail segments root why
 
 -- what was found from a root, which the report tells as having states where records say them
-pub record IsFoundIn (known : Option (List ℕ)) (may_fail : ℕ → ℕ → Type 0) (segments : List Segment) (records : Option Records) (root : Root) (f : Found) : Type 0 where
+pub record IsFoundIn (known : Option (List ℕ)) (may_fail : ℕ → ℕ → Type 0)
+    (segments : List Segment) (records : Option Records) (root : Root) (f : Found) : Type 0 where
   pub root_is : f.root ≡ told_root (is_some records) root
   pub walk : IsWalkOf known may_fail segments records root f.walked
 
@@ -60,20 +72,32 @@ faults_in [] = 0
 faults_in (f ∷ fs) = fault_count f.walked + faults_in fs
 
 -- what was found from each root, in order
-abbrev pub AreFoundIn : Option (List ℕ) → (ℕ → ℕ → Type 0) → List Segment → Option Records → List Root → List Found → Type 0
+abbrev pub AreFoundIn : Option (List ℕ)
+    → (ℕ → ℕ → Type 0)
+    → List Segment
+    → Option Records
+    → List Root
+    → List Found
+    → Type 0
 AreFoundIn known may_fail segments records [] [] = Unit {0}
-AreFoundIn known may_fail segments records (root ∷ roots) (f ∷ fs) = IsFoundIn known may_fail segments records root f × AreFoundIn known may_fail segments records roots fs
+AreFoundIn known may_fail segments records (root ∷ roots) (f ∷ fs) =
+    IsFoundIn known may_fail segments records root f
+    × AreFoundIn known may_fail segments records roots fs
 AreFoundIn known may_fail segments records roots trees = ⊥
 
 -- a root was added, with a line of its own where it isn't walked
-pub record IsAdded (known : Option (List ℕ)) (may_fail : ℕ → ℕ → Type 0) (segments : List Segment) (records : Option Records) (root : Root) (skips : List Skip) (before after : Collected) (faults : ℕ) : Type 0 where
+pub record IsAdded (known : Option (List ℕ)) (may_fail : ℕ → ℕ → Type 0) (segments : List Segment)
+    (records : Option Records) (root : Root) (skips : List Skip) (before after : Collected)
+    (faults : ℕ) : Type 0 where
   pub found : Found
   pub found_in : IsFoundIn known may_fail segments records root found
   pub grows : Grows skips found before after
   pub faults_are : faults ≡ fault_count found.walked
 
 -- roots were added
-pub record AreCollected (known : Option (List ℕ)) (may_fail : ℕ → ℕ → Type 0) (segments : List Segment) (records : Option Records) (roots : List Root) (skips : List Skip) (before after : Collected) (faults : ℕ) : Type 0 where
+pub record AreCollected (known : Option (List ℕ)) (may_fail : ℕ → ℕ → Type 0)
+    (segments : List Segment) (records : Option Records) (roots : List Root) (skips : List Skip)
+    (before after : Collected) (faults : ℕ) : Type 0 where
   pub trees : List Found
   pub each : AreFoundIn known may_fail segments records roots trees
   pub lines_are : after.lines.items ≡ before.lines.items ++ flat_map (lines_of skips) trees
@@ -85,26 +109,32 @@ pub record AreCollected (known : Option (List ℕ)) (may_fail : ℕ → ℕ → 
 -- what isn't sound in trees
 abbrev pub findings_of : Bool → List Skip → List Root → List Found → List Finding
 findings_of has_records skips roots trees =
-    flat_map (words_of skips) trees ++ findings_by (list_all (says_states has_records) roots) (flat_map (claims_of skips) trees) (flat_map tables_of trees)
+    flat_map (words_of skips) trees
+    ++ findings_by (list_all (says_states has_records) roots)
+    (flat_map (claims_of skips) trees) (flat_map tables_of trees)
 
 -- the lines of the report
 abbrev pub report_of : Bool → List Skip → List Root → List Found → List DumpLine
 report_of has_records skips roots trees =
     let findings = findings_of has_records skips roots trees in
-    (flat_map (lines_of skips) trees ++ map (λ finding. line.Finding finding) findings) ++ line.End (length roots) (faults_in trees + length findings) ∷ []
+    (flat_map (lines_of skips) trees ++ map (λ finding. line.Finding finding) findings)
+    ++ line.End (length roots) (faults_in trees + length findings) ∷ []
 
 -- sound where nothing is named
 abbrev pub outcome_of : ℕ → Dumped
 outcome_of faults = if faults == 0 then Sound else Unsound
 
 -- the report of the trees in the image was written
-pub record IsDumped (known : Option (List ℕ)) (may_fail : ℕ → ℕ → Type 0) (segments : List Segment) (roots : List Root) (vmemmap : Option ℕ) (skips : List Skip) (before after : Option (List ℕ)) (outcome : Dumped) : Type 0 where
+pub record IsDumped (known : Option (List ℕ)) (may_fail : ℕ → ℕ → Type 0) (segments : List Segment)
+    (roots : List Root) (vmemmap : Option ℕ) (skips : List Skip) (before after : Option (List ℕ))
+    (outcome : Dumped) : Type 0 where
   pub records : Option Records
   pub records_are : AreRecords known may_fail segments (hyp_root roots) vmemmap records
   pub trees : List Found
   pub each : AreFoundIn known may_fail segments records roots trees
   pub written : Appends before after (text_of_lines (report_of (is_some records) skips roots trees))
-  pub outcome_is : outcome ≡ outcome_of (faults_in trees + length (findings_of (is_some records) skips roots trees))
+  pub outcome_is : outcome
+      ≡ outcome_of (faults_in trees + length (findings_of (is_some records) skips roots trees))
 
 -- there is no report: the image could not be read, the report not written, or memory was refused
 abbrev pub IsFault : (ℕ → ℕ → Type 0) → NotDumped → Type 0

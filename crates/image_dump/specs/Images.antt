@@ -21,14 +21,18 @@ segments_by Core bytes = core_of bytes
 segments_by (Raw base) bytes = raw_of base bytes
 
 -- the report of the trees in the file's segments was written
-pub record IsImageDumped (known : Option (List ℕ)) (may_fail : ℕ → ℕ → Type 0) (form : Form) (roots : List Root) (vmemmap : Option ℕ) (skips : List Skip) (before after : Option (List ℕ)) (outcome : Dumped) : Type 0 where
+pub record IsImageDumped (known : Option (List ℕ)) (may_fail : ℕ → ℕ → Type 0) (form : Form)
+    (roots : List Root) (vmemmap : Option ℕ) (skips : List Skip) (before after : Option (List ℕ))
+    (outcome : Dumped) : Type 0 where
   pub segments : List Segment
   pub segments_are : ForSome known (λ all. segments_by form all ≡ Ok segments)
   pub dumped : IsDumped known may_fail segments roots vmemmap skips before after outcome
 
--- the file has this fault, or a read of it may fail; else the report was not written, or memory was refused
+-- the file has this fault, or a read of it may fail; else the report was not written, or memory was
+-- refused
 abbrev pub IsImageRefused : Option (List ℕ) → (ℕ → ℕ → Type 0) → Form → NotDumped → Type 0
-IsImageRefused known may_fail form (Refused (image.Wrong fault)) = ForSome known (λ all. segments_by form all ≡ Err fault)
+IsImageRefused known may_fail form (Refused (image.Wrong fault)) =
+    ForSome known (λ all. segments_by form all ≡ Err fault)
 IsImageRefused known may_fail form (Refused (image.Unread at)) = (count : ℕ) × may_fail at count
 IsImageRefused known may_fail form (Refused image.NoMemory) = Unit {0}
 IsImageRefused known may_fail form Unwritten = Unit {0}

@@ -7,7 +7,10 @@ use Rattle.image_dump.specs.declared.skip.Skip.{Skip}
 
 -- all pages of a run of this tree lie in the range
 abbrev pub covers : ℕ → Run Said → Skip → Bool
-covers tree run skip = ((skip.tree == tree && nat_le skip.first run.pages.first.0) && nat_le run.pages.first.0 skip.last) && nat_le run.pages.count (skip.last - run.pages.first.0 + 1)
+covers tree run skip =
+    ((skip.tree == tree && nat_le skip.first run.pages.first.0)
+    && nat_le run.pages.first.0 skip.last)
+    && nat_le run.pages.count (skip.last - run.pages.first.0 + 1)
 
 -- no range covers the run
 abbrev pub is_left : List Skip → ℕ → Run Said → Bool

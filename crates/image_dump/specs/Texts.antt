@@ -26,7 +26,9 @@ use Rattle.image_dump.specs.declared.line.DumpLine.{DumpLine}
 use Rattle.image_dump.specs.declared.line.DumpLine.TheVariants as line
 
 abbrev pub text_of_tree : ℕ → List ℕ
-text_of_tree tree = if tree == 0 then codes "host" else (if tree == 1 then codes "hyp" else codes "guest " ++ decimal (tree - 2))
+text_of_tree tree =
+    if tree == 0 then codes "host"
+    else (if tree == 1 then codes "hyp" else codes "guest " ++ decimal (tree - 2))
 
 abbrev pub text_of_access : Access → List ℕ
 text_of_access Neither = codes "--"
@@ -63,30 +65,42 @@ abbrev pub text_of_rest : Mapping → List ℕ
 text_of_rest m = text_of_state m.state ++ text_of_marks m.guarded m.aged
 
 abbrev pub text_of_leaf : Mapping → List ℕ
-text_of_leaf m = text_of_access m.access ++ text_of_execute m.execute ++ codes " " ++ text_of_memory m.memory ++ text_of_rest m
+text_of_leaf m =
+    text_of_access m.access ++ text_of_execute m.execute ++ codes " " ++ text_of_memory m.memory
+    ++ text_of_rest m
 
 -- what pages have
 abbrev pub text_of_value : Decoded → List ℕ
 text_of_value word.Malformed = codes "malformed"
 text_of_value word.Unmapped = codes "unmapped"
 text_of_value (word.Annotated owner None) = codes "owner " ++ decimal owner.0
-text_of_value (word.Annotated owner (Some guest)) = codes "owner guest handle " ++ text_of_page guest.handle ++ codes " page " ++ text_of_page guest.gfn
+text_of_value (word.Annotated owner (Some guest)) =
+    codes "owner guest handle " ++ text_of_page guest.handle ++ codes " page "
+    ++ text_of_page guest.gfn
 text_of_value word.Poisoned = codes "poisoned"
 text_of_value word.Locked = codes "locked"
-text_of_value (word.Cleared m) = codes "cleared " ++ text_of_page m.frame.0 ++ codes " " ++ text_of_leaf m
-text_of_value (word.Leaf m) = codes "frame " ++ text_of_page m.frame.0 ++ codes " " ++ text_of_leaf m
+text_of_value (word.Cleared m) =
+    codes "cleared " ++ text_of_page m.frame.0 ++ codes " " ++ text_of_leaf m
+text_of_value (word.Leaf m) =
+    codes "frame " ++ text_of_page m.frame.0 ++ codes " " ++ text_of_leaf m
 text_of_value (word.Table frame) = codes "no-table " ++ text_of_page frame.0
 
 -- the first page of a run, how many there are, and what they have
 abbrev pub text_of_run : Run Said → List ℕ
-text_of_run r = text_of_page r.pages.first.0 ++ codes " " ++ text_of_page r.pages.count ++ codes " " ++ text_of_value r.value.0
+text_of_run r =
+    text_of_page r.pages.first.0 ++ codes " " ++ text_of_page r.pages.count ++ codes " "
+    ++ text_of_value r.value.0
 
 -- who claims a frame, and the page
 abbrev pub text_of_claim : Claim → List ℕ
-text_of_claim c = if c.named then text_of_tree c.tree ++ codes " by host " ++ text_of_page c.page else text_of_tree c.tree ++ codes " " ++ text_of_page c.page
+text_of_claim c =
+    if c.named then text_of_tree c.tree ++ codes " by host " ++ text_of_page c.page
+    else text_of_tree c.tree ++ codes " " ++ text_of_page c.page
 
 abbrev pub text_of_root : Root → List ℕ
-text_of_root r = text_of_tree r.tree ++ codes " root " ++ text_of_page r.frame ++ codes " level " ++ decimal (3 - r.depth) ++ codes " pages " ++ decimal r.count
+text_of_root r =
+    text_of_tree r.tree ++ codes " root " ++ text_of_page r.frame ++ codes " level "
+    ++ decimal (3 - r.depth) ++ codes " pages " ++ decimal r.count
 
 -- the level of a table, and its number among those of its level
 abbrev pub text_of_place : Reached → List ℕ
@@ -98,22 +112,41 @@ text_of_states false = codes " states unknown"
 
 abbrev pub text_of_why : Unwalked → List ℕ
 text_of_why (Rootless frame) = codes "no-root " ++ text_of_page frame
-text_of_why (Again first second) = codes "table-met-twice " ++ text_of_page second.frame ++ codes " at " ++ text_of_place first ++ codes " and " ++ text_of_place second
+text_of_why (Again first second) =
+    codes "table-met-twice " ++ text_of_page second.frame ++ codes " at " ++ text_of_place first
+    ++ codes " and " ++ text_of_place second
 text_of_why TooManyTables = codes "too-many-tables"
 text_of_why (Failed refused) = codes "unreadable"
 
 abbrev pub text_of_finding : Finding → List ℕ
-text_of_finding (Malformed tree page count) = codes "malformed " ++ text_of_tree tree ++ codes " " ++ text_of_page page ++ codes " " ++ text_of_page count
-text_of_finding (NoTable tree page count frame) = codes "no-table " ++ text_of_tree tree ++ codes " " ++ text_of_page page ++ codes " " ++ text_of_page count ++ codes " frame " ++ text_of_page frame
-text_of_finding (TwoOwners frame first second) = codes "two-owners " ++ text_of_page frame ++ codes " " ++ text_of_claim first ++ codes " and " ++ text_of_claim second
-text_of_finding (TwoBorrowers frame first second) = codes "two-borrowers " ++ text_of_page frame ++ codes " " ++ text_of_claim first ++ codes " and " ++ text_of_claim second
-text_of_finding (NoBorrower frame claim) = codes "no-borrower " ++ text_of_page frame ++ codes " " ++ text_of_claim claim
-text_of_finding (MappedTable table claim) = codes "mapped-table " ++ text_of_page table.frame ++ codes " of " ++ text_of_tree table.tree ++ codes " " ++ text_of_claim claim
-text_of_finding (MetTwice first second) = codes "table-of-two " ++ text_of_page first.frame ++ codes " " ++ text_of_tree first.tree ++ codes " and " ++ text_of_tree second.tree
+text_of_finding (Malformed tree page count) =
+    codes "malformed " ++ text_of_tree tree ++ codes " " ++ text_of_page page ++ codes " "
+    ++ text_of_page count
+text_of_finding (NoTable tree page count frame) =
+    codes "no-table " ++ text_of_tree tree ++ codes " " ++ text_of_page page ++ codes " "
+    ++ text_of_page count ++ codes " frame " ++ text_of_page frame
+text_of_finding (TwoOwners frame first second) =
+    codes "two-owners " ++ text_of_page frame ++ codes " " ++ text_of_claim first ++ codes " and "
+    ++ text_of_claim second
+text_of_finding (TwoBorrowers frame first second) =
+    codes "two-borrowers " ++ text_of_page frame ++ codes " " ++ text_of_claim first
+    ++ codes " and " ++ text_of_claim second
+text_of_finding (NoBorrower frame claim) =
+    codes "no-borrower " ++ text_of_page frame ++ codes " " ++ text_of_claim claim
+text_of_finding (MappedTable table claim) =
+    codes "mapped-table " ++ text_of_page table.frame ++ codes " of " ++ text_of_tree table.tree
+    ++ codes " " ++ text_of_claim claim
+text_of_finding (MetTwice first second) =
+    codes "table-of-two " ++ text_of_page first.frame ++ codes " " ++ text_of_tree first.tree
+    ++ codes " and " ++ text_of_tree second.tree
 
 abbrev pub text_of_line : DumpLine → List ℕ
-text_of_line (line.Tree root tables) = codes "tree " ++ text_of_root root ++ codes " tables " ++ decimal tables ++ text_of_states root.profile.has_states
+text_of_line (line.Tree root tables) =
+    codes "tree " ++ text_of_root root ++ codes " tables " ++ decimal tables
+    ++ text_of_states root.profile.has_states
 text_of_line (line.Run run) = text_of_run run
-text_of_line (line.Unwalked tree why) = codes "finding " ++ text_of_tree tree ++ codes " " ++ text_of_why why
+text_of_line (line.Unwalked tree why) =
+    codes "finding " ++ text_of_tree tree ++ codes " " ++ text_of_why why
 text_of_line (line.Finding finding) = codes "finding " ++ text_of_finding finding
-text_of_line (line.End trees findings) = codes "end trees " ++ decimal trees ++ codes " findings " ++ decimal findings
+text_of_line (line.End trees findings) =
+    codes "end trees " ++ decimal trees ++ codes " findings " ++ decimal findings

@@ -48,7 +48,8 @@ pub(crate) fn add_findings(
     findings: &[Finding],
     lines: &mut Vec<DumpLine>,
 ) -> Result<(), AllocError>
-    ensures { OnOk result (lines.new.items ≡ lines.old.items ++ map (λ finding. FindingOf finding) findings.now) }
+    ensures { OnOk result
+        (lines.new.items ≡ lines.old.items ++ map (λ finding. FindingOf finding) findings.now) }
 {
     for i in 0..findings.len() {
         add_line(lines, DumpLine::Finding(findings[i]))?;

@@ -78,7 +78,9 @@ fn add_root<I: ImageBytes>(
     requires placed { All IsPlaced segments.now }
     requires records { ForSome records.now CanRead }
     requires root { IsRoot root }
-    ensures added { IfOk result (IsAdded (I.bytes image.now) (I.may_fail image.now) segments.now records.now root skips.now all.old all.new) }
+    ensures added { IfOk result
+        (IsAdded (I.bytes image.now)
+        (I.may_fail image.now) segments.now records.now root skips.now all.old all.new) }
     ensures fault { IfErr result (IsFault (I.may_fail image.now)) }
 {
     match walk_tree(alloc, image, segments, &root) {
@@ -118,7 +120,8 @@ impl From<AllocError> for WriteFault {
 
 /// Writes a line.
 fn write_line<W: Write>(alloc: Global, line: DumpLine, writer: &mut W) -> Result<(), WriteFault>
-    ensures { OnOk result (Appends (W.contents writer.old) (W.contents writer.new) (text_of_lines (line ∷ []))) }
+    ensures { OnOk result
+        (Appends (W.contents writer.old) (W.contents writer.new) (text_of_lines (line ∷ []))) }
 {
     let text = format!(in alloc; "{line}\n")?;
     match writer.write_all(text.as_bytes()) {
@@ -133,7 +136,8 @@ fn write_lines<W: Write>(
     lines: &[DumpLine],
     writer: &mut W,
 ) -> Result<(), WriteFault>
-    ensures { OnOk result (Appends (W.contents writer.old) (W.contents writer.new) (text_of_lines lines.now)) }
+    ensures { OnOk result
+        (Appends (W.contents writer.old) (W.contents writer.new) (text_of_lines lines.now)) }
 {
     for i in 0..lines.len() {
         write_line(alloc, lines[i], writer)?;
@@ -155,7 +159,9 @@ fn collect<I: ImageBytes>(
     requires records { ForSome records.now CanRead }
     requires roots { All IsRoot roots.now }
     requires few { length roots.now < 2 ^ 32 }
-    ensures collected { IfOk result (AreCollected (I.bytes image.now) (I.may_fail image.now) segments.now records.now roots.now skips.now all.old all.new) }
+    ensures collected { IfOk result
+        (AreCollected (I.bytes image.now)
+        (I.may_fail image.now) segments.now records.now roots.now skips.now all.old all.new) }
     ensures few { IfOk result (λ n. n ≤ length roots.now) }
     ensures fault { IfErr result (IsFault (I.may_fail image.now)) }
 {

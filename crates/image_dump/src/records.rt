@@ -55,7 +55,9 @@ pub(crate) fn told_runs<I: ImageBytes>(
     requires placed { All IsPlaced segments.now }
     requires records { ForSome records.now CanRead }
     requires kept { IsKept advance_said CanGoOn runs.items }
-    ensures told { IfOk result (λ out. AreTold (I.bytes image.now) segments.now records.now root.now runs.items out.items) }
+    ensures told { IfOk result
+        (λ out. AreTold
+        (I.bytes image.now) segments.now records.now root.now runs.items out.items) }
     ensures failed { IfErr result (IsFailed (I.may_fail image.now)) }
 {
     if let Some(records) = records {
@@ -86,7 +88,9 @@ pub(crate) fn records_of<I: ImageBytes>(
 ) -> Result<Option<Records>, NotDumped>
     requires placed { All IsPlaced segments.now }
     requires roots { All IsRoot roots.now }
-    ensures records { IfOk result (AreRecords (I.bytes image.now) (I.may_fail image.now) segments.now (root_of_hyp roots.now) vmemmap) }
+    ensures records { IfOk result
+        (AreRecords (I.bytes image.now) (I.may_fail image.now) segments.now
+        (root_of_hyp roots.now) vmemmap) }
     ensures can { IfOk result (λ records. ForSome records CanRead) }
     ensures fault { IfErr result (IsFault (I.may_fail image.now)) }
 {

@@ -35,26 +35,50 @@ get_taken (x ∷ xs) (suc n) (suc k) h = get_taken xs n k (omega arith)
 
 module _ (read : ℕ → Option (List ℕ)) where
   -- the pages of one frame
-  pub one_given : (frame : ℕ) (words : Option (List ℕ)) → read frame ≡ words → All (Given read) (option_to_list (option_map (λ w. (frame, w)) words))
+  pub one_given : (frame : ℕ) (words : Option (List ℕ))
+      → read frame ≡ words
+      → All (Given read) (option_to_list (option_map (λ w. (frame, w)) words))
   one_given frame None e = λ k d h. absurd (omega arith)
   one_given frame (Some words) e = All-push (Given read) [] (frame, words) (λ k d h. absurd (omega arith)) e
 
   module _ (root : Root) where
     -- the root's next page
-    next_root : (k : ℕ) (before after : List (ℕ × List ℕ)) (found : Option (ℕ × List ℕ)) → page_at read (root.frame + k) ≡ found → is_some found ≡ true → AreRead read root k before → length before ≡ k → after ≡ before ++ option_to_list found → All (Given read) (option_to_list found) → AreRead read root (k + 1) after
+    next_root : (k : ℕ) (before after : List (ℕ × List ℕ)) (found : Option (ℕ × List ℕ))
+        → page_at read (root.frame + k) ≡ found
+        → is_some found ≡ true
+        → AreRead read root k before
+        → length before ≡ k
+        → after ≡ before ++ option_to_list found
+        → All (Given read) (option_to_list found)
+        → AreRead read root (k + 1) after
     next_root k before after None e t h n w g = absurd (let wrong : false ≡ true = t in cc)
     next_root k before after (Some page) e t h n w g = record {
       given = subst (All (Given read)) (sym w) (All-append (Given read) before (page ∷ []) h.given g);
       first = λ j below. by_lt j k
           (λ less. ap (λ ps. slice_get ps j) w ∙ (get_front before (page ∷ []) j (omega arith) ∙ h.first j less))
-          (λ more. let same : k ≡ j = omega arith in ap (λ ps. slice_get ps j) w ∙ (subst (λ m. slice_get (before ++ page ∷ []) m ≡ page_at read (root.frame + m)) same (get_end before page k n ∙ sym e)));
+          (λ more. let same : k ≡ j = omega arith in
+          ap (λ ps. slice_get ps j) w
+          ∙ (subst (λ m. slice_get (before ++ page ∷ []) m ≡ page_at read (root.frame + m)) same
+          (get_end before page k n ∙ sym e)));
     }
 
-    pub more_root : (k : ℕ) (before after : List (ℕ × List ℕ)) (found : Bool) → IsAdded read (root.frame + k) before after found → found ≡ true → AreRead read root k before → length before ≡ k → AreRead read root (k + 1) after
-    more_root k before after found a t h n = next_root k before after (page_at read (root.frame + k)) refl (sym a.found_is ∙ t) h n a.pages (one_given (root.frame + k) (read (root.frame + k)) refl)
+    pub more_root : (k : ℕ) (before after : List (ℕ × List ℕ)) (found : Bool)
+        → IsAdded read (root.frame + k) before after found
+        → found ≡ true
+        → AreRead read root k before
+        → length before ≡ k
+        → AreRead read root (k + 1) after
+    more_root k before after found a t h n =
+        next_root k before after (page_at read (root.frame + k)) refl (sym a.found_is ∙ t) h n a.pages
+        (one_given (root.frame + k) (read (root.frame + k)) refl)
 
     -- with more pages
-    pub still_read : (n : ℕ) (before after more : List (ℕ × List ℕ)) → AreRead read root n before → after ≡ before ++ more → All (Given read) more → n ≤ length before → AreRead read root n after
+    pub still_read : (n : ℕ) (before after more : List (ℕ × List ℕ))
+        → AreRead read root n before
+        → after ≡ before ++ more
+        → All (Given read) more
+        → n ≤ length before
+        → AreRead read root n after
     still_read n before after more h w g long = record {
       given = subst (All (Given read)) (sym w) (All-append (Given read) before more h.given g);
       first = λ j below. ap (λ ps. slice_get ps j) w ∙ (get_front before more j (omega arith) ∙ h.first j below);
@@ -67,16 +91,26 @@ module _ (read : ℕ → Option (List ℕ)) where
     }
 
   -- no page for a frame
-  none_more : (frame : ℕ) (words : Option (List ℕ)) (before after : List (ℕ × List ℕ)) → after ≡ before ++ option_to_list (option_map (λ w. (frame, w)) words) → length after ≡ length before → words ≡ None
+  none_more : (frame : ℕ) (words : Option (List ℕ)) (before after : List (ℕ × List ℕ))
+      → after ≡ before ++ option_to_list (option_map (λ w. (frame, w)) words)
+      → length after ≡ length before
+      → words ≡ None
   none_more frame None before after w n = refl
-  none_more frame (Some words) before after w n = absurd (let longer = ap length w ∙ length-append before ((frame, words) ∷ []) in omega (arith, longer))
+  none_more frame (Some words) before after w n =
+      absurd (let longer = ap length w ∙ length-append before ((frame, words) ∷ []) in omega (arith, longer))
 
   -- the page of a table
-  pub named : (frame : ℕ) (before after : List (ℕ × List ℕ)) (found : Bool) → IsAdded read frame before after found → length after ≡ length before → read frame ≡ None
+  pub named : (frame : ℕ) (before after : List (ℕ × List ℕ)) (found : Bool)
+      → IsAdded read frame before after found
+      → length after ≡ length before
+      → read frame ≡ None
   named frame before after found a n = none_more frame (read frame) before after a.pages n
 
   -- the page that a value names
-  pub named_table : (frame : Frame) (decoded : Decoded) (before after : List (ℕ × List ℕ)) (found : Bool) → IsAdded read frame.0 before after found → decoded ≡ Table frame → IsNamed read decoded before after
+  pub named_table : (frame : Frame) (decoded : Decoded) (before after : List (ℕ × List ℕ)) (found : Bool)
+      → IsAdded read frame.0 before after found
+      → decoded ≡ Table frame
+      → IsNamed read decoded before after
   named_table frame decoded before after found a d = record {
     more = option_to_list (page_at read frame.0);
     pages = a.pages;
@@ -97,7 +131,11 @@ module _ (read : ℕ → Option (List ℕ)) where
       append_nil [] = refl
       append_nil (x ∷ xs) = ap (λ ys. x ∷ ys) (append_nil xs)
 
-  pub more_named : (runs : List (Run Said)) (i : ℕ) (other : Run Said) (start before after : List (ℕ × List ℕ)) → i < length runs → AreMore read (take i runs) start before → IsNamed read (get_or runs i other).value.0 before after → AreMore read (take (i + 1) runs) start after
+  pub more_named : (runs : List (Run Said)) (i : ℕ) (other : Run Said) (start before after : List (ℕ × List ℕ))
+      → i < length runs
+      → AreMore read (take i runs) start before
+      → IsNamed read (get_or runs i other).value.0 before after
+      → AreMore read (take (i + 1) runs) start after
   more_named runs i other start before after inside h n = record {
     more = h.more ++ n.more;
     pages = n.pages ∙ (ap (λ ps. ps ++ n.more) h.pages ∙ append_assoc start h.more n.more);
@@ -120,7 +158,15 @@ taken_all (x ∷ xs) (suc n) h = ap (λ ys. x ∷ ys) (taken_all xs n (omega ari
 -- pages with 512 words
 all_told : (pages : List TablePage) → All (λ (p : ℕ × List ℕ). length p.1 ≡ 512) (map told pages) → All IsWhole pages
 all_told [] h = λ k d e. absurd (omega arith)
-all_told (p ∷ ps) h = All-cons IsWhole p ps (All-head (λ (q : ℕ × List ℕ). length q.1 ≡ 512) (told p) (map told ps) h) (all_told ps (All-tail (λ (q : ℕ × List ℕ). length q.1 ≡ 512) (told p) (map told ps) h))
+all_told (p ∷ ps) h =
+    All-cons IsWhole p ps (All-head (λ (q : ℕ × List ℕ). length q.1 ≡ 512) (told p) (map told ps) h)
+    (all_told ps (All-tail (λ (q : ℕ × List ℕ). length q.1 ≡ 512) (told p) (map told ps) h))
 
-pub whole_pages : (kept : List KeptPage) (pages : List TablePage) → map told pages ≡ map kept_told kept → All HasWords kept → All IsWhole pages
-whole_pages kept pages e h = all_told pages (subst (All (λ (p : ℕ × List ℕ). length p.1 ≡ 512)) (sym e) (All-map (λ (p : ℕ × List ℕ). length p.1 ≡ 512) kept_told kept h))
+pub whole_pages : (kept : List KeptPage) (pages : List TablePage)
+    → map told pages ≡ map kept_told kept
+    → All HasWords kept
+    → All IsWhole pages
+whole_pages kept pages e h =
+    all_told pages
+    (subst (All (λ (p : ℕ × List ℕ). length p.1 ≡ 512)) (sym e)
+    (All-map (λ (p : ℕ × List ℕ). length p.1 ≡ 512) kept_told kept h))

@@ -31,12 +31,14 @@ abbrev pub page_at : (ℕ → Option (List ℕ)) → ℕ → Option (ℕ × List
 page_at read frame = option_map (λ words. (frame, words)) (read frame)
 
 -- a frame's page was added, or there is none
-pub record IsAdded (read : ℕ → Option (List ℕ)) (frame : ℕ) (before after : List (ℕ × List ℕ)) (found : Bool) : Type 0 where
+pub record IsAdded (read : ℕ → Option (List ℕ)) (frame : ℕ) (before after : List (ℕ × List ℕ))
+    (found : Bool) : Type 0 where
   pub pages : after ≡ before ++ option_to_list (page_at read frame)
   pub found_is : found ≡ is_some (page_at read frame)
 
 -- pages of the image, the first of which are those of the root
-pub record AreRead (read : ℕ → Option (List ℕ)) (root : Root) (count : ℕ) (pages : List (ℕ × List ℕ)) : Type 0 where
+pub record AreRead (read : ℕ → Option (List ℕ)) (root : Root) (count : ℕ)
+    (pages : List (ℕ × List ℕ)) : Type 0 where
   pub given : All (Given read) pages
   pub first : (k : ℕ) → k < count → slice_get pages k ≡ page_at read (root.frame + k)
 
@@ -50,20 +52,24 @@ abbrev pub AreAbsent : (ℕ → Option (List ℕ)) → List (Run Said) → Type 
 AreAbsent read runs = All (λ r. IsAbsent read r.value.0) runs
 
 -- the tree by these pages
-pub record IsWalkedBy (root : Root) (pages : List (ℕ × List ℕ)) (tables : List Reached) (runs : List (Run Said)) : Type 0 where
+pub record IsWalkedBy (root : Root) (pages : List (ℕ × List ℕ)) (tables : List Reached)
+    (runs : List (Run Said)) : Type 0 where
   pub table_pages : List TablePage
   pub same : map told table_pages ≡ pages
-  pub walked : IsTreeWalked root.profile table_pages root.tree root.depth (take root.count table_pages) [] tables runs
+  pub walked : IsTreeWalked root.profile table_pages root.tree root.depth
+      (take root.count table_pages) [] tables runs
 
 -- the pages that a value names were added
-pub record IsNamed (read : ℕ → Option (List ℕ)) (decoded : Decoded) (before after : List (ℕ × List ℕ)) : Type 0 where
+pub record IsNamed (read : ℕ → Option (List ℕ)) (decoded : Decoded)
+    (before after : List (ℕ × List ℕ)) : Type 0 where
   pub more : List (ℕ × List ℕ)
   pub pages : after ≡ before ++ more
   pub given : All (Given read) more
   pub absent : length after ≡ length before → IsAbsent read decoded
 
 -- those that runs name
-pub record AreMore (read : ℕ → Option (List ℕ)) (runs : List (Run Said)) (before after : List (ℕ × List ℕ)) : Type 0 where
+pub record AreMore (read : ℕ → Option (List ℕ)) (runs : List (Run Said))
+    (before after : List (ℕ × List ℕ)) : Type 0 where
   pub more : List (ℕ × List ℕ)
   pub pages : after ≡ before ++ more
   pub given : All (Given read) more

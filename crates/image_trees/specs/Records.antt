@@ -1,4 +1,5 @@
--- Records that a hypervisor keeps of frames, eight bytes each, and the states that they say: those of Linux 7.3 (struct hyp_page).
+-- Records that a hypervisor keeps of frames, eight bytes each, and the states that they say: those
+-- of Linux 7.3 (struct hyp_page).
 use Rattle.std.specs.Prelude.{◌≡◌, ℕ, ◌+◌, ◌-◌, ◌/◌, ◌%◌, ◌^◌, ◌<◌, ◌==◌, nat_le, Option, Some, None, if◌then◌else◌, List, option_map, get_or}
 use Rattle.std.specs.Option.{ForSome}
 use Rattle.descriptor.specs.declared.State.{State}
@@ -16,9 +17,12 @@ use Rattle.image_trees.specs.declared.records.Records.{Records}
 
 -- the state that has a number (enum pkvm_page_state)
 abbrev pub state_numbered : ℕ → Option State
-state_numbered n = if n == 0 then Some Owned else (if n == 1 then Some SharedOwned else (if n == 2 then Some SharedBorrowed else None))
+state_numbered n =
+    if n == 0 then Some Owned
+    else (if n == 1 then Some SharedOwned else (if n == 2 then Some SharedBorrowed else None))
 
--- what a record says: of the host in bits 27 to 24, of the hypervisor the complement of two bits in bits 31 to 28
+-- what a record says: of the host in bits 27 to 24, of the hypervisor the complement of two bits in
+-- bits 31 to 28
 abbrev pub recorded_state : ℕ → ℕ → Option State
 recorded_state tree word =
     if tree == 0 then state_numbered (word / 2 ^ 24 % 16)
@@ -41,7 +45,9 @@ read_frame read (Some frame) = read frame
 
 -- the record of a frame, in the array that the hypervisor maps from its page `first` on
 abbrev pub record_in : (ℕ → Option (List ℕ)) → (ℕ → Option Said) → ℕ → ℕ → Option ℕ
-record_in read hyp first frame = option_map (λ words. get_or words (frame % 512) 0) (read_frame read (mapped_frame (hyp (first + frame / 512))))
+record_in read hyp first frame =
+    option_map (λ words. get_or words (frame % 512) 0)
+    (read_frame read (mapped_frame (hyp (first + frame / 512))))
 
 -- the state of a frame in a tree
 abbrev pub state_by : ℕ → Option ℕ → Option State
@@ -50,7 +56,8 @@ state_by tree (Some word) = recorded_state tree word
 
 -- what a page has, a leaf with the state of its frame's record
 abbrev pub stated_decoded : (ℕ → Option ℕ) → ℕ → Decoded → Decoded
-stated_decoded record_of tree (Leaf m) = Leaf (record m { state = state_by tree (record_of m.frame.0) })
+stated_decoded record_of tree (Leaf m) =
+    Leaf (record m { state = state_by tree (record_of m.frame.0) })
 stated_decoded record_of tree other = other
 
 abbrev pub stated : (ℕ → Option ℕ) → ℕ → Said → Said
@@ -62,7 +69,9 @@ stated_map record_of tree map page = option_map (stated record_of tree) (map pag
 
 -- the records of frames in an image
 abbrev pub records_in : List ℕ → List Segment → Records → ℕ → Option ℕ
-records_in bytes segments records frame = record_in (page_words bytes segments) (run_map advance_said records.hyp.items) records.first frame
+records_in bytes segments records frame =
+    record_in (page_words bytes segments)
+    (run_map advance_said records.hyp.items) records.first frame
 
 -- code reaches the records
 pub record CanRead (records : Records) : Type 0 where
@@ -72,13 +81,28 @@ pub record CanRead (records : Records) : Type 0 where
 -- the pages of a run have its values with states, the others are as before
 abbrev pub stated_laid : (ℕ → Option ℕ) → ℕ → Run Said → ℕ → (ℕ → Option Said) → ℕ → Option Said
 stated_laid record_of tree run n before page =
-    if is_in_range (record run.pages { count = n }) page then Some (stated record_of tree (value_on advance_said run page)) else before page
+    if is_in_range (record run.pages { count = n }) page
+    then Some (stated record_of tree (value_on advance_said run page))
+    else before page
 
 -- the coarsest list of the same pages with states
-pub record IsStated (known : Option (List ℕ)) (segments : List Segment) (records : Records) (tree : ℕ) (runs out : List (Run Said)) : Type 0 where
-  pub map_is : ForSome known (λ all. run_map advance_said out ≡ stated_map (records_in all segments records) tree (run_map advance_said runs))
+pub record IsStated (known : Option (List ℕ)) (segments : List Segment) (records : Records)
+    (tree : ℕ) (runs out : List (Run Said)) : Type 0 where
+  pub map_is : ForSome known
+      (λ all. run_map advance_said out
+      ≡ stated_map (records_in all segments records) tree (run_map advance_said runs))
   pub coarsest : IsCoarsest advance_said out
 
 -- the pages of a run were laid over others
-abbrev pub WereLaid : Option (List ℕ) → List Segment → Records → ℕ → Run Said → (old new : List (Run Said)) → Type 0
-WereLaid known segments records tree run old new = ForSome known (λ all. run_map advance_said new ≡ stated_laid (records_in all segments records) tree run run.pages.count (run_map advance_said old))
+abbrev pub WereLaid : Option (List ℕ)
+    → List Segment
+    → Records
+    → ℕ
+    → Run Said
+    → (old new : List (Run Said))
+    → Type 0
+WereLaid known segments records tree run old new =
+    ForSome known
+    (λ all. run_map advance_said new
+    ≡ stated_laid (records_in all segments records) tree run run.pages.count
+    (run_map advance_said old))

@@ -58,7 +58,9 @@ fn add_page<I: ImageBytes>(
     requires whole { All HasWords kept.old.items }
     ensures added { IfOk result (WasAdded (I.bytes image.now) segments.now frame kept.old.items kept.new.items) }
     ensures whole { OnOk result (All HasWords kept.new.items) }
-    ensures count { IfOk result (λ found. length kept.new.items ≡ (if found then length kept.old.items + 1 else length kept.old.items)) }
+    ensures count { IfOk result
+        (λ found. length kept.new.items
+        ≡ (if found then length kept.old.items + 1 else length kept.old.items)) }
     ensures failed { IfErr result (IsPageFailed (I.may_fail image.now)) }
 {
     match read_page(alloc, image, segments, frame, buffer)? {
@@ -108,7 +110,8 @@ fn add_named<I: ImageBytes>(
     requires placed { All IsPlaced segments.now }
     requires room { length buffer.old ≡ 4096 }
     requires whole { All HasWords kept.old.items }
-    ensures more { OnOk result (WasNamed (I.bytes image.now) segments.now decoded.now kept.old.items kept.new.items) }
+    ensures more { OnOk result
+        (WasNamed (I.bytes image.now) segments.now decoded.now kept.old.items kept.new.items) }
     ensures whole { OnOk result (All HasWords kept.new.items) }
     ensures count { OnOk result (length kept.old.items ≤ length kept.new.items) }
     ensures failed { IfErr result (IsPageFailed (I.may_fail image.now)) }
@@ -131,7 +134,8 @@ pub(crate) fn add_missing<I: ImageBytes>(
     requires placed { All IsPlaced segments.now }
     requires room { length buffer.old ≡ 4096 }
     requires whole { All HasWords kept.old.items }
-    ensures more { OnOk result (WereNamed (I.bytes image.now) segments.now runs.now kept.old.items kept.new.items) }
+    ensures more { OnOk result
+        (WereNamed (I.bytes image.now) segments.now runs.now kept.old.items kept.new.items) }
     ensures whole { OnOk result (All HasWords kept.new.items) }
     ensures count { OnOk result (length kept.old.items ≤ length kept.new.items) }
     ensures failed { IfErr result (IsPageFailed (I.may_fail image.now)) }

@@ -116,7 +116,9 @@ fn record_of<I: ImageBytes>(
     requires room { length buffer.old ≡ 4096 }
     requires records { CanRead records.now }
     requires frame { frame ≤ 2 ^ 63 }
-    ensures record { IfOk result (λ word. ForSome (I.bytes image.now) (λ all. word ≡ records_in all segments.now records.now frame)) }
+    ensures record { IfOk result
+        (λ word. ForSome (I.bytes image.now)
+        (λ all. word ≡ records_in all segments.now records.now frame)) }
     ensures failed { IfErr result (IsFailed (I.may_fail image.now)) }
 {
     let Some(at) = frame_at(records.hyp.as_slice(), records.first + frame / 512) else {
@@ -142,7 +144,9 @@ fn with_state<I: ImageBytes>(
     requires room { length buffer.old ≡ 4096 }
     requires records { CanRead records.now }
     requires frame { CanGoOn said 1 }
-    ensures stated { IfOk result (λ value. ForSome (I.bytes image.now) (λ all. value ≡ stated (records_in all segments.now records.now) tree said)) }
+    ensures stated { IfOk result
+        (λ value. ForSome (I.bytes image.now)
+        (λ all. value ≡ stated (records_in all segments.now records.now) tree said)) }
     ensures reach { IfOk result (λ value. CanGoOn value 1) }
     ensures failed { IfErr result (IsFailed (I.may_fail image.now)) }
 {
@@ -171,7 +175,10 @@ fn add_page(runs: &mut Vec<Run<Said>>, page: u64, value: Said) -> Result<(), All
     requires reach { CanGoOn value 1 }
     requires kept { IsKept advance_said CanGoOn runs.old.items }
     requires behind { EndBefore (page + 1) runs.old.items }
-    ensures map { OnOk result (run_map advance_said runs.new.items ≡ map_updated advance_said (run_map advance_said runs.old.items) page 1 (Some value)) }
+    ensures map { OnOk result
+        (run_map advance_said runs.new.items
+        ≡ map_updated advance_said (run_map advance_said runs.old.items) page 1
+        (Some value)) }
     ensures kept { OnOk result (IsKept advance_said CanGoOn runs.new.items) }
     ensures behind { OnOk result (EndBefore (page + 2) runs.new.items) }
 {
@@ -198,9 +205,10 @@ fn add_run<I: ImageBytes>(
     requires room { length buffer.old ≡ 4096 }
     requires records { CanRead records.now }
     requires run { InReach CanGoOn run }
-    requires kept { IsKept advance_said CanGoOn out.old.items }
-    requires behind { EndBefore (run.pages.first.0 + 1) out.old.items }
-    ensures map { OnOk result (WereLaid (I.bytes image.now) segments.now records.now tree run out.old.items out.new.items) }
+    requires out { IsKept advance_said CanGoOn out.old.items × EndBefore (run.pages.first.0 + 1) out.old.items }
+    ensures map { OnOk result
+        (WereLaid
+        (I.bytes image.now) segments.now records.now tree run out.old.items out.new.items) }
     ensures kept { OnOk result (IsKept advance_said CanGoOn out.new.items) }
     ensures behind { OnOk result (EndBefore (run_end run + 1) out.new.items) }
     ensures failed { IfErr result (IsFailed (I.may_fail image.now)) }
@@ -227,7 +235,8 @@ pub fn with_states<I: ImageBytes>(
     requires records { CanRead records.now }
     requires coarsest { IsCoarsest advance_said runs.now }
     requires reach { AreInReach CanGoOn runs.now }
-    ensures stated { IfOk result (λ out. IsStated (I.bytes image.now) segments.now records.now tree runs.now out.items) }
+    ensures stated { IfOk result
+        (λ out. IsStated (I.bytes image.now) segments.now records.now tree runs.now out.items) }
     ensures failed { IfErr result (IsFailed (I.may_fail image.now)) }
 {
     let mut buffer = page_buffer(alloc)?;

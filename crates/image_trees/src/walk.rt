@@ -22,7 +22,8 @@ fn walk_kept(alloc: Global, root: &Root, kept: &[KeptPage]) -> Result<Tree, Unwa
     requires few { root.now.count ≤ 16 }
     requires roots { root.now.count ≤ length kept.now }
     requires whole { All HasWords kept.now }
-    ensures walked { IfOk result (λ tree. IsWalkedBy root.now (map kept_told kept.now) tree.tables.items tree.runs.items) }
+    ensures walked { IfOk result
+        (λ tree. IsWalkedBy root.now (map kept_told kept.now) tree.tables.items tree.runs.items) }
     ensures stopped { IfErr result (IsStoppedBy root.now (map kept_told kept.now)) }
 {
     let pages = lent(alloc, kept)?;
@@ -51,7 +52,9 @@ pub fn walk_tree<I: ImageBytes>(
     requires depth { root.now.depth ≤ 3 }
     requires few { root.now.count ≤ 16 }
     requires frames { root.now.frame + root.now.count < 2 ^ 64 }
-    ensures tree { IfOk result (λ tree. IsTreeOf (I.bytes image.now) segments.now root.now tree.runs.items tree.tables.items) }
+    ensures tree { IfOk result
+        (λ tree. IsTreeOf
+        (I.bytes image.now) segments.now root.now tree.runs.items tree.tables.items) }
     ensures kept { IfOk result (λ tree. IsKept advance_said CanGoOn tree.runs.items) }
     ensures unwalked { IfErr result (IsUnwalked (I.bytes image.now) (I.may_fail image.now) segments.now root.now) }
 {

@@ -53,12 +53,15 @@ inside n p l = grind (arith, nat_tests)
 outside : (n p : ℕ) → n ≤ p → is_within 0 n p ≡ false
 outside n p l = grind (arith, nat_tests)
 
-module _ (profile : Profile) (pages : List TablePage) (tree depth : ℕ) (roots : List TablePage) (met₀ : List Reached) where
+module _ (profile : Profile) (pages : List TablePage) (tree depth : ℕ) (roots : List TablePage)
+    (met₀ : List Reached) where
   -- its first pages were walked
   pub record IsRooted (k : ℕ) (met : List Reached) (runs : List (Run Said)) : Type 0 where
-    pub met_is : (met₀ ++ tables_by_frames profile pages tree depth roots) ≡ met ++ along (tables_under profile pages tree depth) k (drop k roots)
+    pub met_is : (met₀ ++ tables_by_frames profile pages tree depth roots)
+        ≡ met ++ along (tables_under profile pages tree depth) k (drop k roots)
     pub apart : AllPairs AreOtherFrames met
-    pub map : run_map advance_said runs ≡ laid 0 (k * block_pages (depth + 1)) (map_by_frames profile pages depth roots) nothing_said
+    pub map : run_map advance_said runs
+        ≡ laid 0 (k * block_pages (depth + 1)) (map_by_frames profile pages depth roots) nothing_said
     pub kept : IsKept advance_said CanGoOn runs
     pub behind : EndBefore (k * block_pages (depth + 1) + 1) runs
 
@@ -69,38 +72,70 @@ module _ (profile : Profile) (pages : List TablePage) (tree depth : ℕ) (roots 
       record {
         met_is = refl;
         apart = apart;
-        map = ap (run_map advance_said) f ∙ sym (ap (λ n. laid 0 n (map_by_frames profile pages depth roots) nothing_said) none ∙ laid_none 0 (map_by_frames profile pages depth roots) nothing_said);
+        map =
+            ap (run_map advance_said) f
+            ∙ sym
+            (ap (λ n. laid 0 n (map_by_frames profile pages depth roots) nothing_said) none
+            ∙ laid_none 0 (map_by_frames profile pages depth roots) nothing_said);
         kept = rw f (record { coarsest = tt; in_reach = tt });
         behind = rw f tt;
       }
 
   -- what the root's page has that a page is under
-  root_gives : (root : TablePage) (p k : ℕ) → slice_get roots k ≡ Some root → p / block_pages (depth + 1) ≡ k → said_by profile pages depth root p ≡ map_by_frames profile pages depth roots p
+  root_gives : (root : TablePage) (p k : ℕ)
+      → slice_get roots k ≡ Some root
+      → p / block_pages (depth + 1) ≡ k
+      → said_by profile pages depth root p ≡ map_by_frames profile pages depth roots p
   unfolding map_by_frames
-  root_gives root p k e d = sym (ap (λ o. led_case None (λ r. said_by profile pages depth r p) o) (ap (slice_get roots) d ∙ e))
+  root_gives root p k e d =
+      sym (ap (λ o. led_case None (λ r. said_by profile pages depth r p) o) (ap (slice_get roots) d ∙ e))
 
   nothing_past : (p : ℕ) → length roots * block_pages (depth + 1) ≤ p → map_by_frames profile pages depth roots p ≡ None
   unfolding map_by_frames
-  nothing_past p h = ap (λ o. led_case None (λ r. said_by profile pages depth r p) o) (none_past roots (p / block_pages (depth + 1)) (past_div (block_pages (depth + 1)) (length roots) p (size_some (depth + 1)) h))
+  nothing_past p h =
+      ap (λ o. led_case None (λ r. said_by profile pages depth r p) o)
+      (none_past roots (p / block_pages (depth + 1))
+      (past_div (block_pages (depth + 1)) (length roots) p (size_some (depth + 1)) h))
 
-  module _ (k : ℕ) (met : List Reached) (runs : List (Run Said)) (x : IsRooted k met runs) (below : k < length roots) (root other : TablePage) (root_is : root ≡ get_or roots k other) where
-    rest_is : along (tables_under profile pages tree depth) k (drop k roots) ≡ tables_under profile pages tree depth k root ++ along (tables_under profile pages tree depth) (k + 1) (drop (k + 1) roots)
+  module _ (k : ℕ) (met : List Reached) (runs : List (Run Said)) (x : IsRooted k met runs) (below : k < length roots)
+      (root other : TablePage) (root_is : root ≡ get_or roots k other) where
+    rest_is : along (tables_under profile pages tree depth) k (drop k roots)
+        ≡ tables_under profile pages tree depth k root
+        ++ along (tables_under profile pages tree depth) (k + 1) (drop (k + 1) roots)
     rest_is =
         at_drop_more (along (tables_under profile pages tree depth) k) roots k other below
-        ∙ ap (λ r. tables_under profile pages tree depth k r ++ along (tables_under profile pages tree depth) (k + 1) (drop (k + 1) roots)) (sym root_is)
+        ∙ ap
+        (λ r. tables_under profile pages tree depth k r
+        ++ along (tables_under profile pages tree depth) (k + 1) (drop (k + 1) roots))
+        (sym root_is)
 
-    more_met : (met' : List Reached) → met' ≡ met ++ tables_under profile pages tree depth k root → (met₀ ++ tables_by_frames profile pages tree depth roots) ≡ met' ++ along (tables_under profile pages tree depth) (k + 1) (drop (k + 1) roots)
+    more_met : (met' : List Reached)
+        → met' ≡ met ++ tables_under profile pages tree depth k root
+        → (met₀ ++ tables_by_frames profile pages tree depth roots)
+        ≡ met' ++ along (tables_under profile pages tree depth) (k + 1) (drop (k + 1) roots)
     more_met met' e =
         x.met_is ∙ ap (λ us. met ++ us) rest_is
-        ∙ sym (append_assoc met (tables_under profile pages tree depth k root) (along (tables_under profile pages tree depth) (k + 1) (drop (k + 1) roots)))
+        ∙ sym
+        (append_assoc met (tables_under profile pages tree depth k root)
+        (along (tables_under profile pages tree depth) (k + 1) (drop (k + 1) roots)))
         ∙ ap (λ us. us ++ along (tables_under profile pages tree depth) (k + 1) (drop (k + 1) roots)) (sym e)
 
-    pub stopped_at : (s : Stopped) → IsStopped (met ++ tables_under profile pages tree depth k root) s → IsStopped ((met₀ ++ tables_by_frames profile pages tree depth roots)) s
-    stopped_at s h = stopped_on (met ++ tables_under profile pages tree depth k root) _ _ s (more_met (met ++ tables_under profile pages tree depth k root) refl) h
+    pub stopped_at : (s : Stopped)
+        → IsStopped (met ++ tables_under profile pages tree depth k root) s
+        → IsStopped ((met₀ ++ tables_by_frames profile pages tree depth roots)) s
+    stopped_at s h =
+        stopped_on (met ++ tables_under profile pages tree depth k root) _ _ s
+        (more_met (met ++ tables_under profile pages tree depth k root) refl) h
 
-    pub more : (met' : List Reached) (runs' : List (Run Said)) → met' ≡ met ++ tables_under profile pages tree depth k root → AllPairs AreOtherFrames met'
-        → run_map advance_said runs' ≡ laid (k * block_pages (depth + 1)) (block_pages (depth + 1)) (said_by profile pages depth root) (run_map advance_said runs)
-        → IsKept advance_said CanGoOn runs' → EndBefore ((k + 1) * block_pages (depth + 1) + 1) runs' → IsRooted (k + 1) met' runs'
+    pub more : (met' : List Reached) (runs' : List (Run Said))
+        → met' ≡ met ++ tables_under profile pages tree depth k root
+        → AllPairs AreOtherFrames met'
+        → run_map advance_said runs'
+        ≡ laid (k * block_pages (depth + 1)) (block_pages (depth + 1)) (said_by profile pages depth root)
+        (run_map advance_said runs)
+        → IsKept advance_said CanGoOn runs'
+        → EndBefore ((k + 1) * block_pages (depth + 1) + 1) runs'
+        → IsRooted (k + 1) met' runs'
     more met' runs' e apart m kept behind =
         let size = block_pages (depth + 1) in
         let start : k * size ≡ 0 + k * size = omega arith in
@@ -109,28 +144,44 @@ module _ (profile : Profile) (pages : List TablePage) (tree depth : ℕ) (roots 
           met_is = more_met met' e;
           apart = apart;
           map =
-              laid_on (map_by_frames profile pages depth roots) (said_by profile pages depth root) nothing_said (run_map advance_said runs) (run_map advance_said runs') 0 (k * size) size x.map
+              laid_on (map_by_frames profile pages depth roots) (said_by profile pages depth root) nothing_said
+              (run_map advance_said runs) (run_map advance_said runs') 0 (k * size) size x.map
               (m ∙ ap (λ n. laid n size (said_by profile pages depth root) (run_map advance_said runs)) start)
-              (λ p low high. root_gives root p k (slice_get-get_or roots k other below ∙ ap (λ (r : TablePage). Some r) (sym root_is)) (part_of profile pages size k p (size_some (depth + 1)) (omega (arith, low)) (omega (arith, high))))
+              (λ p low high. root_gives root p k
+              (slice_get-get_or roots k other below ∙ ap (λ (r : TablePage). Some r) (sym root_is))
+              (part_of profile pages size k p (size_some (depth + 1)) (omega (arith, low))
+              (omega (arith, high))))
               ∙ ap (λ n. laid 0 n (map_by_frames profile pages depth roots) nothing_said) end;
           kept = kept;
           behind = behind;
         }
 
-  module _ (k : ℕ) (met : List Reached) (runs : List (Run Said)) (x : IsRooted k met runs) (low : k ≤ length roots) (all : length roots ≤ k) where
+  module _ (k : ℕ) (met : List Reached) (runs : List (Run Said)) (x : IsRooted k met runs) (low : k ≤ length roots)
+      (all : length roots ≤ k) where
     last : k ≡ length roots
     last = omega (arith, low, all)
 
     pub all_met : met ≡ (met₀ ++ tables_by_frames profile pages tree depth roots)
-    all_met = sym (x.met_is ∙ ap (λ us. met ++ us) (at_drop_all (along (tables_under profile pages tree depth) k) roots k all) ∙ append-nil met)
+    all_met =
+        sym
+        (x.met_is
+        ∙ ap (λ us. met ++ us) (at_drop_all (along (tables_under profile pages tree depth) k) roots k all)
+        ∙ append-nil met)
 
     at_page : (p : ℕ) → run_map advance_said runs p ≡ map_by_frames profile pages depth roots p
     at_page p =
         let size = block_pages (depth + 1) in
-        let said : run_map advance_said runs p ≡ laid 0 (length roots * size) (map_by_frames profile pages depth roots) nothing_said p = ap (λ m. m p) (x.map ∙ ap (λ n. laid 0 (n * size) (map_by_frames profile pages depth roots) nothing_said) last) in
+        let said : run_map advance_said runs p ≡ laid 0 (length roots * size) (map_by_frames profile pages depth roots) nothing_said p =
+        ap (λ m. m p)
+        (x.map ∙ ap (λ n. laid 0 (n * size) (map_by_frames profile pages depth roots) nothing_said) last) in
         by_lt p (length roots * size)
-        (λ l. said ∙ if-true (is_within 0 (length roots * size) p) (map_by_frames profile pages depth roots p) None (inside (length roots * size) p l))
-        (λ l. said ∙ if-false (is_within 0 (length roots * size) p) (map_by_frames profile pages depth roots p) None (outside (length roots * size) p l) ∙ sym (nothing_past p l))
+        (λ l. said
+        ∙ if-true (is_within 0 (length roots * size) p) (map_by_frames profile pages depth roots p) None
+        (inside (length roots * size) p l))
+        (λ l. said
+        ∙ if-false (is_within 0 (length roots * size) p) (map_by_frames profile pages depth roots p) None
+        (outside (length roots * size) p l)
+        ∙ sym (nothing_past p l))
 
     pub all_map : run_map advance_said runs ≡ map_by_frames profile pages depth roots
     all_map = fun_ext at_page

@@ -45,11 +45,13 @@ value_entry (Cleared m) d e = ap desc_entry e
 value_entry (Leaf m) d e = ap desc_entry e
 value_entry (Table f) d e = ap desc_entry e
 
-leaf_on : (o : Option Prot) (f : Frame) (k : Kind) (s : State) (n : ℕ) → desc_entry (leaf_entry o (record { 0 = f.0 + n }) k s) ≡ advance (desc_entry (leaf_entry o f k s)) n
+leaf_on : (o : Option Prot) (f : Frame) (k : Kind) (s : State) (n : ℕ)
+    → desc_entry (leaf_entry o (record { 0 = f.0 + n }) k s) ≡ advance (desc_entry (leaf_entry o f k s)) n
 leaf_on (Some p) f k s n = refl
 leaf_on None f k s n = refl
 
-decoded_on : (x : Decoded) (n : ℕ) → desc_entry (entry_of (advance_decoded x n) Owned) ≡ advance (desc_entry (entry_of x Owned)) n
+decoded_on : (x : Decoded) (n : ℕ)
+    → desc_entry (entry_of (advance_decoded x n) Owned) ≡ advance (desc_entry (entry_of x Owned)) n
 decoded_on Malformed n = refl
 decoded_on Unmapped n = refl
 decoded_on (Annotated o None) n = refl
@@ -70,18 +72,26 @@ same_level (suc zero) = refl
 same_level (suc (suc zero)) = refl
 same_level (suc (suc (suc d))) = refl
 
-own : (d w : ℕ) → w < 2 ^ 64 → entry_of (decoded_of model_profile (level_at d) w) Owned ≡ Some (desc_of (plain.level_at d) w)
+own : (d w : ℕ)
+    → w < 2 ^ 64
+    → entry_of (decoded_of model_profile (level_at d) w) Owned ≡ Some (desc_of (plain.level_at d) w)
 own d w r = (law (level_at d) w r).entry Owned ∙ ap (λ l. Some (desc_of l w)) (same_level d)
 
 gives_same : (d w page : ℕ) → w < 2 ^ 64 → entry_said (word_gives model_profile d w page) ≡ plain.word_gives d w page
-gives_same d w page r = said_on (value_of (decoded_of model_profile (level_at d) w)) (page % block_pages d) ∙ ap (λ e. advance e (page % block_pages d)) (value_entry (decoded_of model_profile (level_at d) w) (desc_of (plain.level_at d) w) (own d w r))
+gives_same d w page r =
+    said_on (value_of (decoded_of model_profile (level_at d) w)) (page % block_pages d)
+    ∙ ap (λ e. advance e (page % block_pages d))
+    (value_entry (decoded_of model_profile (level_at d) w) (desc_of (plain.level_at d) w) (own d w r))
 
 -- the page that a word leads on to
-page_case : (b : Bool) (p : TablePage) (x : Option PlainPage) (y : Option TablePage) → x ≡ option_map as_plain y → cond b (Some (as_plain p)) x ≡ option_map as_plain (cond b (Some p) y)
+page_case : (b : Bool) (p : TablePage) (x : Option PlainPage) (y : Option TablePage)
+    → x ≡ option_map as_plain y
+    → cond b (Some (as_plain p)) x ≡ option_map as_plain (cond b (Some p) y)
 page_case true p x y e = refl
 page_case false p x y e = e
 
-page_same : (pages : List TablePage) (f : ℕ) → plain.page_of (map as_plain pages) f ≡ option_map as_plain (page_of pages f)
+page_same : (pages : List TablePage) (f : ℕ)
+    → plain.page_of (map as_plain pages) f ≡ option_map as_plain (page_of pages f)
 page_same [] f = refl
 page_same (p ∷ ps) f = page_case (p.frame == f) p (plain.page_of (map as_plain ps) f) (page_of ps f) (page_same ps f)
 
@@ -89,11 +99,13 @@ abbrev led_of : List TablePage → Option Desc → Option PlainPage
 led_of pages (Some d) = plain.led (map as_plain pages) d
 led_of pages None = None
 
-leaf_leads : (pages : List TablePage) (o : Option Prot) (f : Frame) (k : Kind) (s : State) → led_of pages (leaf_entry o f k s) ≡ None
+leaf_leads : (pages : List TablePage) (o : Option Prot) (f : Frame) (k : Kind) (s : State)
+    → led_of pages (leaf_entry o f k s) ≡ None
 leaf_leads pages (Some p) f k s = refl
 leaf_leads pages None f k s = refl
 
-decoded_leads : (pages : List TablePage) (x : Decoded) → led_of pages (entry_of x Owned) ≡ option_map as_plain (led pages x)
+decoded_leads : (pages : List TablePage) (x : Decoded)
+    → led_of pages (entry_of x Owned) ≡ option_map as_plain (led pages x)
 decoded_leads pages Malformed = refl
 decoded_leads pages Unmapped = refl
 decoded_leads pages (Annotated o None) = refl
@@ -104,11 +116,17 @@ decoded_leads pages (Cleared m) = refl
 decoded_leads pages (Leaf m) = leaf_leads pages (prot_of m.access m.execute) m.frame (kind_of m.memory) _
 decoded_leads pages (Table f) = page_same pages f.0
 
-pub leads_same : (pages : List TablePage) (d w : ℕ) → w < 2 ^ 64 → plain.led_at (map as_plain pages) d w ≡ option_map as_plain (led_at model_profile pages d w)
+pub leads_same : (pages : List TablePage) (d w : ℕ)
+    → w < 2 ^ 64
+    → plain.led_at (map as_plain pages) d w ≡ option_map as_plain (led_at model_profile pages d w)
 leads_same pages zero w r = refl
-leads_same pages (suc d) w r = sym (ap (led_of pages) (own (suc d) w r)) ∙ decoded_leads pages (decoded_of model_profile (level_at (suc d)) w)
+leads_same pages (suc d) w r =
+    sym (ap (led_of pages) (own (suc d) w r)) ∙ decoded_leads pages (decoded_of model_profile (level_at (suc d)) w)
 
-led_both : (o : Option TablePage) (a : Option Said) (b : TablePage → Option Said) (e : Entry) (f : PlainPage → Entry) → entry_said a ≡ e → ((n : TablePage) → o ≡ Some n → entry_said (b n) ≡ f (as_plain n)) → entry_said (led_case a b o) ≡ plain.led_case e f (option_map as_plain o)
+led_both : (o : Option TablePage) (a : Option Said) (b : TablePage → Option Said) (e : Entry) (f : PlainPage → Entry)
+    → entry_said a ≡ e
+    → ((n : TablePage) → o ≡ Some n → entry_said (b n) ≡ f (as_plain n))
+    → entry_said (led_case a b o) ≡ plain.led_case e f (option_map as_plain o)
 led_both None a b e f h k = h
 led_both (Some n) a b e f h k = k n refl
 
@@ -118,7 +136,10 @@ word_fits [] i h = omega arith
 word_fits (w ∷ ws) zero h = All-head (λ w. w < 2 ^ 64) w ws h
 word_fits (w ∷ ws) (suc i) h = word_fits ws i (All-tail (λ w. w < 2 ^ 64) w ws h)
 
-pub led_words : (pages : List TablePage) (d w : ℕ) (next : TablePage) → led_at model_profile pages d w ≡ Some next → All HasWords pages → HasWords next
+pub led_words : (pages : List TablePage) (d w : ℕ) (next : TablePage)
+    → led_at model_profile pages d w ≡ Some next
+    → All HasWords pages
+    → HasWords next
 led_words pages zero w next e h = absurd (cc)
 led_words pages (suc d) w next e h = by_decoded (decoded_of model_profile (level_at (suc d)) w) e
   where
@@ -133,14 +154,20 @@ led_words pages (suc d) w next e h = by_decoded (decoded_of model_profile (level
     by_decoded (Table f) e = found_in HasWords _ pages next e h
 
 module _ (pages : List TablePage) (words : All HasWords pages) (page : ℕ) where
-  tables_same : (d : ℕ) (table : TablePage) → HasWords table → entry_said (said_by model_profile pages d table page) ≡ plain.entry_by (map as_plain pages) d (as_plain table) page
+  tables_same : (d : ℕ) (table : TablePage)
+      → HasWords table
+      → entry_said (said_by model_profile pages d table page)
+      ≡ plain.entry_by (map as_plain pages) d (as_plain table) page
   unfolding said_by plain.entry_by
-  tables_same zero table h = gives_same zero (word_on zero table page) page (word_fits (words_of table) (index_at zero page) h)
+  tables_same zero table h =
+      gives_same zero (word_on zero table page) page (word_fits (words_of table) (index_at zero page) h)
   tables_same (suc d) table h =
       let w = word_on (suc d) table page in
       let r = word_fits (words_of table) (index_at (suc d) page) h in
-      led_both (led_at model_profile pages (suc d) w) _ _ _ _ (gives_same (suc d) w page r) (λ n e. tables_same d n (led_words pages (suc d) w n e words))
-      ∙ ap (plain.led_case (plain.word_gives (suc d) w page) (λ next. plain.entry_by (map as_plain pages) d next page)) (sym (leads_same pages (suc d) w r))
+      led_both (led_at model_profile pages (suc d) w) _ _ _ _ (gives_same (suc d) w page r)
+      (λ n e. tables_same d n (led_words pages (suc d) w n e words))
+      ∙ ap (plain.led_case (plain.word_gives (suc d) w page) (λ next. plain.entry_by (map as_plain pages) d next page))
+      (sym (leads_same pages (suc d) w r))
 
 pub plain_walk : IsPlainWalk
 unfolding map_by_frames plain.map_by_frames
@@ -148,11 +175,22 @@ plain_walk g pages root page words own_words =
     let size = input_pages g in
     by_lt page size
     (λ l.
-    let first : page / size ≡ 0 = part_of model_profile pages size 0 page (size_some (levels_below g + 1)) (omega arith) (omega (arith, l)) in
-    ap (λ k. entry_said (led_case None (λ r. said_by model_profile pages (levels_below g) r page) (slice_get (root ∷ []) k))) first
+    let first : page / size ≡ 0 =
+    part_of model_profile pages size 0 page (size_some (levels_below g + 1)) (omega arith) (omega (arith, l)) in
+    ap
+    (λ k. entry_said
+    (led_case None (λ r. said_by model_profile pages (levels_below g) r page) (slice_get (root ∷ []) k))) first
     ∙ tables_same pages words page (levels_below g) root own_words
-    ∙ sym (if-true (nat_lt page size) (plain.entry_by (map as_plain pages) (levels_below g) (as_plain root) page) entry.Unmapped (grind (arith, nat_tests, l))))
+    ∙ sym
+    (if-true (nat_lt page size)
+    (plain.entry_by (map as_plain pages) (levels_below g) (as_plain root) page) entry.Unmapped
+    (grind (arith, nat_tests, l))))
     (λ l.
-    let past : slice_get (root ∷ []) (page / size) ≡ None = none_past (root ∷ []) (page / size) (past_div size 1 page (size_some (levels_below g + 1)) (omega (arith, l))) in
+    let past : slice_get (root ∷ []) (page / size) ≡ None =
+    none_past (root ∷ []) (page / size)
+    (past_div size 1 page (size_some (levels_below g + 1)) (omega (arith, l))) in
     ap (λ o. entry_said (led_case None (λ r. said_by model_profile pages (levels_below g) r page) o)) past
-    ∙ sym (if-false (nat_lt page size) (plain.entry_by (map as_plain pages) (levels_below g) (as_plain root) page) entry.Unmapped (grind (arith, nat_tests, l))))
+    ∙ sym
+    (if-false (nat_lt page size)
+    (plain.entry_by (map as_plain pages) (levels_below g) (as_plain root) page) entry.Unmapped
+    (grind (arith, nat_tests, l))))

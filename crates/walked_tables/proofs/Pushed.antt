@@ -17,22 +17,31 @@ use Rattle.walked_tables.specs.Values.{advance_said, CanGo, CanGoOn, HasSmallFra
 use Rattle.walked_tables.specs.Advancing.{said_eq, said_laws}
 
 pub record IsPushed (range : PageRange) (value : Option Said) (old new : List (Run Said)) : Type 0 where
-  pub map : run_map advance_said new ≡ map_updated advance_said (run_map advance_said old) range.first.0 range.count value
+  pub map : run_map advance_said new
+      ≡ map_updated advance_said (run_map advance_said old) range.first.0 range.count value
   pub kept : IsKept advance_said CanGoOn new
   pub behind : EndBefore (range.first.0 + range.count + 1) new
 
-module _ (range : PageRange) (value : Option Said) (old new : List (Run Said)) (low : range.first.0 + range.count ≤ 2 ^ 63) (some : 0 < range.count) (small : ForSome value (λ v. CanGoOn v range.count)) (kept : IsKept advance_said CanGoOn old) (behind : EndBefore (range.first.0 + 1) old) where
+module _ (range : PageRange) (value : Option Said) (old new : List (Run Said))
+    (low : range.first.0 + range.count ≤ 2 ^ 63) (some : 0 < range.count)
+    (small : ForSome value (λ v. CanGoOn v range.count)) (kept : IsKept advance_said CanGoOn old)
+    (behind : EndBefore (range.first.0 + 1) old) where
   pub pushed : new ≡ glue advance_said said_eq old (one_run (run_of range value)) → IsPushed range value old new
   pushed same =
       let end = range.first.0 + range.count + 1 in
       let edited = same ∙ behind_edited advance_said CanGoOn said_eq said_laws range value old kept.coarsest behind in
       record {
-        map = ap (run_map advance_said) edited ∙ changed_map advance_said CanGoOn said_eq said_laws range value old kept some;
+        map =
+            ap (run_map advance_said) edited
+            ∙ changed_map advance_said CanGoOn said_eq said_laws range value old kept some;
         kept = rw edited (record {
           coarsest = changed_coarsest advance_said CanGoOn said_eq said_laws range value old kept some;
           in_reach = changed_reach advance_said CanGoOn said_eq said_laws range value old kept some low small;
         });
-        behind = rw same (glue_ends advance_said CanGoOn said_eq said_laws end old _ (ends_later (range.first.0 + 1) end old (omega arith) behind) (run_of_ends range value));
+        behind =
+            rw same
+            (glue_ends advance_said CanGoOn said_eq said_laws end old _
+            (ends_later (range.first.0 + 1) end old (omega arith) behind) (run_of_ends range value));
       }
 
 by_decoded : (d : Decoded) (n : ℕ) → IsSmall d → n ≤ 2 ^ 40 → CanGo d n

@@ -30,7 +30,8 @@ none (Table f) = refl
 
 more : (d : Decoded) (a b : ℕ) → advance_decoded (advance_decoded d a) b ≡ advance_decoded d (a + b)
 unfolding leaf_at
-more (Leaf m) a b = let e : m.frame.0 + a + b ≡ m.frame.0 + (a + b) = omega arith in ap (leaf_at m) e
+more (Leaf m) a b = let e : m.frame.0 + a + b ≡ m.frame.0 + (a + b) = omega arith in
+    ap (leaf_at m) e
 more Malformed a b = refl
 more Unmapped a b = refl
 more (Annotated o g) a b = refl

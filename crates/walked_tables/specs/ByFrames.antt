@@ -1,4 +1,5 @@
--- What a tree says whose tables lie in pages, by a profile: a table word leads on to the page of its frame, where there is one.
+-- What a tree says whose tables lie in pages, by a profile: a table word leads on to the page of
+-- its frame, where there is one.
 -- Depths count the levels below.
 use Rattle.std.specs.Prelude.{◌≡◌, ℕ, zero, suc, ◌+◌, ◌*◌, ◌/◌, ◌%◌, ◌==◌, List, [], ◌∷◌, ◌++◌, get_or, length, find, slice_get, Option, Some, None}
 use Rattle.descriptor.specs.declared.Level.{Level}
@@ -57,7 +58,8 @@ along f number (word ∷ words) = f number word ++ along f (number + 1) words
 
 -- a table of a tree, at block `number` of those of its level
 abbrev pub reached_at : ℕ → ℕ → ℕ → TablePage → Reached
-reached_at tree depth number page = record { tree = tree; depth = depth; number = number; frame = page.frame }
+reached_at tree depth number page =
+    record { tree = tree; depth = depth; number = number; frame = page.frame }
 
 -- the page that a word leads on to; a table of the last level leads on to none
 abbrev pub led_at : Profile → List TablePage → ℕ → ℕ → Option TablePage
@@ -66,24 +68,36 @@ led_at profile pages (suc depth) word = led pages (decoded_of profile (level_at 
 
 -- what a word that doesn't lead on gives a page
 abbrev pub word_gives : Profile → ℕ → ℕ → ℕ → Option Said
-word_gives profile depth word page = option_advance advance_said (value_of (decoded_of profile (level_at depth) word)) (page % block_pages depth)
+word_gives profile depth word page =
+    option_advance advance_said (value_of (decoded_of profile (level_at depth) word))
+    (page % block_pages depth)
 
 -- what a table gives a page
 unfoldable pub said_by : Profile → List TablePage → ℕ → TablePage → ℕ → Option Said
 said_by profile pages zero table page = word_gives profile zero (word_on zero table page) page
 said_by profile pages (suc depth) table page =
-    led_case (word_gives profile (suc depth) (word_on (suc depth) table page) page) (λ next. said_by profile pages depth next page) (led_at profile pages (suc depth) (word_on (suc depth) table page))
+    led_case (word_gives profile (suc depth) (word_on (suc depth) table page) page)
+    (λ next. said_by profile pages depth next page)
+    (led_at profile pages (suc depth) (word_on (suc depth) table page))
 
 -- a table, and the tables that its words lead on to, by page, each before those below it
 unfoldable pub tables_under : Profile → List TablePage → ℕ → ℕ → ℕ → TablePage → List Reached
 tables_under profile pages tree zero number page = reached_at tree zero number page ∷ []
 tables_under profile pages tree (suc depth) number page =
-    reached_at tree (suc depth) number page ∷ along (λ part word. led_case [] (λ next. tables_under profile pages tree depth part next) (led_at profile pages (suc depth) word)) (number * 512) (words_of page)
+    reached_at tree (suc depth) number page
+    ∷ along
+    (λ part word. led_case [] (λ next. tables_under profile pages tree depth part next)
+    (led_at profile pages (suc depth) word))
+    (number * 512) (words_of page)
 
--- what a page has by the root's pages, which are concatenated in order (Arm DDI 0487, D8.2, "Concatenated translation tables")
+-- what a page has by the root's pages, which are concatenated in order (Arm DDI 0487, D8.2,
+-- "Concatenated translation tables")
 unfoldable pub map_by_frames : Profile → List TablePage → ℕ → List TablePage → ℕ → Option Said
-map_by_frames profile pages depth roots page = led_case None (λ root. said_by profile pages depth root page) (slice_get roots (page / block_pages (depth + 1)))
+map_by_frames profile pages depth roots page =
+    led_case None (λ root. said_by profile pages depth root page)
+    (slice_get roots (page / block_pages (depth + 1)))
 
 -- the tables of all the root's pages
 unfoldable pub tables_by_frames : Profile → List TablePage → ℕ → ℕ → List TablePage → List Reached
-tables_by_frames profile pages tree depth roots = along (tables_under profile pages tree depth) 0 roots
+tables_by_frames profile pages tree depth roots =
+    along (tables_under profile pages tree depth) 0 roots

@@ -37,12 +37,23 @@ entry_said None = Unmapped
 
 -- each page has, by the model's profile and a root of one page, what c_tables gives it
 abbrev pub IsPlainWalk : Type 0
-IsPlainWalk = (geometry : Geometry) (pages : List TablePage) (root : TablePage) (page : ℕ) → All HasWords pages → HasWords root → entry_said (map_by_frames model_profile pages (levels_below geometry) (root ∷ []) page) ≡ plain_map geometry (map as_plain pages) (as_plain root) page
+IsPlainWalk =
+    (geometry : Geometry) (pages : List TablePage) (root : TablePage) (page : ℕ)
+    → All HasWords pages
+    → HasWords root
+    → entry_said (map_by_frames model_profile pages (levels_below geometry) (root ∷ []) page)
+    ≡ plain_map geometry (map as_plain pages) (as_plain root) page
 
 -- a table that the one walk reaches, as the other says it
 abbrev pub as_reached : Reached → PlainReached
-as_reached r = record { tree = r.tree; table = record { block = (r.depth + 1, r.number); frame = r.frame } }
+as_reached r =
+    record { tree = r.tree; table = record { block = (r.depth + 1, r.number); frame = r.frame } }
 
 -- both walks reach the same tables in the same order
 abbrev pub IsPlainOrder : Type 0
-IsPlainOrder = (geometry : Geometry) (pages : List TablePage) (tree : ℕ) (root : TablePage) → All HasWords pages → HasWords root → map as_reached (tables_by_frames model_profile pages tree (levels_below geometry) (root ∷ [])) ≡ c_tables geometry (map as_plain pages) tree (as_plain root)
+IsPlainOrder =
+    (geometry : Geometry) (pages : List TablePage) (tree : ℕ) (root : TablePage)
+    → All HasWords pages
+    → HasWords root
+    → map as_reached (tables_by_frames model_profile pages tree (levels_below geometry) (root ∷ []))
+    ≡ c_tables geometry (map as_plain pages) tree (as_plain root)

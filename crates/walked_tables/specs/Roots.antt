@@ -4,7 +4,8 @@ use Rattle.walked_tables.specs.declared.follow.TablePage.{TablePage}
 use Rattle.walked_tables.specs.ByFrames.{page_of}
 
 -- the pages of `count` frames from one on, in order
-pub record AreRootPages (pages : List TablePage) (frame count : ℕ) (roots : List TablePage) : Type 0 where
+pub record AreRootPages (pages : List TablePage) (frame count : ℕ)
+    (roots : List TablePage) : Type 0 where
   pub all : length roots ≡ count
   pub each : (k : ℕ) → k < count → page_of pages (frame + k) ≡ slice_get roots k
 

@@ -21,7 +21,9 @@ pub fn root_pages<'a>(
     count: u64,
 ) -> Result<Option<Vec<TablePage<'a>>>, AllocError>
     requires { frame + count < 2 ^ 64 }
-    ensures { IfOk result (λ found. MatchOption found (IsRootless pages.now frame count) (λ roots. AreRootPages pages.now frame count roots.items)) }
+    ensures { IfOk result
+        (λ found. MatchOption found (IsRootless pages.now frame count)
+        (λ roots. AreRootPages pages.now frame count roots.items)) }
 {
     let mut roots = Vec::new(alloc);
     for k in 0..count {

@@ -22,7 +22,9 @@ pub(crate) fn put(
     requires small { ForSome value HasSmallFrame }
     requires kept { IsKept advance_said CanGoOn runs.old.items }
     requires behind { EndBefore (first + 1) runs.old.items }
-    ensures map { OnOk result (run_map advance_said runs.new.items ≡ map_updated advance_said (run_map advance_said runs.old.items) first count value) }
+    ensures map { OnOk result
+        (run_map advance_said runs.new.items
+        ≡ map_updated advance_said (run_map advance_said runs.old.items) first count value) }
     ensures kept { OnOk result (IsKept advance_said CanGoOn runs.new.items) }
     ensures behind { OnOk result (EndBefore (first + count + 1) runs.new.items) }
 {

@@ -36,8 +36,11 @@ fn walk_table(
     requires kept { IsKept advance_said CanGoOn runs.old.items }
     requires behind { EndBefore (number * block_pages (depth + 1) + 1) runs.old.items }
     requires apart { AllPairs AreOtherFrames met.old.items }
-    ensures walked { OnOk result (IsTableWalked profile.now pages.now tree depth number page.entry met.old.items met.new.items runs.old.items runs.new.items) }
-    ensures stopped { IfErr result (IsStopped (met.old.items ++ tables_under profile.now pages.now tree depth number page.entry)) }
+    ensures walked { OnOk result
+        (IsTableWalked profile.now pages.now tree depth number page.entry met.old.items met.new.items runs.old.items runs.new.items) }
+    ensures stopped { IfErr result
+        (IsStopped
+        (met.old.items ++ tables_under profile.now pages.now tree depth number page.entry)) }
 {
     let table = Reached {
         tree,
@@ -75,8 +78,11 @@ pub fn walked(
     requires roots { All IsWhole roots.now }
     requires few { length roots.now ≤ 16 }
     requires apart { AllPairs AreOtherFrames met.old.items }
-    ensures walked { IfOk result (λ runs. IsTreeWalked profile.now pages.now tree depth roots.now met.old.items met.new.items runs.items) }
-    ensures stopped { IfErr result (IsStopped (met.old.items ++ tables_by_frames profile.now pages.now tree depth roots.now)) }
+    ensures walked { IfOk result
+        (λ runs. IsTreeWalked profile.now pages.now tree depth roots.now met.old.items met.new.items runs.items) }
+    ensures stopped { IfErr result
+        (IsStopped
+        (met.old.items ++ tables_by_frames profile.now pages.now tree depth roots.now)) }
 {
     let mut runs = Vec::new(alloc);
     for k in 0..roots.len() {

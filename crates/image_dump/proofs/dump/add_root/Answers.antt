@@ -1,7 +1,8 @@
-use Rattle.std.proofs.Common.{Err, refl, sym}
+use Rattle.std.proofs.Common.{ℕ, [], ◌∷◌, ◌++◌, Err, refl, sym, ap, ◌∙◌}
+use Rattle.image_dump.specs.declared.line.DumpLine.TheVariants as line
 use Rattle.std.specs.Option.{is_some}
 use Rattle.image_dump.specs.Stating.{told_root}
-use Rattle.image_dump.proofs.Collected.{append_nil}
+use Rattle.image_dump.proofs.Collected.{append_nil, same_tree}
 use Rattle.image_dump.proofs.dump.add_root.Goals as goal
 
 pub returns-in_ok-add_line-in-Err-clause-added : goal.returns-in_ok-add_line-in-Err-clause-added
@@ -9,7 +10,9 @@ returns-in_ok-add_line-in-Err-clause-added g c = record {
   found = record { root = told_root (is_some c.args.records.now) c.args.root; walked = Err c.in-Err.why };
   found_in = record { root_is = refl; walk = c.in-Err.ensures.unwalked };
   grows = record {
-    lines_are = c.in_ok-add_line-in-Err.ensures;
+    lines_are = c.in_ok-add_line-in-Err.ensures
+        ∙ ap (λ (t : ℕ). c.args.all.now.lines.items ++ line.Unwalked t c.in-Err.why ∷ [])
+        (sym (same_tree (is_some c.args.records.now) c.args.root));
     words_are = sym (append_nil _);
     claims_are = sym (append_nil _);
     tables_are = sym (append_nil _);

@@ -8,5 +8,6 @@ abbrev pub invariant-loop-k : goal.invariant-loop-k
 invariant-loop-k g l = record {
   whole : All HasWords l.kept.items;
   count : length l.kept.items ≡ l.k;
-  read : ForSome (g.I.ImageBytes.bytes l.image) (λ all. AreRead (page_words all l.segments) l.root l.k (map kept_told l.kept.items));
+  read : ForSome (g.I.ImageBytes.bytes l.image)
+      (λ all. AreRead (page_words all l.segments) l.root l.k (map kept_told l.kept.items));
 }

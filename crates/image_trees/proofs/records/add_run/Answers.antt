@@ -11,8 +11,14 @@ loop-k-preserved g c = record {
   room = omega (arith, c.with_state.auto.buffer, c.loop-k.invariant.room);
   map = λ all e.
       let record_of = records_in all c.args.segments.now c.args.records.now in
-      more_laid record_of c.args.tree c.args.run c.loop-k.k (run_map advance_said c.args.out.now.items) (run_map advance_said c.loop-k.out.items) (run_map advance_said c.add_page.new.runs.items) c.in_ok-value.value
-      (c.in_ok-value.ensures.stated all e ∙ ap (stated record_of c.args.tree) c.advanced-said.ensures) c.in_ok-add_page.ensures.map (c.loop-k.invariant.map all e);
+      more_laid record_of c.args.tree c.args.run c.loop-k.k (run_map advance_said c.args.out.now.items)
+      (run_map advance_said c.loop-k.out.items) (run_map advance_said c.add_page.new.runs.items) c.in_ok-value.value
+      (c.in_ok-value.ensures.stated all e
+      ∙ ap (stated record_of c.args.tree) c.advanced-said.ensures) c.in_ok-add_page.ensures.map
+      (c.loop-k.invariant.map all e);
   kept = c.in_ok-add_page.ensures.kept;
-  behind = ends_later (c.args.run.pages.first.0 + c.loop-k.k + 2) (c.args.run.pages.first.0 + (c.loop-k.k + 1) + 1) c.add_page.new.runs.items (omega arith) c.in_ok-add_page.ensures.behind;
+  behind =
+      ends_later (c.args.run.pages.first.0 + c.loop-k.k + 2)
+      (c.args.run.pages.first.0 + (c.loop-k.k + 1) + 1) c.add_page.new.runs.items
+      (omega arith) c.in_ok-add_page.ensures.behind;
 }

@@ -9,7 +9,8 @@ invariant-loop-bytes g l = record {
   room : length l.bytes ≡ 4096;
   whole : All HasWords l.kept.items;
   long : l.root.count ≤ length l.kept.items;
-  read : ForSome (g.I.ImageBytes.bytes l.image) (λ all. AreRead (page_words all l.segments) l.root l.root.count (map kept_told l.kept.items));
+  read : ForSome (g.I.ImageBytes.bytes l.image)
+      (λ all. AreRead (page_words all l.segments) l.root l.root.count (map kept_told l.kept.items));
 }
 
 abbrev pub decreases-loop-bytes : goal.decreases-loop-bytes

@@ -33,7 +33,12 @@ other_value (Leaf m) h = refl
 other_value (Table f) h = refl
 
 pub returns-in_default-clause-value : goal.returns-in_default-clause-value
-returns-in_default-clause-value c = other_value c.decode.result c.in_default.not-Unmapped ∙ ap value_of (c.decode.ensures.value ∙ ap (λ l. decoded_of c.args.profile.now l c.args.word) c.level_of.ensures)
+returns-in_default-clause-value c =
+    other_value c.decode.result c.in_default.not-Unmapped
+    ∙ ap value_of
+    (c.decode.ensures.value ∙ ap (λ l. decoded_of c.args.profile.now l c.args.word) c.level_of.ensures)
 
 pub returns-in_default-clause-small : goal.returns-in_default-clause-small
-returns-in_default-clause-small c = small_said c.args.profile.now c.level_of.result c.args.word c.decode.result ((c.decode.ensures.exact c.decode.result).0 refl)
+returns-in_default-clause-small c =
+    small_said c.args.profile.now c.level_of.result c.args.word c.decode.result
+    ((c.decode.ensures.exact c.decode.result).0 refl)
