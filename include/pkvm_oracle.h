@@ -38,8 +38,8 @@
  * The functions keep nothing between two calls and write to what is handed to them alone. Several
  * threads may be in them at once, if each writes to its own memory; a signal handler may not. A
  * pointer may be NULL where its length is 0, so {0} is the empty state; no other may. What is
- * written may not lie in what is read. All values are answered: a number that stands for nothing is
- * refused by name. Of several errors the first in the order of a function's list is told.
+ * written may not lie in what is read. Any number may be handed in: an invalid one is refused by
+ * name. Of several errors the first in the order of a function's list is told.
  *
  * Units. A page is an input address divided by 4,096, a frame a physical address divided by it. An
  * owner, a tree and a pool have these numbers; the shared pool is the hypervisor's.
@@ -94,10 +94,10 @@ struct pkvm_word {
 enum {
 	PKVM_NO_LEVEL = -1,	    /* the level isn't 0 to 3 */
 	PKVM_NO_ROOM = -2,	    /* what is written needs more room than there is */
-	PKVM_BAD_NUMBER = -3,	    /* a number stands for nothing */
+	PKVM_BAD_NUMBER = -3,	    /* a number is invalid */
 	PKVM_NO_WORD = -4,	    /* no word of this level says it */
 	PKVM_BAD_STEP = -5,	    /* the call, its rights or its kind of VMs is unknown */
-	PKVM_BAD_REPLY = -6,	    /* a number of the reply stands for nothing */
+	PKVM_BAD_REPLY = -6,	    /* a number of the reply is invalid */
 	PKVM_BAD_CPU = -7,	    /* the layout hasn't the CPU */
 	PKVM_BAD_LAYOUT = -8,	    /* the layout is refused */
 	PKVM_BAD_BEFORE = -9,	    /* the state before the call, or the kept one, is refused */
@@ -278,8 +278,8 @@ enum {
 		4, /* a region ends over page 2^26, or over 524,288 pages of memory */
 	PKVM_FAULT_REGIONS_SHARE = 5, /* two regions share a page */
 	PKVM_FAULT_CARVE_OUTSIDE = 6, /* the carve-out isn't in one memory region */
-	PKVM_FAULT_UNKNOWN = 7,	      /* the member `index` of `list` has a number that stands for
-					 nothing, or can't be */
+	PKVM_FAULT_UNKNOWN = 7,	      /* the member `index` of `list` has an invalid number:
+					 unknown, or impossible there */
 	PKVM_FAULT_ROWS_LARGE = 8,    /* a frame of the rows or a lent page is over 2^63 */
 	PKVM_FAULT_ROWS_SHARE = 9,    /* two runs of rows share a frame */
 	PKVM_FAULT_TWICE = 10,	      /* two slots, guests or CPUs have one number */

@@ -17,7 +17,7 @@ text_of_table_fault n =
 -- faults of the lists of a state, and then those of tables
 abbrev pub text_of_list_fault : ℕ → List ℕ
 text_of_list_fault n =
-    if n == 7 then codes "a number that stands for nothing"
+    if n == 7 then codes "an invalid number"
     else if n == 8 then codes "a frame of the rows or a lent page is too large"
     else if n == 9 then codes "two runs of rows share a frame"
     else if n == 10 then codes "two slots, guests or CPUs have one number"

@@ -26,7 +26,7 @@ fn list_fault_text(fault: u64) -> &'static str
     ensures { result.now ≡ text_of_list_fault fault }
 {
     match fault {
-        7 => "a number that stands for nothing",
+        7 => "an invalid number",
         8 => "a frame of the rows or a lent page is too large",
         9 => "two runs of rows share a frame",
         10 => "two slots, guests or CPUs have one number",

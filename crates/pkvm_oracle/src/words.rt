@@ -17,7 +17,7 @@ pub extern "C" fn pkvm_decode(level: u64, word: u64, out: &mut PlainWord) -> i32
     0
 }
 
-/// The one word that says this in a table of a level. 0; or -1 where there is no such level, -3 where a number of it stands for nothing,
+/// The one word that says this in a table of a level. 0; or -1 where there is no such level, -3 where a number of it is invalid,
 /// -4 where no word says it there; and then `out` stays.
 #[unsafe(no_mangle)]
 pub extern "C" fn pkvm_encode(level: u64, says: &PlainWord, out: &mut u64) -> i32

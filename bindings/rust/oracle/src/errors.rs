@@ -28,7 +28,7 @@ faults! {
     RegionsShare = PKVM_FAULT_REGIONS_SHARE,
     /// The carve-out isn't in one memory region.
     CarveOutside = PKVM_FAULT_CARVE_OUTSIDE,
-    /// A number stands for nothing, or can't be.
+    /// A number is invalid: unknown, or impossible there.
     Unknown = PKVM_FAULT_UNKNOWN,
     /// A frame of the rows or a lent page is over 2^63.
     RowsLarge = PKVM_FAULT_ROWS_LARGE,
@@ -75,7 +75,7 @@ impl Fault {
             }
             Fault::RegionsShare => "two regions share a page",
             Fault::CarveOutside => "the carve-out isn't in one memory region",
-            Fault::Unknown => "a number that stands for nothing",
+            Fault::Unknown => "an invalid number",
             Fault::RowsLarge => "a frame of the rows or a lent page is too large",
             Fault::RowsShare => "two runs of rows share a frame",
             Fault::Twice => "two slots, guests or CPUs have one number",
