@@ -1,12 +1,58 @@
 // Each function of the library with arbitrary structs, for libFuzzer: the first byte of an input
 // chooses the function, and the rest are the numbers of what it is handed. Each list is a block of
 // just its length, so that AddressSanitizer sees what is read or written behind it. What an answer
-// promises of outputs is looked at too.
+// promises of outputs is looked at too. Two faults can be planted, which the fuzzer must find:
+// -DPLANTED=1 claims one free frame more than there is, so that the library reads behind the list;
+// -DPLANTED=2 asserts that no call that is granted and maps something is judged to agree.
 #include "pkvm_oracle.h"
+#include <malloc.h>
+#include <stdbool.h>
 #include <stdlib.h>
 #include <string.h>
 
+#ifndef PLANTED
+#define PLANTED 0
+#endif
+
 int LLVMFuzzerTestOneInput(const uint8_t *data, size_t size);
+
+// The library's memory, 256 MiB at most: a trace with large logs is refused more.
+struct pkvm_block {
+	bool is_there;
+	void *at;
+};
+
+struct pkvm_block pkvm_heap_alloc(size_t size, size_t align);
+struct pkvm_block pkvm_heap_realloc(void *at, size_t kept, size_t size, size_t align);
+void pkvm_heap_free(void *at);
+
+static size_t in_use;
+
+struct pkvm_block pkvm_heap_realloc(void *at, size_t kept, size_t size, size_t align)
+{
+	static char none;
+	size_t had = at ? malloc_usable_size(at) : 0;
+
+	(void)kept;
+	if (size > (256u << 20) - (in_use - had))
+		return (struct pkvm_block){false, &none};
+	void *made = realloc(at, size ? size : align);
+	if (!made)
+		abort();
+	in_use += malloc_usable_size(made) - had;
+	return (struct pkvm_block){true, made};
+}
+
+struct pkvm_block pkvm_heap_alloc(size_t size, size_t align)
+{
+	return pkvm_heap_realloc(NULL, 0, size, align);
+}
+
+void pkvm_heap_free(void *at)
+{
+	in_use -= malloc_usable_size(at);
+	free(at);
+}
 
 static const uint8_t *input;
 static size_t left;
@@ -25,7 +71,7 @@ static uint64_t wide(void)
 	return number;
 }
 
-// A number, mostly one that stands for something.
+// A number, mostly a valid one.
 static uint64_t number(void)
 {
 	static const uint64_t some[] = {4,	    7,	       8,	   22,	       39,
@@ -55,15 +101,26 @@ static void *block(size_t count, size_t of)
 	return made;
 }
 
-// A list whose members have so many numbers.
+// A list of `given` members and arbitrary ones behind them. Seldom a number of a given one is
+// another.
+static void *grown(size_t *count, const void *given, size_t given_len, size_t most, size_t of)
+{
+	*count = given_len + (most ? byte() % (most + 1) : 0);
+	uint64_t *made = block(*count, of);
+	size_t width = of / sizeof *made;
+
+	if (given_len)
+		memcpy(made, given, given_len * of);
+	for (size_t i = given_len * width; i < *count * width; i++)
+		made[i] = number();
+	if (given_len && most && byte() % 16 == 15)
+		made[byte() % (given_len * width)] = number();
+	return made;
+}
+
 static void *list(size_t *count, size_t most, size_t of)
 {
-	*count = byte() % (most + 1);
-	uint64_t *made = block(*count, of);
-
-	for (size_t i = 0; i < *count * of / sizeof *made; i++)
-		made[i] = number();
-	return made;
+	return grown(count, NULL, 0, most, of);
 }
 
 static struct pkvm_region *regions;
@@ -89,18 +146,35 @@ static struct pkvm_layout layout(void)
 	return made;
 }
 
+// A state as a boot leaves it, on the first layout of 39 bits, or that and arbitrary members, or
+// these alone.
 static struct pkvm_state state(void)
 {
+	static const struct pkvm_run runs[] = {
+		{0, 0x40600, 0x40, {.says = PKVM_ANNOTATED, .owner = PKVM_HYP}},
+		{1, 0x4040600, 0x40, {PKVM_LEAF, 0x40600, 0, PKVM_RW, 0, PKVM_OWNED}}};
+	static const struct pkvm_table tables[] = {
+		{0, 3, 0, 0x40600}, {0, 2, 1, 0x40601},	    {0, 1, 0x203, 0x40602},
+		{1, 3, 0, 0x40603}, {1, 2, 0x101, 0x40604}, {1, 1, 0x20203, 0x40605}};
+	static const struct pkvm_row rows[] = {
+		{0x40600, 0x40, {.owner = PKVM_HYP, .usage = PKVM_USE_SHARED_POOL}}};
+	struct pkvm_frame frames[58];
 	struct pkvm_state made;
+	uint8_t how = byte();
+	int is_booted = how < 224;
+	size_t most = how < 128 ? 0 : 4;
 
-	made.runs = list(&made.runs_len, 8, sizeof *made.runs);
-	made.tables = list(&made.tables_len, 8, sizeof *made.tables);
-	made.frames = list(&made.frames_len, 16, sizeof *made.frames);
-	made.slots = list(&made.slots_len, 4, sizeof *made.slots);
-	made.loads = list(&made.loads_len, 4, sizeof *made.loads);
-	made.guests = list(&made.guests_len, 4, sizeof *made.guests);
-	made.cpus = list(&made.cpus_len, 2, sizeof *made.cpus);
-	made.rows = list(&made.rows_len, 8, sizeof *made.rows);
+	for (size_t i = 0; i < 58; i++)
+		frames[i] = (struct pkvm_frame){PKVM_HYP, 0x40606 + i};
+	made.runs = grown(&made.runs_len, runs, is_booted ? 2 : 0, 2 * most, sizeof *runs);
+	made.tables = grown(&made.tables_len, tables, is_booted ? 6 : 0, 2 * most, sizeof *tables);
+	made.frames = grown(&made.frames_len, frames, is_booted ? 58 : 0, 2 * most, sizeof *frames);
+	made.slots = list(&made.slots_len, most, sizeof *made.slots);
+	made.loads = list(&made.loads_len, most, sizeof *made.loads);
+	made.guests = list(&made.guests_len, most, sizeof *made.guests);
+	made.cpus = list(&made.cpus_len, most / 2, sizeof *made.cpus);
+	made.rows = grown(&made.rows_len, rows, is_booted ? 1 : 0, 2 * most, sizeof *rows);
+	made.frames_len += PLANTED == 1 && made.frames_len > 0;
 	return made;
 }
 
@@ -203,45 +277,74 @@ static void judge(void)
 	free(regions);
 }
 
-// The state that is predicted agrees, and where it can be handed in, it can be predicted from.
-static void predict(void)
+// A step is predicted, and a state after it is judged to agree. Whether that can be handed in.
+static int predicted(const struct pkvm_layout *on, const struct pkvm_state *before,
+		     struct pkvm_state *after)
 {
-	struct pkvm_layout on = layout();
 	struct pkvm_step made = step();
 	uint64_t cpu = byte() % 3;
-	struct pkvm_state before = state(), after;
 	struct pkvm_room room = {0};
 	struct pkvm_reply reply = {.refusal = 77}, told = {.refusal = 77};
 	struct pkvm_sizes sizes;
 	struct pkvm_refused refused, other;
-	int32_t status = pkvm_predict(&on, &before, cpu, &made, &reply, &room, &sizes, &refused);
-	int32_t alone = pkvm_predict_reply(&on, &before, cpu, &made, &told, &other);
+	int32_t status = pkvm_predict(on, before, cpu, &made, &reply, &room, &sizes, &refused);
+	int32_t alone = pkvm_predict_reply(on, before, cpu, &made, &told, &other);
 
 	must(status == (alone ? alone : PKVM_NO_ROOM) && reply.refusal == 77);
 	must(refused.fault == other.fault && (alone == 0 || told.refusal == 77));
-	if (!alone) {
-		room.runs = block(room.runs_len = sizes.runs, sizeof *room.runs);
-		room.tables = block(room.tables_len = sizes.tables, sizeof *room.tables);
-		room.frames = block(room.frames_len = sizes.frames, sizeof *room.frames);
-		room.slots = block(room.slots_len = sizes.slots, sizeof *room.slots);
-		room.loads = block(room.loads_len = sizes.loads, sizeof *room.loads);
-		room.guests = block(room.guests_len = sizes.guests, sizeof *room.guests);
-		room.cpus = block(room.cpus_len = sizes.cpus, sizeof *room.cpus);
-		room.rows = block(room.rows_len = sizes.rows, sizeof *room.rows);
-		must(pkvm_predict(&on, &before, cpu, &made, &reply, &room, &sizes, &refused) == 0);
-		must(memcmp(&reply, &told, sizeof reply) == 0);
-		after = (struct pkvm_state){
-			room.runs,   room.runs_len,   room.tables, room.tables_len,
-			room.frames, room.frames_len, room.slots,  room.slots_len,
-			room.loads,  room.loads_len,  room.guests, room.guests_len,
-			room.cpus,   room.cpus_len,   room.rows,   room.rows_len};
-		struct pkvm_call call = {cpu, made, reply};
-		size_t length = 0;
-		status = pkvm_judge(&on, &before, &call, &after, NULL, 0, &length, &refused);
-		must(status == PKVM_AGREES || status == PKVM_BAD_AFTER);
-		clear(&after);
+	if (alone)
+		return 0;
+	room.runs = block(room.runs_len = sizes.runs, sizeof *room.runs);
+	room.tables = block(room.tables_len = sizes.tables, sizeof *room.tables);
+	room.frames = block(room.frames_len = sizes.frames, sizeof *room.frames);
+	room.slots = block(room.slots_len = sizes.slots, sizeof *room.slots);
+	room.loads = block(room.loads_len = sizes.loads, sizeof *room.loads);
+	room.guests = block(room.guests_len = sizes.guests, sizeof *room.guests);
+	room.cpus = block(room.cpus_len = sizes.cpus, sizeof *room.cpus);
+	room.rows = block(room.rows_len = sizes.rows, sizeof *room.rows);
+	must(pkvm_predict(on, before, cpu, &made, &reply, &room, &sizes, &refused) == 0);
+	must(memcmp(&reply, &told, sizeof reply) == 0);
+	*after = (struct pkvm_state){room.runs,	  room.runs_len,   room.tables, room.tables_len,
+				     room.frames, room.frames_len, room.slots,	room.slots_len,
+				     room.loads,  room.loads_len,  room.guests, room.guests_len,
+				     room.cpus,	  room.cpus_len,   room.rows,	room.rows_len};
+	struct pkvm_call call = {cpu, made, reply};
+	size_t length = 0;
+	status = pkvm_judge(on, before, &call, after, NULL, 0, &length, &refused);
+	must(status == PKVM_AGREES || status == PKVM_BAD_AFTER);
+	must(PLANTED != 2 || status != PKVM_AGREES || reply.refusal ||
+	     sizes.runs <= before->runs_len);
+	return status == PKVM_AGREES;
+}
+
+// Whether a state is legal.
+static int is_legal(const struct pkvm_layout *on, const struct pkvm_state *told)
+{
+	size_t length;
+	struct pkvm_refused refused;
+
+	return pkvm_check(on, told, 0, NULL, 0, &length, &refused) == PKVM_AGREES;
+}
+
+// Up to twelve steps, each on the state that is predicted of the last. From a legal state they lead
+// to a legal one.
+static void predict(void)
+{
+	struct pkvm_layout on = layout();
+	struct pkvm_state at = state();
+	int was_legal = is_legal(&on, &at);
+
+	for (int steps = 0; steps < 12 && left; steps++) {
+		struct pkvm_state after = {0};
+		int goes_on = predicted(&on, &at, &after);
+
+		clear(goes_on ? &at : &after);
+		if (!goes_on)
+			break;
+		at = after;
 	}
-	clear(&before);
+	must(!was_legal || is_legal(&on, &at));
+	clear(&at);
 	free(regions);
 }
 
@@ -306,5 +409,6 @@ int LLVMFuzzerTestOneInput(const uint8_t *data, size_t size)
 	input = data;
 	left = size;
 	each[byte() % (sizeof each / sizeof *each)]();
+	must(in_use == 0);
 	return 0;
 }
