@@ -178,11 +178,31 @@ static uint64_t some_guest_page(void)
 	return GUEST_PAGES + blocks[any(3)] + any(6);
 }
 
+/* The host's aborts are on pages that other calls name, on some of the hypervisor's, and on four
+ * rows of pages, of which the seed chooses three: each maps a page or a block, and all that is
+ * mapped is recorded at each call.
+ */
+enum { ABORTS = 4, ABORT_COUNT = 16 };
+static uint64_t aborts[ABORTS];
+
+static void choose_aborts(void)
+{
+	aborts[0] = any(MEMORY);
+	aborts[1] = MEMORY + any(MEMORY_COUNT - ABORT_COUNT);
+	aborts[2] = MORE_MEMORY + any(MORE_COUNT - ABORT_COUNT);
+	/* Half of it memory, and half past all regions. */
+	aborts[3] = MORE_MEMORY + MORE_COUNT - ABORT_COUNT / 2;
+}
+
 static struct pkvm_step abort_step(void)
 {
-	uint64_t page = any(2) ? MEMORY + any(MEMORY_COUNT) : MORE_MEMORY + any(MORE_COUNT + 8);
+	uint64_t page = aborts[any(ABORTS)] + any(ABORT_COUNT);
 
-	return (struct pkvm_step){PKVM_HOST_ABORT, {any(4) ? page : any(MEMORY)}};
+	if (!any(4))
+		page = any(2) ? CARVE + any(CARVE_COUNT) : HANDS + any(2 * HAND_COUNT);
+	else if (!any(3))
+		page = some_frame();
+	return (struct pkvm_step){PKVM_HOST_ABORT, {page}};
 }
 
 /* A page of the host's goes to the CPU's guest, where it has one. */
@@ -431,6 +451,8 @@ static void start(void)
 	vms_make();
 	if (linux_call(&donate, 0).error)
 		refuse("Linux doesn't take the carve-out");
+	any_from(wanted.seed);
+	choose_aborts();
 	lives[0].vcpus = (wanted.cpus + 1) / 2;
 	lives[1].vcpus = wanted.cpus / 2;
 	begin();

@@ -227,6 +227,17 @@ static void count_in(struct count *list, size_t *len, size_t room, const char *k
 	list[(*len)++].times = 1;
 }
 
+static void print_judged(FILE *to)
+{
+	fprintf(to, "judged %" PRIu64 " agree %" PRIu64 " known %" PRIu64 " unknown %" PRIu64 "\n",
+		by_linux, agreed, known, unknown);
+}
+
+/* A long run tells how far it is, each so many calls of Linux. */
+#ifndef TOLD_EACH
+#define TOLD_EACH 50000
+#endif
+
 void count_step(const struct pkvm_step *step, const struct made *made,
 		const struct judgement *judgement)
 {
@@ -251,6 +262,11 @@ void count_step(const struct pkvm_step *step, const struct made *made,
 		count_in(names, &names_len, 32, judgement->name);
 	}
 	unknown += judgement->verdict == DIFFERS;
+	if (made->maker == BY_LINUX && !(by_linux % TOLD_EACH)) {
+		fputs("so far ", stderr);
+		print_judged(stderr);
+		fflush(stdout);
+	}
 }
 
 void count_other(void)
@@ -292,7 +308,6 @@ bool print_summary(FILE *to)
 		"made by Linux %" PRIu64 ", by the harness %" PRIu64 ", lacking %" PRIu64
 		", not in the model %" PRIu64 "\n",
 		by_linux, by_harness, by_nobody, others);
-	fprintf(to, "judged %" PRIu64 " agree %" PRIu64 " known %" PRIu64 " unknown %" PRIu64 "\n",
-		by_linux, agreed, known, unknown);
+	print_judged(to);
 	return !unknown;
 }
