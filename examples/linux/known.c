@@ -423,28 +423,48 @@ static void without_others(struct copy *to, const struct pkvm_state *from, uint6
 	}
 }
 
-/* 7.3 lends a frame to plain guests more than once, and counts. Apart from the other borrowers the
- * call is the model's.
+/* 7.3 lends a frame to plain guests more than once, and counts. Apart from the other borrowers of
+ * the pages that it lends again the call is the model's, made page by page.
  */
 static bool lent_again(const struct difference *it)
 {
 	static PER_CPU struct copy before, after;
-	uint64_t frame = it->step->arguments[0], page = it->step->arguments[1], slot;
+	static PER_CPU struct recorded as_before, as_after;
+	const uint64_t *a = it->step->arguments;
+	struct difference apart = *it;
+	bool is_again = false;
+	uint64_t slot;
 
-	if (it->step->call != PKVM_SHARE_GUEST || !says(it, 0, PKVM_EPERM) ||
-	    it->step->arguments[3] != 1 || !borrowers(it, frame) || !vms_loaded(it->cpu, &slot))
+	if (it->step->call != PKVM_SHARE_GUEST || it->made->ended.is_stopped ||
+	    it->spec.refusal != PKVM_EPERM || a[3] > 512 || !vms_loaded(it->cpu, &slot))
 		return false;
-	without_others(&before, &it->before->state, frame, GUEST + slot, page);
-	with_word(&before, &before.state, HOST, frame,
-		  leaf(frame, PKVM_RWX, PKVM_NORMAL, PKVM_OWNED));
-	with_row(&before, frame, (struct pkvm_owner){.owner = HOST});
-	without_others(&after, &it->after->state, frame, GUEST + slot, page);
-	after.state.rows = it->after->state.rows;
-	after.state.rows_len = it->after->state.rows_len;
-	with_row(
-		&after, frame,
-		(struct pkvm_owner){.is_lent = 1, .borrower = GUEST + slot, .borrower_page = page});
-	return agrees(it, &before.state, it->step, &it->made->reply, &after.state);
+	before.state = it->before->state;
+	after.state = it->after->state;
+	for (uint64_t k = 0; k < a[3]; k++) {
+		uint64_t frame = a[0] + k, page = a[1] + k, tree = GUEST + slot;
+		struct pkvm_word was = entry_at(&it->before->state, tree, page);
+		struct pkvm_word now = entry_at(&it->after->state, tree, page);
+
+		if (!borrowers(it, frame) || was.says != PKVM_UNMAPPED || now.says != PKVM_LEAF ||
+		    now.frame != frame)
+			continue;
+		is_again = true;
+		without_others(&before, &before.state, frame, tree, page);
+		with_word(&before, &before.state, HOST, frame,
+			  leaf(frame, PKVM_RWX, PKVM_NORMAL, PKVM_OWNED));
+		with_row(&before, frame, (struct pkvm_owner){.owner = HOST});
+		without_others(&after, &after.state, frame, tree, page);
+		with_row(
+			&after, frame,
+			(struct pkvm_owner){.is_lent = 1, .borrower = tree, .borrower_page = page});
+	}
+	as_before = *it->before;
+	as_before.state = before.state;
+	as_after = *it->after;
+	as_after.state = after.state;
+	apart.before = &as_before;
+	apart.after = &as_after;
+	return is_again && is_in_parts(&apart, 3, 1, false);
 }
 
 /* And takes back one loan of several: the host's page stays shared. */
