@@ -1,22 +1,31 @@
 //! The reference step where the pools hold as many frames as it takes.
-use crate::bare::{bare, bare_shared};
+ghost use Rattle.std.specs.Prelude.{◌≡◌, ℕ, ◌<◌, None, IfOk, IfSome, OnOk, length};
+ghost use Rattle.page_state.specs.LayoutView.{layout_of};
+ghost use Rattle.freedoms.specs.Ample.{asks_pool as asks_pool_of};
+ghost use Rattle.ghost_spec.specs.Kept.{HasNextGeneration};
+ghost use Rattle.ghost_spec.specs.States.{contents_in, ghost_state};
+ghost use Rattle.free_judge.specs.Asked.{filled_by, most_needed, AreOutside, IsOpen, IsToldAmply};
+
+use crate::bare::{bare, with_frames};
 use crate::same::asks_pool;
 use call_table::{Refusal, Reply, Step};
 use ghost_spec::lists::GhostRooms;
+use ghost_spec::start::equal_rooms;
 use ghost_spec::state::{Ghost, predict_last};
 use std::alloc::{AllocError, Global};
 
+/// A frame that no memory has: all pages lie below it.
+const NO_FRAME: u64 = 1 << 26;
+
 /// Each log has room for one call.
-fn open(alloc: Global, state: Ghost) -> Result<Ghost, AllocError> {
-    let mut guests = Vec::new(alloc);
-    for _ in 0..64u64 {
-        guests.push(1)?;
-    }
+fn open(alloc: Global, state: Ghost) -> Result<Ghost, AllocError>
+    ensures contents { IfOk result (λ g. contents_in g ≡ contents_in state) }
+    ensures layout { IfOk result (λ g. g.layout ≡ state.layout) }
+    ensures rooms { IfOk result (λ g. IsOpen state.layout.config.cpus (ghost_state g).rooms) }
+{
     let cpus_count = state.lists().layout.config.cpus;
-    let mut cpus = Vec::new(alloc);
-    for _ in 0..cpus_count {
-        cpus.push(1)?;
-    }
+    let guests = equal_rooms(alloc, 64, 1)?;
+    let cpus = equal_rooms(alloc, cpus_count, 1)?;
     let mut lists = state.into_lists();
     lists.rooms = GhostRooms {
         vms: 1,
@@ -27,32 +36,85 @@ fn open(alloc: Global, state: Ghost) -> Result<Ghost, AllocError> {
     Ok(Ghost::of_kept(lists))
 }
 
-/// The state with so many free frames in each pool that the step doesn't ask.
-fn filled(alloc: Global, state: &Ghost, step: Step, count: usize) -> Result<Ghost, AllocError> {
-    let made = if asks_pool(step) {
-        bare_shared(alloc, state, count)?
+/// The state with these free frames in each pool that the step doesn't ask.
+fn filled(
+    alloc: Global,
+    state: &Ghost,
+    step: Step,
+    frames: &[u64],
+) -> Result<Ghost, AllocError>
+    requires { AreOutside frames.now }
+    ensures contents { IfOk result (λ g. contents_in g ≡ filled_by (asks_pool_of step) frames.now (contents_in state.now)) }
+    ensures layout { IfOk result (λ g. layout_of g.layout ≡ layout_of state.now.layout) }
+{
+    if asks_pool(step) {
+        with_frames(alloc, state, frames)
     } else {
-        bare(alloc, state, count)?
-    };
-    open(alloc, made)
+        bare(alloc, state, frames)
+    }
+}
+
+/// That state, where each log has room for a call.
+fn ready(
+    alloc: Global,
+    state: &Ghost,
+    step: Step,
+    frames: &[u64],
+) -> Result<Ghost, AllocError>
+    requires { AreOutside frames.now }
+    ensures contents { IfOk result (λ g. contents_in g ≡ filled_by (asks_pool_of step) frames.now (contents_in state.now)) }
+    ensures layout { IfOk result (λ g. layout_of g.layout ≡ layout_of state.now.layout) }
+    ensures rooms { IfOk result (λ g. IsOpen state.now.layout.config.cpus (ghost_state g).rooms) }
+{
+    let made = filled(alloc, state, step, frames)?;
+    let open = open(alloc, made)?;
+    Ok(open)
+}
+
+/// The reference step with these free frames in each pool that it doesn't ask; none where they are too few.
+fn attempted(
+    alloc: Global,
+    state: &Ghost,
+    cpu: u64,
+    step: Step,
+    frames: &[u64],
+) -> Result<Option<(Reply, Ghost)>, AllocError>
+    requires cpu { cpu < state.now.layout.config.cpus }
+    requires generation { HasNextGeneration ((contents_in state.now).cpu cpu).ticket step }
+    requires frames { AreOutside frames.now }
+    ensures told { IfOk result (λ o. IfSome o (λ r. IsToldAmply (layout_of state.now.layout) (contents_in state.now) cpu step r.0 (contents_in r.1))) }
+    ensures layout { IfOk result (λ o. IfSome o (λ r. layout_of r.1.layout ≡ layout_of state.now.layout)) }
+    ensures short { IfOk result (λ o. o ≡ None → length frames.now < most_needed (layout_of state.now.layout) (contents_in state.now) cpu step) }
+{
+    let before = ready(alloc, state, step, frames)?;
+    let (reply, after) = predict_last(alloc, before, cpu, step)?;
+    if reply == Reply::Refused(Refusal::NoPool) {
+        drop(after);
+        return Ok(None);
+    }
+    Ok(Some((reply, after)))
 }
 
 /// The reference step where the pools may hold any number of frames, and logs aren't asked: the reply, but for want of memory,
-/// and the state after it, but for tables and free frames. Err where memory is refused.
+/// and the state after it, but for tables and free frames. A step that asks a guest's pool is of the pool that the state has. Err
+/// where memory is refused.
 pub fn predict_amply(
     alloc: Global,
     state: &Ghost,
     cpu: u64,
     step: Step,
-) -> Result<(Reply, Ghost), AllocError> {
-    let mut count = 16usize;
+) -> Result<(Reply, Ghost), AllocError>
+    requires cpu { cpu < state.now.layout.config.cpus }
+    requires generation { HasNextGeneration ((contents_in state.now).cpu cpu).ticket step }
+    ensures told { IfOk result (λ r. IsToldAmply (layout_of state.now.layout) (contents_in state.now) cpu step r.0 (contents_in r.1)) }
+    ensures layout { IfOk result (λ r. layout_of r.1.layout ≡ layout_of state.now.layout) }
+{
+    let mut count: u64 = 0;
     loop {
-        let ready = filled(alloc, state, step, count)?;
-        let (reply, after) = predict_last(alloc, ready, cpu, step)?;
-        if reply != Reply::Refused(Refusal::NoPool) {
-            return Ok((reply, after));
+        count = count.saturating_add(16);
+        let frames = equal_rooms(alloc, count, NO_FRAME)?;
+        if let Some(told) = attempted(alloc, state, cpu, step, frames.as_slice())? {
+            return Ok(told);
         }
-        drop(after);
-        count = count.saturating_mul(2);
     }
 }

@@ -5,7 +5,6 @@
 pub mod ample;
 mod asked;
 mod bare;
-mod host;
 pub mod judge;
 pub mod laws;
 mod same;

@@ -1,9 +1,16 @@
 //! Tests of steps and replies.
+ghost use Rattle.std.specs.Prelude.{◌≡◌, ◌↔◌, IsTrue};
+ghost use Rattle.reference_model.specs.model.Rules.{may_grow as may_grow_of};
+ghost use Rattle.freedoms.specs.Ample.{asks_pool as asks_pool_of, IsWant, WantsAnyMemory};
+ghost use Rattle.freedoms.specs.Freedoms.{is_read as is_read_of, is_test, SaysAs};
+
 use call_table::{Refusal, Reply, Step};
 use freedoms::Freedoms;
 
 /// Whether a step can be refused for want of memory.
-fn may_grow(step: Step) -> bool {
+fn may_grow(step: Step) -> bool
+    ensures { result ≡ may_grow_of step }
+{
     match step {
         Step::HostTranslate { .. }
         | Step::HypTranslate { .. }
@@ -21,50 +28,65 @@ fn may_grow(step: Step) -> bool {
 }
 
 /// Whether a step's rule asks a guest's pool, or names a frame of it.
-pub(crate) fn asks_pool(step: Step) -> bool {
-    matches!(
-        step,
-        Step::Topup { .. } | Step::ReclaimPool { .. } | Step::FinishGuest
-    )
+pub(crate) fn asks_pool(step: Step) -> bool
+    ensures { result ≡ asks_pool_of step }
+{
+    match step {
+        Step::Topup { .. } | Step::ReclaimPool { .. } | Step::FinishGuest => true,
+        _ => false,
+    }
 }
 
 /// Whether a step only reads.
-pub(crate) fn is_read(step: Step) -> bool {
-    matches!(
-        step,
+pub(crate) fn is_read(step: Step) -> bool
+    ensures { result ≡ is_read_of step }
+{
+    match step {
         Step::HostTranslate { .. }
-            | Step::HypTranslate { .. }
-            | Step::OwnerOf { .. }
-            | Step::GuestTranslate { .. }
-    )
+        | Step::HypTranslate { .. }
+        | Step::OwnerOf { .. }
+        | Step::GuestTranslate { .. } => true,
+        _ => false,
+    }
 }
 
 /// Whether a reply is want of memory, by either name.
-fn is_want(reply: Reply) -> bool {
-    matches!(
-        reply,
-        Reply::Refused(Refusal::NoMemory) | Reply::Refused(Refusal::NoPool)
-    )
+fn is_want(reply: Reply) -> bool
+    ensures { IsTrue result ↔ IsWant reply }
+{
+    match reply {
+        Reply::Refused(Refusal::NoMemory) => true,
+        Reply::Refused(Refusal::NoPool) => true,
+        _ => false,
+    }
 }
 
 /// Whether a step that the model makes, and that can take memory, was refused for want of it.
-pub(crate) fn wants(step: Step, reply: Reply, told: Reply) -> bool {
+pub(crate) fn wants(step: Step, reply: Reply, told: Reply) -> bool
+    ensures { IsTrue result ↔ WantsAnyMemory step reply told }
+{
     is_want(reply) && may_grow(step) && matches!(told, Reply::Done(_))
 }
 
-/// Whether a reply is a refusal by a rule's test.
-fn is_tested(told: Reply) -> bool {
-    match told {
-        Reply::Refused(why) => matches!(
-            why,
-            Refusal::Invalid | Refusal::NoVm | Refusal::Busy | Refusal::Perm
-        ),
-        Reply::Done(_) => false,
+/// Whether a refusal is that of a rule's test.
+fn is_rule(why: Refusal) -> bool
+    ensures { result ≡ is_test why }
+{
+    match why {
+        Refusal::Invalid | Refusal::NoVm | Refusal::Busy | Refusal::Perm => true,
+        _ => false,
     }
 }
 
 /// Whether what is said may stand for what the model says.
-pub(crate) fn says(freedoms: Freedoms, told: Reply, said: Reply) -> bool {
-    said == told
-        || (freedoms.any_refusal && is_tested(told) && matches!(said, Reply::Refused(_)))
+pub(crate) fn says(freedoms: Freedoms, told: Reply, said: Reply) -> bool
+    ensures { IsTrue result ↔ SaysAs freedoms told said }
+{
+    if said == told {
+        return true;
+    }
+    match (told, said) {
+        (Reply::Refused(why), Reply::Refused(_)) => freedoms.any_refusal && is_rule(why),
+        _ => false,
+    }
 }

@@ -1,6 +1,6 @@
 -- Maps over others, parts of maps, and maps of devices.
-use Rattle.std.proofs.Common.{◌≡◌, ℕ, ◌+◌, ◌-◌, ◌^◌, ◌<◌, ◌≤◌, List, [], ◌∷◌, map, refl, ap, sym, ◌∙◌, arith}
-use Rattle.std.specs.Prelude.{Bool, true, false, All, Option, Some, None, if◌then◌else◌}
+use Rattle.std.proofs.Common.{◌≡◌, ℕ, ◌+◌, ◌-◌, ◌^◌, ◌≤◌, List, [], ◌∷◌, map, refl, ap, ◌∙◌, arith}
+use Rattle.std.specs.Prelude.{Bool, true, false, Option, Some, None, cond, if◌then◌else◌}
 use Rattle.std.proofs.lemmas.Bool.Decides.{nat_tests}
 use Rattle.std.proofs.lemmas.List.Elements.{All-nil, All-cons, All-head, All-tail}
 use mathlib.Core.Path.{fun_ext}
@@ -13,14 +13,13 @@ use Rattle.page_state.specs.declared.entry.Run.{Run}
 use Rattle.page_state.specs.declared.entry.Target.{Target}
 use Rattle.page_state.specs.declared.entry.Target.TheVariants.{Malformed as MalformedTarget, Annotated as AnnotatedTarget, Leaf as LeafTarget}
 use Rattle.page_state.specs.declared.layout.Region.{Region}
-use Rattle.page_state.specs.declared.layout.RegionKind.{RegionKind}
 use Rattle.page_state.specs.Entries.{advance, entry_of_target}
-use Rattle.page_state.specs.EntryTests.{is_unmapped, leaf}
+use Rattle.page_state.specs.EntryTests.{is_unmapped, leaf, device_leaf}
 use Rattle.page_state.specs.Map.{Map, is_within, update}
 use Rattle.page_state.specs.Regions.{find_region, is_in_range, is_memory_kind}
-use Rattle.page_state.specs.Runs.{map_of, entry_on, run_end}
+use Rattle.page_state.specs.Runs.{map_of, entry_on}
 use Rattle.page_state.proofs.Cases.{by_test}
-use Rattle.reference_model.specs.model.SharedRules.{abort_leaf, device_leaf}
+use Rattle.reference_model.specs.model.SharedRules.{abort_leaf}
 use Rattle.ghost_trees.specs.Small.{AreSmall, IsSmall}
 use Rattle.host_views.specs.Seen.{over, own_in, within_range, as_device, device_run, device_target, of_kind, kind_in}
 
@@ -47,10 +46,15 @@ leaf-on r a p h = let e : a + (p - a) ≡ p = omega arith in leaf-by (is_memory_
 within-low : (a c p : ℕ) → is_within a c p ≡ true → a ≤ p
 within-low a c p h = grind (arith, nat_tests)
 
+abbrev found-own : Option Region → ℕ → Entry
+found-own o p = elim o [ Some q ↦ abort_leaf q p | None ↦ Unmapped ]
+
+own-by : (b : Bool) (r : Region) (o : Option Region) (x : Entry) (p : ℕ) → (b ≡ true → x ≡ abort_leaf r p) → (if b then x else found-own o p) ≡ found-own (cond b (Some r) o) p
+own-by true r o x p h = h refl
+own-by false r o x p h = refl
+
 pub own-first : (r : Region) (rs : List Region) → update (own_in rs) r.pages.first.0 r.pages.count (abort_leaf r r.pages.first.0) ≡ own_in (r ∷ rs)
-own-first r rs = fun_ext (λ p. by_test (is_in_range r.pages p)
-    (λ t. rw t (leaf-on r r.pages.first.0 p (within-low r.pages.first.0 r.pages.count p t)))
-    (λ t. rw t refl))
+own-first r rs = fun_ext (λ p. own-by (is_in_range r.pages p) r (find_region rs p) (advance (abort_leaf r r.pages.first.0) (p - r.pages.first.0)) p (λ t. leaf-on r r.pages.first.0 p (within-low r.pages.first.0 r.pages.count p t)))
 
 -- the pages of a range
 
@@ -121,7 +125,19 @@ found-nothing : (o : Option Region) → elim o [ Some r ↦ of_kind r.kind Unmap
 found-nothing None = refl
 found-nothing (Some r) = kind-nothing (is_memory_kind r.kind)
 
-over-kind : (b : Bool) (e y : Entry) → (e ≡ Unmapped → y ≡ Unmapped) → (let k = elim b [ true ↦ e | false ↦ as_device e ] in elim (is_unmapped k) [ true ↦ y | false ↦ k ]) ≡ elim b [ true ↦ e | false ↦ as_device e ]
+abbrev kind-as : Bool → Entry → Entry
+kind-as b e = elim b [ true ↦ e | false ↦ as_device e ]
+
+abbrev part-of : Bool → Entry → Entry
+part-of b e = elim b [ true ↦ e | false ↦ Unmapped ]
+
+abbrev else-of : Entry → Entry → Entry
+else-of x y = elim (is_unmapped x) [ true ↦ y | false ↦ x ]
+
+abbrev found-kind : Option Region → Entry → Entry
+found-kind o e = elim o [ Some q ↦ of_kind q.kind e | None ↦ e ]
+
+over-kind : (b : Bool) (e y : Entry) → (e ≡ Unmapped → y ≡ Unmapped) → else-of (kind-as b e) y ≡ kind-as b e
 over-kind true Unmapped y h = h refl
 over-kind true Malformed y h = refl
 over-kind true (Annotated o) y h = refl
@@ -131,10 +147,16 @@ over-kind false Malformed y h = refl
 over-kind false (Annotated o) y h = refl
 over-kind false (Leaf f p q s) y h = refl
 
+kind-by : (b : Bool) (r : Region) (o : Option Region) (e : Entry) → else-of (part-of b (of_kind r.kind e)) (found-kind o e) ≡ found-kind (cond b (Some r) o) e
+kind-by true r o e = over-kind (is_memory_kind r.kind) e (found-kind o e) (λ h. ap (found-kind o) h ∙ found-nothing o)
+kind-by false r o e = refl
+
 pub kind-first : (r : Region) (rs : List Region) (m : Map) → over (within_range r.pages (λ p. of_kind r.kind (m p))) (λ p. kind_in rs p (m p)) ≡ (λ p. kind_in (r ∷ rs) p (m p))
-kind-first r rs m = fun_ext (λ p. by_test (is_in_range r.pages p)
-    (λ t. rw t (over-kind (is_memory_kind r.kind) (m p) (kind_in rs p (m p)) (λ e. ap (kind_in rs p) e ∙ found-nothing (find_region rs p))))
-    (λ t. rw t refl))
+kind-first r rs m = fun_ext (λ p. kind-by (is_in_range r.pages p) r (find_region rs p) (m p))
+
+region-by : (b : Bool) (e : Entry) → part-of b (as_device e) ≡ as_device (part-of b e)
+region-by true e = refl
+region-by false e = refl
 
 pub as-region : (pages : PageRange) (m : Map) → within_range pages (λ p. as_device (m p)) ≡ (λ p. as_device (within_range pages m p))
-as-region pages m = fun_ext (λ p. by_test (is_in_range pages p) (λ t. rw t refl) (λ t. rw t refl))
+as-region pages m = fun_ext (λ p. region-by (is_in_range pages p) (m p))

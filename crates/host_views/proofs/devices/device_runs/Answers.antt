@@ -1,4 +1,4 @@
-use Rattle.std.proofs.Common.{◌≡◌, ap, sym, subst, ◌∙◌}
+use Rattle.std.proofs.Common.{ap, sym, subst, ◌∙◌}
 use Rattle.page_state.specs.Runs.{map_of}
 use Rattle.ghost_trees.specs.Small.{AreSmall}
 use Rattle.host_views.proofs.Maps.{device-map, device-small}
