@@ -6,7 +6,7 @@
  *	int main(void)
  *	{
  *		struct pkvm_region memory = {PKVM_MEMORY, 0x40000, 0x800};	// 8 MiB at 1 GiB
- *		struct pkvm_layout layout = {39, 1, 0x40600, 0x40, &memory, 1};
+ *		struct pkvm_layout layout = {39, 1, 0x40600, 0x40, &memory, 1, 0};
  *		struct pkvm_state before = {0}, after = {0};	// what your hypervisor has
  *		struct pkvm_call call = {
  *			.cpu = 0,
@@ -56,9 +56,9 @@ extern "C" {
 
 enum { PKVM_HOST = 0, PKVM_HYP = 1, PKVM_GUEST = 2 }; /* PKVM_GUEST + v: the guest in slot v */
 
-/* The version of this header, 2.1.0: 32 bits that change where a program has to, 16 that change
+/* The version of this header, 3.0.0: 32 bits that change where a program has to, 16 that change
  * where something is added, and 16 that change else. */
-#define PKVM_VERSION 0x200010000ull
+#define PKVM_VERSION 0x300000000ull
 
 /* The version of the library, in that form. A program fits where the upper 32 bits are equal and
  * the rest isn't less than PKVM_VERSION's. */
@@ -168,6 +168,18 @@ struct pkvm_layout {
 	uint64_t carve_first, carve_count; /* the frames that the hypervisor's tables come from */
 	const struct pkvm_region *regions;
 	size_t regions_len; /* at most 16 */
+	uint64_t freedoms;  /* of PKVM_OWN_TABLES .., or 0. pkvm_judge reads it, and nothing else */
+};
+
+/* What a hypervisor may choose, bit by bit. The last three are of one with tables of its own. */
+enum {
+	/* Where its tables are, when blocks fold, and which frames are free: of its states tables
+	 * and frames aren't read, and may be left out. A call that may take memory may be refused
+	 * by PKVM_ENOPOOL or PKVM_ENOMEMORY. */
+	PKVM_OWN_TABLES = 1,
+	PKVM_LAZY_HOST = 2,  /* which pages of its own the host has mapped */
+	PKVM_ANY_KIND = 4,   /* of which kind of memory the host has a device's page */
+	PKVM_ANY_REFUSAL = 8 /* by which number it refuses what a test of a rule refuses */
 };
 
 /* A run of pages of one tree: the first has what the word says, and a leaf's frame grows with the
@@ -296,8 +308,10 @@ enum {
 	PKVM_FAULT_ROOT_PAGE = 19,   /* no page has the root's frame */
 	PKVM_FAULT_LOOP = 20, /* a table is below itself; of this and the next two, `list` is the
 				 tree and `index` the frame */
-	PKVM_FAULT_TWO_LEVELS = 21,   /* a table is reached at two levels, in one tree or in two */
-	PKVM_FAULT_REACHED_TWICE = 22 /* a table is reached twice */
+	PKVM_FAULT_TWO_LEVELS = 21,    /* a table is reached at two levels, in one tree or in two */
+	PKVM_FAULT_REACHED_TWICE = 22, /* a table is reached twice */
+	PKVM_FAULT_FREEDOM = 23,       /* freedoms has a bit beyond PKVM_ANY_REFUSAL */
+	PKVM_FAULT_NOT_OWN_TABLES = 24 /* freedoms has another bit without PKVM_OWN_TABLES */
 };
 
 /* The lists of a state, and those of an audit, by number. */
@@ -372,7 +386,8 @@ enum {
 	PKVM_EBUSY = 16,
 	PKVM_EINVALID = 22,
 	PKVM_ENOPOOL = 28,
-	PKVM_ELOGFULL = 75
+	PKVM_ELOGFULL = 75,
+	PKVM_STOPPED = 65536 /* no refusal: the call stopped the machine */
 };
 
 enum {
@@ -384,7 +399,7 @@ enum {
 };
 
 struct pkvm_reply {
-	uint64_t refusal; /* 0 where the call was made */
+	uint64_t refusal; /* 0 where the call was made; pkvm_judge takes any number */
 	/* What a call that was made gives. The fields below are read for it alone, and written 0
 	 * else. */
 	uint64_t gives;
@@ -402,9 +417,9 @@ struct pkvm_call {
 
 enum { PKVM_AGREES = 0, PKVM_DISAGREES = 1 };
 
-/* Judges a call by the states before and after it and by its reply.
+/* Judges a call by the states before and after it and by its reply, up to the layout's freedoms.
  *
- *   layout      what the hypervisor runs on
+ *   layout      what the hypervisor runs on, and its freedoms
  *   before      the state when the call had taken its last lock
  *   call        its CPU, its arguments and its reply
  *   after       the state before it let its first lock go
@@ -415,11 +430,15 @@ enum { PKVM_AGREES = 0, PKVM_DISAGREES = 1 };
  * Answers:
  *   PKVM_AGREES             reply and state are the model's, or the call was refused for want of
  *                           memory and changed nothing
- *   PKVM_DISAGREES          the first `*text_len` bytes of `text` tell the first difference
- *   PKVM_BAD_STEP           and in all that follow `text` stays
- *   PKVM_BAD_REPLY
+ *   PKVM_DISAGREES          the first `*text_len` bytes of `text` tell the first difference. A
+ *                           refusal that isn't the model's is told by number (`said 34`), a call
+ *                           that stopped the machine as `said stopped`; both disagree, but a
+ *                           number with PKVM_ANY_REFUSAL
+ *   PKVM_BAD_LAYOUT         `refused` says why; and in all that follow `text` stays. Freedoms are
+ *                           tested first, and all else after the CPU
+ *   PKVM_BAD_STEP
+ *   PKVM_BAD_REPLY          the call was made, and a number of what it gives is unknown
  *   PKVM_BAD_CPU
- *   PKVM_BAD_LAYOUT         `refused` says why
  *   PKVM_BAD_BEFORE         `refused` says why
  *   PKVM_LAST_GENERATION
  *   PKVM_BAD_AFTER          `refused` says why

@@ -95,7 +95,7 @@ static void say(const void *text, size_t length)
 
 // The host shares a page with the hypervisor, and the hypervisor forgets to mark the host's.
 static const struct pkvm_region memory = {PKVM_MEMORY, 0x40000, 0x800};
-static const struct pkvm_layout layout = {39, 1, 0x40600, 0x40, &memory, 1};
+static const struct pkvm_layout layout = {39, 1, 0x40600, 0x40, &memory, 1, 0};
 static const struct pkvm_run runs[] = {
 	{PKVM_HOST, 0x40600, 0x40, {.says = PKVM_ANNOTATED, .owner = PKVM_HYP}},
 	{PKVM_HYP, 0x4040600, 0x40, {PKVM_LEAF, 0x40600, 0, PKVM_RW, PKVM_NORMAL, PKVM_OWNED}},

@@ -369,7 +369,7 @@ static int random_calls(long count)
 	for (long i = 0; i < count; i++) {
 		struct pkvm_region *regions = numbers(next() % 3, sizeof *regions);
 		struct pkvm_region good[] = {{0, 0x40000, 0x800}, {1, 0x9000, 0x10}};
-		struct pkvm_layout layout = {39, 2, 0x40600, 0x40, good, 2};
+		struct pkvm_layout layout = {39, 2, 0x40600, 0x40, good, 2, 0};
 		if (next() % 8 == 0)
 			layout = (struct pkvm_layout){number(), number() % 100, number(),
 						      number(), regions,	0};
@@ -474,7 +474,7 @@ static int share(bool is_judged, long count)
 	struct pkvm_guest guest;
 	struct pkvm_cpu cpu;
 	struct pkvm_region regions[] = {{0, 0x40000, 0x800}, {1, 0x9000, 0x10}};
-	struct pkvm_layout layout = {39, 1, 0x40600, 0x40, regions, 2};
+	struct pkvm_layout layout = {39, 1, 0x40600, 0x40, regions, 2, 0};
 	struct pkvm_state before = {runs,  2, tables, 6, frames, 58, &slot, 0,
 				    &load, 0, &guest, 0, &cpu,	 0,  rows,  1};
 	struct pkvm_state after = {runs,  4, tables, 8, later, 56, &slot, 0,
@@ -564,7 +564,7 @@ static int shared_tables(void)
 	struct pkvm_row rows[] = {{0x40600, 0x40, {1, 0, 0, 0, PKVM_USE_SHARED_POOL, 0}},
 				  {0x40100, 1, {0, 1, 1, 0x4040100, 0, 0}}};
 	struct pkvm_region regions[] = {{0, 0x40000, 0x800}, {1, 0x9000, 0x10}};
-	struct pkvm_layout layout = {39, 1, 0x40600, 0x40, regions, 2};
+	struct pkvm_layout layout = {39, 1, 0x40600, 0x40, regions, 2, 0};
 	struct pkvm_state kept = {runs,	   4, tables,	8,  frames, 56, k.slots, 64,
 				  &k.load, 0, k.guests, 64, &k.cpu, 1,	rows,	 2};
 	struct pkvm_page pages[8];
@@ -689,7 +689,7 @@ static int random_tables(long count)
 	struct pkvm_region regions[] = {{0, 0x40000, 0x800}};
 	struct pkvm_state kept = {0};
 	for (long i = 0; i < count; i++) {
-		struct pkvm_layout layout = {next() % 4 ? 39 : 48, 1, 0x40600, 0x40, regions, 1};
+		struct pkvm_layout layout = {next() % 4 ? 39 : 48, 1, 0x40600, 0x40, regions, 1, 0};
 		struct pkvm_run none;
 		kept = (struct pkvm_state){&none,
 					   0,
@@ -794,7 +794,7 @@ static int audit(long count)
 		1, 0, 98 * 512, {PKVM_LEAF, 0x100000, 0, PKVM_RW, PKVM_NORMAL, PKVM_OWNED}};
 	struct pkvm_row row = {0x40600, 100, {0, 0, 0, 0, PKVM_USE_SHARED_POOL, 0}};
 	struct pkvm_region regions[] = {{0, 0x40000, 0x800}};
-	struct pkvm_layout layout = {39, 1, 0x40600, 0x40, regions, 1};
+	struct pkvm_layout layout = {39, 1, 0x40600, 0x40, regions, 1, 0};
 	struct pkvm_frame none;
 	struct pkvm_state kept = {&run,	   1, tables,	100, &none,  0, k.slots, 64,
 				  &k.load, 0, k.guests, 64,  &k.cpu, 1, &row,	 1};
@@ -818,7 +818,7 @@ static int audit(long count)
 static int empty(void)
 {
 	struct pkvm_region memory = {PKVM_MEMORY, 0x40000, 0x800};
-	struct pkvm_layout layout = {39, 1, 0x40600, 0x40, &memory, 1};
+	struct pkvm_layout layout = {39, 1, 0x40600, 0x40, &memory, 1, 0};
 	struct pkvm_state none = {0};
 	struct pkvm_call call = {0, {PKVM_SHARE_HYP, {0x1000}}, {.refusal = PKVM_EINVALID}};
 	struct pkvm_refused refused;

@@ -127,7 +127,7 @@ static struct pkvm_region *regions;
 
 static struct pkvm_layout layout(void)
 {
-	struct pkvm_layout made = {39, 2, 0x40600, 0x40, NULL, 2};
+	struct pkvm_layout made = {39, 2, 0x40600, 0x40, NULL, 2, 0};
 	uint8_t how = byte();
 
 	if (how < 128) {

@@ -24,7 +24,7 @@ struct machine {
 };
 
 static const struct pkvm_region regions[] = {{PKVM_MEMORY, 0x40000, 0x800}};
-static struct pkvm_layout layout = {39, 3, 0x40600, 0x40, regions, 1};
+static struct pkvm_layout layout = {39, 3, 0x40600, 0x40, regions, 1, 0};
 static struct machine life;
 
 static struct pkvm_state state_of(const struct machine *m)

@@ -8,7 +8,7 @@ fn stop(why: &str) -> ! {
     process::exit(1);
 }
 
-/// The version in a header, as in its `#define PKVM_VERSION 0x200010000ull`: 2.1.0.
+/// The version in a header, as in its `#define PKVM_VERSION 0x300000000ull`: 3.0.0.
 fn version_in(header: &str) -> Option<String> {
     let line = header
         .lines()

@@ -32,6 +32,8 @@ pub struct PlainLayout<'a> {
     pub carve_first: u64,
     pub carve_count: u64,
     pub regions: &'a [PlainRegion],
+    /// What a hypervisor may choose, bit by bit. The judgement of a call reads it, and nothing else does.
+    pub freedoms: u64,
 }
 
 /// Why numbers are no layout. The first that is true is answered, in the order of the variants.

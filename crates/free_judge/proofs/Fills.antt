@@ -1,6 +1,6 @@
 -- States with free frames that no memory has.
-use Rattle.std.proofs.Common.{◌≡◌, ℕ, zero, suc, ◌<◌, ◌≤◌, ◌^◌, List, [], ◌∷◌, length, map, get_or, refl, ap, sym, ◌∙◌, subst, arith}
-use Rattle.std.specs.Prelude.{Bool, true, false, ◌==◌, ◌||◌, nat_lt, All, Option, Some, None, if◌then◌else◌}
+use Rattle.std.proofs.Common.{◌≡◌, ℕ, zero, suc, ◌<◌, ◌≤◌, ◌^◌, List, [], ◌∷◌, length, map, get_or, refl, ap, sym, ◌∙◌, arith}
+use Rattle.std.specs.Prelude.{Bool, true, false, ◌==◌, ◌||◌, nat_lt, if◌then◌else◌}
 use Rattle.std.proofs.lemmas.Bool.Decides.{nat_tests}
 use Rattle.std.proofs.lemmas.List.Elements.{All-head, All-tail}
 use mathlib.Core.Path.{fun_ext}
@@ -36,13 +36,28 @@ none-outside (f ∷ fs) g h less = or-none (f == g) (is_free fs g) (other f g (A
 
 -- a list of guests of which each is filled
 
-got-filled : (fs : List ℕ) (xs : List GhostGuest) (v : ℕ) → get_or (map (λ g. filled_guest false fs 0 (guest_in g)) xs) v no_guest ≡ record (bare_guest (get_or (map guest_in xs) v no_guest)) { free = if nat_lt v (length xs) then fs else [] }
-got-filled fs [] v = refl
-got-filled fs (x ∷ xs) zero = refl
-got-filled fs (x ∷ xs) (suc v) = got-filled fs xs v
+none-below : (v : ℕ) → nat_lt v 0 ≡ false
+none-below v = grind (arith, nat_tests)
+
+some-below : (n : ℕ) → nat_lt 0 (suc n) ≡ true
+some-below n = grind (arith, nat_tests)
+
+more-below : (v n : ℕ) → nat_lt (suc v) (suc n) ≡ nat_lt v n
+more-below v n = grind (arith, nat_tests)
+
+abbrev guest-free : List ℕ → Guest → Bool → Guest
+guest-free fs g b = record (bare_guest g) { free = if b then fs else [] }
+
+got-filled : (fs : List ℕ) (xs : List GhostGuest) (v : ℕ) → get_or (map (λ g. filled_guest false fs 0 (guest_in g)) xs) v no_guest ≡ guest-free fs (get_or (map guest_in xs) v no_guest) (nat_lt v (length xs))
+got-filled fs [] v = ap (guest-free fs no_guest) (sym (none-below v))
+got-filled fs (x ∷ xs) zero = filled-zero ∙ ap (guest-free fs (guest_in x)) (sym (some-below (length xs)))
+  where
+    filled-zero : filled_guest false fs 0 (guest_in x) ≡ guest-free fs (guest_in x) true
+    filled-zero = refl
+got-filled fs (x ∷ xs) (suc v) = got-filled fs xs v ∙ ap (guest-free fs (get_or (map guest_in xs) v no_guest)) (sym (more-below v (length xs)))
 
 pub guests-filled : (fs : List ℕ) (xs : List GhostGuest) → length xs ≡ 64 → ◌≡◌ {A = ℕ → Guest} (λ v. get_or (map (λ g. filled_guest false fs 0 (guest_in g)) xs) v no_guest) (λ v. filled_guest false fs v (get_or (map guest_in xs) v no_guest))
-guests-filled fs xs e = fun_ext (λ v. got-filled fs xs v ∙ ap (λ (n : ℕ). record (bare_guest (get_or (map guest_in xs) v no_guest)) { free = if nat_lt v n then fs else [] }) e)
+guests-filled fs xs e = fun_ext (λ v. got-filled fs xs v ∙ ap (λ (n : ℕ). guest-free fs (get_or (map guest_in xs) v no_guest) (nat_lt v n)) e)
 
 -- with no frame a filled state has none
 

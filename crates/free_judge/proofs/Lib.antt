@@ -1,3 +1,8 @@
 pub mod Fills
-pub mod Ample
+pub mod Amply
 pub mod Rooms
+pub mod Views
+pub mod Aborted
+pub mod Judged
+pub mod Lows
+pub mod Ready

@@ -1,6 +1,6 @@
 -- The slot of a step's guest is one of the 64, and each log that the step needs has room.
-use Rattle.std.proofs.Common.{◌≡◌, ℕ, zero, suc, ◌<◌, List, [], ◌∷◌, length, map, get_or, refl, ap, sym, ◌∙◌, subst, arith}
-use Rattle.std.specs.Prelude.{Bool, true, false, ◌==◌, ◌||◌, ◌&&◌, nat_lt, is_some, option_map, All, Option, Some, None, if◌then◌else◌}
+use Rattle.std.proofs.Common.{◌≡◌, ℕ, zero, suc, ◌<◌, List, [], ◌∷◌, length, map, get_or, refl, ap, arith}
+use Rattle.std.specs.Prelude.{Bool, true, false, ◌==◌, ◌||◌, ◌&&◌, is_some, option_map, All, Option, Some, None, if◌then◌else◌}
 use Rattle.std.proofs.lemmas.Bool.Decides.{nat_tests}
 use Rattle.std.proofs.lemmas.List.Elements.{All-head, All-tail}
 use Rattle.call_table.specs.declared.step.Step.{Step}
@@ -10,7 +10,7 @@ use Rattle.reference_model.specs.declared.changes.Loaded.{Loaded}
 use Rattle.reference_model.specs.declared.changes.Stage.{Stage}
 use Rattle.reference_model.specs.declared.changes.Stage.TheVariants.{Booked as booked, Closing as closing_vm, Dying as dying_vm}
 use Rattle.reference_model.specs.declared.changes.Ticket.{Ticket}
-use Rattle.reference_model.specs.model.Parts.{Names, has_stage, is_good_vm, loaded_slot, slot_of, ticket_slot, uses_shared, uses_vms}
+use Rattle.reference_model.specs.model.Parts.{Names, has_stage, is_good_vm, slot_of, ticket_slot, uses_shared, uses_vms}
 use Rattle.reference_model.specs.model.Rules.{guest_slot}
 use Rattle.reference_model.specs.model.State.{Cpu, Rooms, no_cpu}
 use Rattle.reference_model.specs.model.Step.{is_full}
@@ -82,11 +82,11 @@ four true b c d p q r s = cc
 
 pub has-room : (n : Names) (slot : Option ℕ) (cpu cpus : ℕ) (r : Rooms) → cpu < cpus → IsLowSlot slot → IsOpen cpus r → is_full n slot (rooms_of n slot cpu r) ≡ false
 unfolding is_full rooms_of
-has-room n slot cpu cpus r less low open = four _ _ _ _
-    (ap (λ (m : ℕ). m == 0) (open.cpu cpu less))
-    (some-room (uses_vms n) r.vms open.vms)
-    (some-room (uses_shared n slot) r.shared open.shared)
-    (guest-room slot r.guest low open.guest)
+has-room n slot cpu cpus r less low rooms = four _ _ _ _
+    (ap (λ (m : ℕ). m == 0) (rooms.cpu cpu less))
+    (some-room (uses_vms n) r.vms rooms.vms)
+    (some-room (uses_shared n slot) r.shared rooms.shared)
+    (guest-room slot r.guest low rooms.guest)
 
 pub each-one : (xs : List ℕ) (log v n : ℕ) → length xs ≡ n → All (λ m. m ≡ 1) xs → v < n → get_or xs v log ≡ 1
 each-one xs log v n e all less = go xs v all (omega arith)

@@ -1,10 +1,9 @@
 -- What the model says of a step where pools may hold any number of frames, and states that hold enough.
-use Rattle.std.specs.Prelude.{◌≡◌, ◌≢◌, ℕ, ◌+◌, ◌<◌, Bool, true, false, List, [], All, nat_lt, if◌then◌else◌}
+use Rattle.std.specs.Prelude.{◌≡◌, ℕ, ◌+◌, ◌<◌, Bool, true, false, List, [], All, nat_lt, if◌then◌else◌}
 use Rattle.call_table.specs.declared.reply.Reply.{Reply}
 use Rattle.call_table.specs.declared.step.Step.{Step}
 use Rattle.page_state.specs.declared.entry.Entry.{Entry}
 use Rattle.page_state.specs.Layouts.{Layout}
-use Rattle.reference_model.specs.declared.changes.Changes.{Changes}
 use Rattle.reference_model.specs.model.Rules.{names, guest_slot}
 use Rattle.reference_model.specs.model.State.{Contents, Guest, Rooms, Shared}
 use Rattle.reference_model.specs.model.Step.{rule_of, shared_need, guest_need}

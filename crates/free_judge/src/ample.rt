@@ -37,12 +37,7 @@ fn open(alloc: Global, state: Ghost) -> Result<Ghost, AllocError>
 }
 
 /// The state with these free frames in each pool that the step doesn't ask.
-fn filled(
-    alloc: Global,
-    state: &Ghost,
-    step: Step,
-    frames: &[u64],
-) -> Result<Ghost, AllocError>
+fn filled(alloc: Global, state: &Ghost, step: Step, frames: &[u64]) -> Result<Ghost, AllocError>
     requires { AreOutside frames.now }
     ensures contents { IfOk result (λ g. contents_in g ≡ filled_by (asks_pool_of step) frames.now (contents_in state.now)) }
     ensures layout { IfOk result (λ g. layout_of g.layout ≡ layout_of state.now.layout) }
@@ -55,12 +50,7 @@ fn filled(
 }
 
 /// That state, where each log has room for a call.
-fn ready(
-    alloc: Global,
-    state: &Ghost,
-    step: Step,
-    frames: &[u64],
-) -> Result<Ghost, AllocError>
+fn ready(alloc: Global, state: &Ghost, step: Step, frames: &[u64]) -> Result<Ghost, AllocError>
     requires { AreOutside frames.now }
     ensures contents { IfOk result (λ g. contents_in g ≡ filled_by (asks_pool_of step) frames.now (contents_in state.now)) }
     ensures layout { IfOk result (λ g. layout_of g.layout ≡ layout_of state.now.layout) }
@@ -86,6 +76,7 @@ fn attempted(
     ensures layout { IfOk result (λ o. IfSome o (λ r. layout_of r.1.layout ≡ layout_of state.now.layout)) }
     ensures short { IfOk result (λ o. o ≡ None → length frames.now < most_needed (layout_of state.now.layout) (contents_in state.now) cpu step) }
 {
+    let _ = state.lists().layout.map.regions();
     let before = ready(alloc, state, step, frames)?;
     let (reply, after) = predict_last(alloc, before, cpu, step)?;
     if reply == Reply::Refused(Refusal::NoPool) {
@@ -110,7 +101,7 @@ pub fn predict_amply(
     ensures layout { IfOk result (λ r. layout_of r.1.layout ≡ layout_of state.now.layout) }
 {
     let mut count: u64 = 0;
-    loop {
+    'tries: loop {
         count = count.saturating_add(16);
         let frames = equal_rooms(alloc, count, NO_FRAME)?;
         if let Some(told) = attempted(alloc, state, cpu, step, frames.as_slice())? {

@@ -62,11 +62,7 @@ fn strip(alloc: Global, shared: &mut Shared, frames: Vec<u64>)
 }
 
 /// The state without tables of the host and the hypervisor, and with these free frames in the shared pool.
-pub(crate) fn with_frames(
-    alloc: Global,
-    state: &Ghost,
-    frames: &[u64],
-) -> Result<Ghost, AllocError>
+pub(crate) fn with_frames(alloc: Global, state: &Ghost, frames: &[u64]) -> Result<Ghost, AllocError>
     ensures contents { IfOk result (λ g. contents_in g ≡ filled_by true frames.now (contents_in state.now)) }
     ensures layout { IfOk result (λ g. layout_of g.layout ≡ layout_of state.now.layout) }
 {

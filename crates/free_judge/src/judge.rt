@@ -1,7 +1,17 @@
 //! Judges a call up to what a hypervisor may choose.
+ghost use Rattle.std.specs.Prelude.{◌≡◌, ◌<◌, ◌↔◌, ◌⊎◌, None, IfOk, IfSome, false, true};
+ghost use Rattle.page_state.specs.EntryTests.{is_unmapped};
+ghost use Rattle.page_state.specs.LayoutView.{layout_of};
+ghost use Rattle.freedoms.specs.Freedoms.{Touches};
+ghost use Rattle.ghost_judge.specs.Judgements.{IsFirstOfState};
+ghost use Rattle.ghost_spec.specs.Kept.{HasNextGeneration};
+ghost use Rattle.ghost_spec.specs.States.{contents_in};
+ghost use Rattle.free_judge.specs.Asked.{asked_of};
+ghost use Rattle.free_judge.specs.Freely.{page_touched, AgreesBy, IsFirstBy, IsJudgedFreely, IsMissing, IsReady, IsToldFreely, IsUntouchedBy};
+
 use crate::ample::predict_amply;
 use crate::asked::asked;
-use crate::bare::bare;
+use crate::bare::without;
 use crate::same::{asks_pool, is_read, says, wants};
 use crate::view::viewed;
 use call_table::{Reply, Step};
@@ -14,9 +24,27 @@ use page_state::{Entry, Page};
 use std::alloc::{AllocError, Global};
 
 /// The page that a host touches by a call that was made.
-fn touched_page(step: Step, reply: Reply) -> Option<Page> {
+fn touched_page(step: Step, reply: Reply) -> Option<u64>
+    ensures { result ≡ page_touched step reply }
+{
     match (step, reply) {
-        (Step::HostAbort { page }, Reply::Done(_)) => Some(Page(page)),
+        (Step::HostAbort { page }, Reply::Done(_)) => Some(page),
+        _ => None,
+    }
+}
+
+/// The difference of a page that the host hasn't mapped.
+fn missing(page: u64, post: &Ghost, wanted: &Ghost) -> Option<Disagreement>
+    ensures none { (result ≡ None) ↔ (is_unmapped ((contents_in post.now).shared.host.map page) ≡ false) }
+    ensures told { IfSome result (IsMissing page (contents_in post.now) (contents_in wanted.now)) }
+{
+    match at(post.lists().shared.host.runs.as_slice(), Page(page)) {
+        Entry::Unmapped => Some(Disagreement::Map {
+            tree: TreeOf::Host,
+            page,
+            kept: Entry::Unmapped,
+            walked: at(wanted.lists().shared.host.runs.as_slice(), Page(page)),
+        }),
         _ => None,
     }
 }
@@ -28,20 +56,36 @@ fn untouched(
     reply: Reply,
     post: &Ghost,
     wanted: &Ghost,
-) -> Option<Disagreement> {
+) -> Option<Disagreement>
+    ensures none { (result ≡ None) ↔ (freedoms.lazy_host ≡ true → Touches step reply (contents_in post.now)) }
+    ensures told { IfSome result (IsUntouchedBy freedoms step reply (contents_in post.now) (contents_in wanted.now)) }
+{
     if !freedoms.lazy_host {
         return None;
     }
-    let page = touched_page(step, reply)?;
-    if at(post.lists().shared.host.runs.as_slice(), page) != Entry::Unmapped {
-        return None;
+    match touched_page(step, reply) {
+        Some(page) => missing(page, post, wanted),
+        None => None,
     }
-    Some(Disagreement::Map {
-        tree: TreeOf::Host,
-        page: page.0,
-        kept: Entry::Unmapped,
-        walked: at(wanted.lists().shared.host.runs.as_slice(), page),
-    })
+}
+
+/// The first difference from the state that is wanted, where the reply stands for the one that is told.
+fn in_state(
+    freedoms: Freedoms,
+    step: Step,
+    reply: Reply,
+    after: &Ghost,
+    wanted: &Ghost,
+    post: &Ghost,
+) -> Option<Disagreement>
+    ensures none { (result ≡ None) ↔ ((contents_in after.now ≡ contents_in wanted.now) × (freedoms.lazy_host ≡ true → Touches step reply (contents_in post.now))) }
+    ensures first { IfSome result (λ d. IsFirstOfState (contents_in after.now) (contents_in wanted.now) d ⊎ ((contents_in after.now ≡ contents_in wanted.now) × IsUntouchedBy freedoms step reply (contents_in post.now) (contents_in wanted.now) d)) }
+{
+    let found = differs(after, wanted);
+    if found.is_some() {
+        return found;
+    }
+    untouched(freedoms, step, reply, post, wanted)
 }
 
 /// The first difference from what is told, or from the state before where memory is wanted.
@@ -54,7 +98,10 @@ fn judge_seen(
     after: &Ghost,
     wanted: &Ghost,
     post: &Ghost,
-) -> Option<Disagreement> {
+) -> Option<Disagreement>
+    ensures none { (result ≡ None) ↔ AgreesBy freedoms step reply told (contents_in before.now) (contents_in after.now) (contents_in wanted.now) (contents_in post.now) }
+    ensures first { IfSome result (IsFirstBy freedoms step reply told (contents_in before.now) (contents_in after.now) (contents_in wanted.now) (contents_in post.now)) }
+{
     if wants(step, reply, told) {
         return differs(after, before);
     }
@@ -64,36 +111,59 @@ fn judge_seen(
             spec: told,
         });
     }
-    let found = differs(after, wanted);
-    if found.is_some() {
-        return found;
-    }
-    untouched(freedoms, step, reply, post, wanted)
+    in_state(freedoms, step, reply, after, wanted, post)
 }
 
-/// The state that the model steps from: for a step that reads the state itself, for one that asks a guest's pool with the pool that
-/// the rows say.
-fn stepped(
+/// The state that the model steps from: for a step that only reads the state itself, and for one that asks a guest's pool what the
+/// freedoms leave, with the pool that the rows say.
+fn ready(
     alloc: Global,
     freedoms: Freedoms,
     pre: &Ghost,
     cpu: u64,
     step: Step,
     reply: Reply,
-) -> Result<Ghost, AllocError> {
+) -> Result<Ghost, AllocError>
+    requires cpu { cpu < pre.now.layout.config.cpus }
+    ensures ready { IfOk result (λ g. IsReady freedoms (layout_of pre.now.layout) (contents_in pre.now) step (asked_of step (contents_in g))) }
+    ensures cpu { IfOk result (λ g. (contents_in g).cpu ≡ (contents_in pre.now).cpu) }
+    ensures layout { IfOk result (λ g. layout_of g.layout ≡ layout_of pre.now.layout) }
+{
     if is_read(step) {
-        return bare(alloc, pre, 0);
+        let bare = without(alloc, pre)?;
+        return Ok(bare);
     }
-    let seen = viewed(alloc, freedoms, pre)?;
+    let seen = viewed(alloc, freedoms, &pre.lists().layout, pre)?;
     if asks_pool(step) {
-        return asked(alloc, seen, cpu, step, reply);
+        let asked = asked(alloc, seen, cpu, step, reply)?;
+        return Ok(asked);
     }
     Ok(seen)
 }
 
+/// The reply that the model gives to a step of a CPU on what the freedoms leave of a state, and the state after it, but for tables and
+/// free frames. Of a call that was made and names a frame of a guest's pool, that frame is given where the rows say it is the pool's.
+pub fn told_freely(
+    alloc: Global,
+    freedoms: Freedoms,
+    pre: &Ghost,
+    cpu: u64,
+    step: Step,
+    reply: Reply,
+) -> Result<(Reply, Ghost), AllocError>
+    requires cpu { cpu < pre.now.layout.config.cpus }
+    requires generation { HasNextGeneration ((contents_in pre.now).cpu cpu).ticket step }
+    ensures told { IfOk result (λ r. IsToldFreely freedoms (layout_of pre.now.layout) (contents_in pre.now) cpu step r.0 (contents_in r.1)) }
+{
+    let ready = ready(alloc, freedoms, pre, cpu, step, reply)?;
+    let told = predict_amply(alloc, &ready, cpu, step)?;
+    Ok(told)
+}
+
 /// Judges a call of a CPU by the state before it, its reply and the state after it, up to the freedoms and the hypervisor's own
 /// tables and free frames: none where some states that differ from these in that alone are a step of the model with such a reply.
-/// Else the first difference of what the freedoms leave. Logs aren't asked. Err where memory is refused to the judge.
+/// Else the first difference of what the freedoms leave. The layout is that of the state before. Logs aren't asked. Err where memory
+/// is refused to the judge.
 pub fn judge_freely(
     alloc: Global,
     freedoms: Freedoms,
@@ -102,13 +172,15 @@ pub fn judge_freely(
     step: Step,
     reply: &Reply,
     post: &Ghost,
-) -> Result<Option<Disagreement>, AllocError> {
-    let ready = stepped(alloc, freedoms, pre, cpu, step, *reply)?;
-    let (told, made) = predict_amply(alloc, &ready, cpu, step)?;
-    let wanted = viewed(alloc, freedoms, &made)?;
-    let before = viewed(alloc, freedoms, pre)?;
-    let after = viewed(alloc, freedoms, post)?;
-    Ok(judge_seen(
-        freedoms, step, *reply, told, &before, &after, &wanted, post,
-    ))
+) -> Result<Option<Disagreement>, AllocError>
+    requires cpu { cpu < pre.now.layout.config.cpus }
+    requires generation { HasNextGeneration ((contents_in pre.now).cpu cpu).ticket step }
+    ensures { IfOk result (IsJudgedFreely freedoms (layout_of pre.now.layout) (contents_in pre.now) cpu step reply.now (contents_in post.now)) }
+{
+    let layout = &pre.lists().layout;
+    let (told, made) = told_freely(alloc, freedoms, pre, cpu, step, *reply)?;
+    let wanted = viewed(alloc, freedoms, layout, &made)?;
+    let before = viewed(alloc, freedoms, layout, pre)?;
+    let after = viewed(alloc, freedoms, layout, post)?;
+    Ok(judge_seen(freedoms, step, *reply, told, &before, &after, &wanted, post))
 }

@@ -59,22 +59,18 @@ fn seen_runs(
     }
 }
 
-/// The state, as far as the freedoms leave it to the model.
+/// The state, as far as the freedoms leave it to the model on the layout.
 pub(crate) fn viewed(
     alloc: Global,
     freedoms: Freedoms,
+    layout: &Layout,
     state: &Ghost,
 ) -> Result<Ghost, AllocError>
-    ensures contents { IfOk result (λ g. contents_in g ≡ view freedoms (layout_of state.now.layout) (contents_in state.now)) }
+    ensures contents { IfOk result (λ g. contents_in g ≡ view freedoms (layout_of layout.now) (contents_in state.now)) }
     ensures layout { IfOk result (λ g. layout_of g.layout ≡ layout_of state.now.layout) }
 {
     let lists = state.lists();
-    let runs = seen_runs(
-        alloc,
-        freedoms,
-        &lists.layout,
-        lists.shared.host.runs.as_slice(),
-    )?;
+    let runs = seen_runs(alloc, freedoms, layout, lists.shared.host.runs.as_slice())?;
     let mut seen = without(alloc, state)?.into_lists();
     seen.shared.host.runs = runs;
     Ok(Ghost::of_kept(seen))

@@ -1,5 +1,6 @@
 //! What is told of bugs, and what is left to a hypervisor.
 use crate::walks::read;
+use call_table::{Refusal, Reply, Value};
 use free_judge::judge::judge_freely;
 use freedoms::Freedoms;
 use ghost_judge::text::Judgement;
@@ -10,7 +11,6 @@ use page_state::{Entry, Frame, Kind, Owner, Page, PageRange, Prot, Row, State, U
 use std::alloc::Global;
 use std::process::Abort;
 use std::test::Fail;
-use call_table::{Refusal, Reply, Value};
 
 const BEGIN: &str = "memory 0x40000 0x800
 device 0x9000 0x400
@@ -294,12 +294,12 @@ fn frames_of_pools(rt: HostRuntime) -> Result<(), Fail> {
     );
     assert_eq!(rt;
         d.as_str(),
-        "disagree reply said ok frame 0x40410 spec ok frame 0x40200"
+        "disagree reply said ok frame 0x40410 spec ok frame 0x40201"
     );
     let d = told(&rt, alloc, TABLES, one.as_str(), Change::Says(PERM));
     assert_eq!(rt;
         d.as_str(),
-        "disagree reply said perm spec ok frame 0x40200"
+        "disagree reply said perm spec ok frame 0x40201"
     );
     let early = "0 vcpu_put\n0 teardown 0.1\n0 mark_dying\n0 reclaim_pool 0.1\n";
     let d = told(&rt, alloc, TABLES, early, Change::Says(PERM));

@@ -1,7 +1,8 @@
 //! A hypervisor that isn't the model: it takes the highest free frame, folds no table, and may be lazy.
 use crate::walks::Call;
-use ghost_spec::lists::GhostLists;
+use call_table::{Refusal, Reply, Step};
 use free_judge::ample::predict_amply;
+use ghost_spec::lists::GhostLists;
 use ghost_spec::parts::GhostPhase;
 use ghost_spec::state::Ghost;
 use ghost_trees::blocks::{Block, is_one_word};
@@ -10,7 +11,6 @@ use ghost_trees::tree::{Table, Tree, table_at};
 use page_state::{Entry, Kind, Page, PageRange, Prot, Run, State, pages_under};
 use std::alloc::Global;
 use std::process::Abort;
-use call_table::{Refusal, Reply, Step};
 
 /// What it does its own way.
 #[derive(Clone, Copy)]

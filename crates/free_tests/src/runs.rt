@@ -1,6 +1,7 @@
 //! Random runs: of the model, and of hypervisors of another manner.
 use crate::real::{Manner, act};
 use crate::walks::read;
+use call_table::Reply;
 use free_judge::judge::judge_freely;
 use freedoms::Freedoms;
 use ghost_judge::judge::judge;
@@ -9,8 +10,6 @@ use ghost_spec::state::{Ghost, predict};
 use std::alloc::Global;
 use std::process::Abort;
 use std::test::Fail;
-use call_table::Reply;
-
 use trace_generate::{Options, generate};
 use trace_reader::Silent;
 
@@ -107,25 +106,9 @@ fn the_model_is_judged_to_agree(rt: HostRuntime) -> Result<(), Fail> {
         let (mut state, calls) = read(&rt, alloc, text.as_str());
         for call in calls {
             let (reply, after) = predict(alloc, &state, call.cpu, call.step)?;
+            agrees(&rt, alloc, ALL, &state, call.cpu, call.step, reply, &after);
             agrees(
-                &rt,
-                alloc,
-                ALL,
-                &state,
-                call.cpu,
-                call.step,
-                reply,
-                &after,
-            );
-            agrees(
-                &rt,
-                alloc,
-                TABLES,
-                &state,
-                call.cpu,
-                call.step,
-                reply,
-                &after,
+                &rt, alloc, TABLES, &state, call.cpu, call.step, reply, &after,
             );
             if let Reply::Done(_) = reply {
                 made += 1;

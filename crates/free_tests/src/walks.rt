@@ -1,10 +1,10 @@
 //! The machine of a trace, and its steps.
+use call_table::Step;
 use ghost_spec::start::start;
 use ghost_spec::state::Ghost;
 use page_state::{Geometry, Layout, MemoryMap};
 use std::alloc::Global;
 use std::process::Abort;
-use call_table::Step;
 use trace_lines::{Allows, Line, Settings, said};
 
 /// A step of a CPU.

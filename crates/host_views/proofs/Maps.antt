@@ -71,10 +71,10 @@ two : (m : Map) (a c most p : ℕ) → a + c ≤ most → (most ≤ p → m p �
 two m a c most p h none = by_test (is_within (a + c) (most - (a + c)) p)
     (λ x. rw (x, past a c most p x) refl)
     (λ x. by_test (is_within 0 a p)
-        (λ y. rw (x, y, before a c p y) refl)
-        (λ y. by_test (is_within a c p)
-            (λ z. rw (x, y, z) refl)
-            (λ z. rw (x, y, z) (none (beyond a c most p h x y z)))))
+    (λ y. rw (x, y, before a c p y) refl)
+    (λ y. by_test (is_within a c p)
+    (λ z. rw (x, y, z) refl)
+    (λ z. rw (x, y, z) (none (beyond a c most p h x y z)))))
 
 pub parted : (m : Map) (pages : PageRange) (most : ℕ) → pages.first.0 + pages.count ≤ most → ((p : ℕ) → most ≤ p → m p ≡ Unmapped) → update (update m 0 pages.first.0 Unmapped) (pages.first.0 + pages.count) (most - (pages.first.0 + pages.count)) Unmapped ≡ within_range pages m
 parted m pages most h none = fun_ext (λ p. two m pages.first.0 pages.count most p h (none p))

@@ -42,7 +42,10 @@ fn device_run(run: Run) -> Run
 {
     let target = match run.target {
         Target::Leaf {
-            frame, prot, state, ..
+            frame,
+            prot,
+            state,
+            ..
         } => Target::Leaf {
             frame,
             prot,
@@ -93,11 +96,7 @@ fn of_region(alloc: Global, runs: &[Run], region: Region) -> Result<Vec<Run>, Al
 }
 
 /// The coarsest list of runs for a host's map in which each leaf of a device's page is one of a device.
-pub fn of_devices(
-    alloc: Global,
-    memory: &MemoryMap,
-    runs: &[Run],
-) -> Result<Vec<Run>, AllocError>
+pub fn of_devices(alloc: Global, memory: &MemoryMap, runs: &[Run]) -> Result<Vec<Run>, AllocError>
     requires runs { AreSmall runs.now }
     requires coarsest { IsCoarsest runs.now }
     ensures map { IfOk result (λ v. map_of v.items ≡ (λ p. kind_in memory.now.regions p (map_of runs.now p))) }

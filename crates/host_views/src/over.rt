@@ -9,11 +9,7 @@ use page_state::{Entry, Run};
 use std::alloc::{AllocError, Global};
 
 /// The coarsest list of runs for what the second list maps, and else for what the first one does.
-pub(crate) fn overlaid(
-    alloc: Global,
-    under: Vec<Run>,
-    runs: &[Run],
-) -> Result<Vec<Run>, AllocError>
+pub(crate) fn overlaid(alloc: Global, under: Vec<Run>, runs: &[Run]) -> Result<Vec<Run>, AllocError>
     requires under { AreSmall under.items }
     requires coarsest { IsCoarsest under.items }
     requires runs { AreSmall runs.now }

@@ -42,11 +42,7 @@ fn own_runs(alloc: Global, memory: &MemoryMap) -> Result<Vec<Run>, AllocError>
 }
 
 /// The coarsest list of runs for a host's map in which each page that it hasn't mapped is as if it had touched it.
-pub fn touched(
-    alloc: Global,
-    memory: &MemoryMap,
-    runs: &[Run],
-) -> Result<Vec<Run>, AllocError>
+pub fn touched(alloc: Global, memory: &MemoryMap, runs: &[Run]) -> Result<Vec<Run>, AllocError>
     requires { AreSmall runs.now }
     ensures map { IfOk result (λ v. map_of v.items ≡ over (map_of runs.now) (own_in memory.now.regions)) }
     ensures coarsest { IfOk result (λ v. IsCoarsest v.items) }

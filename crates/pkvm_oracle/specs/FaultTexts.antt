@@ -12,6 +12,8 @@ text_of_table_fault n =
     else if n == 20 then codes "a table is below itself"
     else if n == 21 then codes "a table is reached at two levels"
     else if n == 22 then codes "a table is reached twice"
+    else if n == 23 then codes "a freedom that there is not"
+    else if n == 24 then codes "freedoms without that of own tables"
     else []
 
 -- faults of the lists of a state, and then those of tables

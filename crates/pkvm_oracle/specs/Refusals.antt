@@ -13,6 +13,10 @@ use Rattle.c_states.specs.declared.state.PlainFault.{PlainFault}
 use Rattle.c_states.specs.declared.state.PlainFault.TheVariants as faults
 use Rattle.c_states.specs.declared.state.PlainList.{PlainList}
 use Rattle.c_states.specs.declared.state.PlainList.TheVariants as lists
+use Rattle.c_judge.specs.declared.found.Unfound.{Unfound}
+use Rattle.c_judge.specs.declared.found.Unfound.TheVariants as unfound
+use Rattle.c_judge.specs.declared.wanted.FreedomsFault.{FreedomsFault}
+use Rattle.c_judge.specs.declared.wanted.FreedomsFault.TheVariants as freedoms
 use Rattle.pkvm_oracle.specs.declared.judged.PlainRefused.{PlainRefused}
 
 abbrev pub number_of_list : PlainList → ℕ
@@ -35,6 +39,11 @@ fault_of_layout (memories.Memory layouts.Overlap) = 5
 fault_of_layout (memories.Memory layouts.CarveOutside) = 6
 fault_of_layout (memories.Memory layouts.NoMemory) = 0
 fault_of_layout memories.NoMemory = 0
+
+-- of freedoms
+abbrev pub fault_of_freedoms : FreedomsFault → ℕ
+fault_of_freedoms freedoms.Unknown = 23
+fault_of_freedoms freedoms.WithoutOwnTables = 24
 
 -- of owner rows, which have two kinds of faults
 abbrev pub fault_of_rows : GhostFault → ℕ
@@ -90,3 +99,12 @@ status_by (unjudged.Before why) = status_by_made (negsuc 8) why
 status_by unjudged.Generation = negsuc 10
 status_by (unjudged.After why) = status_by_made (negsuc 9) why
 status_by unjudged.NoMemory = negsuc 11
+
+-- the same where the freedoms are tested first
+abbrev pub refused_by_found : Unfound → PlainRefused
+refused_by_found (unfound.Freedoms fault) = of_fault (fault_of_freedoms fault)
+refused_by_found (unfound.Call why) = refused_by why
+
+abbrev pub status_by_found : Unfound → ℤ
+status_by_found (unfound.Freedoms fault) = negsuc 7
+status_by_found (unfound.Call why) = status_by why

@@ -2,15 +2,16 @@
 ghost use Rattle.std.specs.Prelude.{◌≡◌, Err, length};
 ghost use Rattle.c_states.specs.Views.{lists_told};
 ghost use Rattle.pkvm_oracle.specs.Judged.{IsCallJudged, IsPredicted};
-ghost use Rattle.pkvm_oracle.specs.Refusals.{fault_of_layout, fault_of_lists, fault_of_rows, number_of_list, of_fault as of_fault_of, refused_by, refused_by_made, refused_by_state, status_by, status_by_made};
+ghost use Rattle.pkvm_oracle.specs.Refusals.{fault_of_freedoms, fault_of_layout, fault_of_lists, fault_of_rows, number_of_list, of_fault as of_fault_of, refused_by, refused_by_found, refused_by_made, refused_by_state, status_by, status_by_found, status_by_made};
 
 use crate::statuses::{
     BAD_AFTER, BAD_BEFORE, BAD_CPU, BAD_LAYOUT, BAD_REPLY, BAD_STEP, LAST_GENERATION, NO_MEMORY,
     NO_ROOM,
 };
+use c_judge::{FreedomsFault, Unfound, judged_by, write_found};
 use c_states::{
     PlainCall, PlainFault, PlainLayout, PlainLayoutFault, PlainList, PlainState, Unjudged, Unmade,
-    foretold, judged, write_judgement,
+    foretold,
 };
 use c_words::{PlainReply, PlainStep};
 use ghost_spec::filled::GhostFault;
@@ -174,8 +175,38 @@ pub(crate) fn unjudged_refused(why: Unjudged) -> PlainRefused
     }
 }
 
-/// Judges a call by the state before it, its reply and the state after it: 0 where both are those that the model says, or the
-/// call was refused for want of memory and changed nothing; 1 where they aren't, and the first `text_len` bytes of `text` tell
+/// The number of a fault of freedoms.
+fn freedoms_number(fault: FreedomsFault) -> u64
+    ensures { result ≡ fault_of_freedoms fault }
+{
+    match fault {
+        FreedomsFault::Unknown => 23,
+        FreedomsFault::WithoutOwnTables => 24,
+    }
+}
+
+/// The status where there is no judgement.
+fn unfound_status(why: Unfound) -> i32
+    ensures { result ≡ status_by_found why }
+{
+    match why {
+        Unfound::Freedoms(_) => BAD_LAYOUT,
+        Unfound::Call(why) => unjudged_status(why),
+    }
+}
+
+/// What is refused where there is no judgement.
+fn unfound_refused(why: Unfound) -> PlainRefused
+    ensures { result ≡ refused_by_found why }
+{
+    match why {
+        Unfound::Freedoms(fault) => of_fault(freedoms_number(fault)),
+        Unfound::Call(why) => unjudged_refused(why),
+    }
+}
+
+/// Judges a call by the state before it, its reply and the state after it, up to the layout's freedoms: 0 where both are those that the
+/// model says, or the call was refused for want of memory and changed nothing; 1 where they aren't, and the first `text_len` bytes of `text` tell
 /// the first difference. Below 0 nothing is written to `text`: -2 it has fewer than `text_len` bytes, which the difference needs;
 /// -5 to -11 something is refused, and `refused` says what; -12 memory was.
 #[unsafe(no_mangle)]
@@ -193,15 +224,15 @@ pub extern "C" fn pkvm_judge(
 {
     *text_len = 0;
     *refused = NOTHING;
-    let found = match judged(alloc, layout, before, call, after) {
+    let found = match judged_by(alloc, layout, before, call, after) {
         Ok(None) => return 0,
         Ok(Some(found)) => found,
         Err(why) => {
-            *refused = unjudged_refused(why);
-            return unjudged_status(why);
+            *refused = unfound_refused(why);
+            return unfound_status(why);
         }
     };
-    match write_judgement(alloc, found, text) {
+    match write_found(alloc, found, text) {
         Ok(count) => {
             *text_len = count;
             if count <= text.len() { 1 } else { NO_ROOM }

@@ -14,9 +14,9 @@ mod statuses;
 mod texts;
 mod words;
 
-/// The version of these functions and structs, 2.1.0: the first 32 bits change where a program that uses them has to, the next 16 where
+/// The version of these functions and structs, 3.0.0: the first 32 bits change where a program that uses them has to, the next 16 where
 /// something is added, and the last 16 else.
-pub const VERSION: u64 = 0x200010000;
+pub const VERSION: u64 = 0x300000000;
 
 /// 1, since the toolchain builds only what is proved. An unproved build is made of these sources with 0 here.
 const IS_PROVED: i32 = 1;
@@ -24,7 +24,7 @@ const IS_PROVED: i32 = 1;
 /// The version.
 #[unsafe(no_mangle)]
 pub extern "C" fn pkvm_version() -> u64
-    ensures { result ≡ 0x200010000 }
+    ensures { result ≡ 0x300000000 }
 {
     VERSION
 }

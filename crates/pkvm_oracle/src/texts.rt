@@ -17,6 +17,8 @@ fn table_fault_text(fault: u64) -> &'static str
         20 => "a table is below itself",
         21 => "a table is reached at two levels",
         22 => "a table is reached twice",
+        23 => "a freedom that there is not",
+        24 => "freedoms without that of own tables",
         _ => "",
     }
 }

@@ -29,7 +29,7 @@ use clap::{Arg, ArgAction, Command, Error};
 use std::alloc::{AllocError, Global};
 
 /// What `--version` shows.
-const VERSION: &str = "2.1.0 (rattle-kit-13f)";
+const VERSION: &str = "3.0.0 (rattle-kit-13f)";
 
 /// What usage texts call the program.
 const PROGRAM: &str = "./run";

@@ -184,6 +184,37 @@ pub enum Value {
 /// A call's reply.
 pub type Reply = Result<Value, Refusal>;
 
+/// What is said of a call.
+#[derive(Clone, Copy, Debug, PartialEq, Eq)]
+pub enum Said {
+    /// A reply that the model has.
+    Reply(Reply),
+    /// A refusal by a number, which needn't be one that the model has.
+    Refusal(u64),
+    /// The call stopped the machine.
+    Stopped,
+}
+
+impl From<Reply> for Said {
+    fn from(reply: Reply) -> Said {
+        Said::Reply(reply)
+    }
+}
+
+pub(crate) fn raw_said(said: Said) -> sys::pkvm_reply {
+    match said {
+        Said::Reply(reply) => raw_reply(reply),
+        Said::Refusal(refusal) => sys::pkvm_reply {
+            refusal,
+            ..NO_REPLY
+        },
+        Said::Stopped => sys::pkvm_reply {
+            refusal: sys::PKVM_STOPPED,
+            ..NO_REPLY
+        },
+    }
+}
+
 pub(crate) const NO_REPLY: sys::pkvm_reply = sys::pkvm_reply {
     refusal: 0,
     gives: sys::PKVM_GIVES_NOTHING,

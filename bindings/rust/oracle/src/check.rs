@@ -22,6 +22,7 @@ pub enum Trees {
 ///     cpus: 1,
 ///     carve: 0x40600..0x40640,
 ///     regions: vec![Region { kind: RegionKind::Memory, first: 0x40000, count: 0x800 }],
+///     freedoms: None,
 /// };
 /// // A free frame of the hypervisor's that the host may map.
 /// let free = Frame { pool: Party::Hyp, frame: 0x40600 };

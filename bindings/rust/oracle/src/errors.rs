@@ -60,6 +60,10 @@ faults! {
     TwoLevels = PKVM_FAULT_TWO_LEVELS,
     /// A table is reached twice.
     ReachedTwice = PKVM_FAULT_REACHED_TWICE,
+    /// The freedoms have a bit beyond the last. This crate hands none in.
+    Freedom = PKVM_FAULT_FREEDOM,
+    /// The freedoms have another bit without that of own tables. This crate hands none in.
+    NotOwnTables = PKVM_FAULT_NOT_OWN_TABLES,
 }
 
 impl Fault {

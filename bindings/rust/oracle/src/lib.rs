@@ -10,6 +10,7 @@
 //!     cpus: 1,
 //!     carve: 0x40600..0x40640,
 //!     regions: vec![Region { kind: RegionKind::Memory, first: 0x40000, count: 0x800 }],
+//!     freedoms: None,
 //! };
 //! let (before, after) = (State::default(), State::default());
 //! let share = Call::ShareHyp { frame: 0x1000 }; // which isn't memory
@@ -34,12 +35,12 @@ mod numbered;
 mod states;
 mod words;
 
-pub use calls::{Call, Refusal, Reply, Value, Vm, VmKind};
+pub use calls::{Call, Refusal, Reply, Said, Value, Vm, VmKind};
 pub use check::{check, Trees};
 pub use errors::{Error, Fault, List, Place, Refused};
 pub use states::{
-    Cpu, Frame, Guest, Layout, Load, Owner, Phase, Region, RegionKind, Row, Run, Slot, Stage,
-    Stand, State, Table, Ticket, Usage,
+    Cpu, Frame, Freedoms, Guest, Layout, Load, Owner, Phase, Region, RegionKind, Row, Run, Slot,
+    Stage, Stand, State, Table, Ticket, Usage,
 };
 pub use words::{Kind, Party, Rights, Sharing, Word};
 
@@ -218,8 +219,9 @@ fn verdict(
     }
 }
 
-/// Judges a call of a CPU by the state before it, its reply and the state after it. They agree where reply and state are the model's, or
-/// where the call was refused for want of memory and changed nothing.
+/// Judges a call of a CPU by the state before it, its reply and the state after it, up to the layout's freedoms. They agree where reply and
+/// state are the model's, or where the call was refused for want of memory and changed nothing. A refusal by a number that the model hasn't
+/// disagrees, but where any refusal may be said; so does a call that stopped the machine.
 ///
 /// # Errors
 ///
@@ -230,13 +232,13 @@ pub fn judge(
     before: &State,
     cpu: u64,
     call: Call,
-    reply: Reply,
+    reply: impl Into<Said>,
     after: &State,
 ) -> Result<Verdict, Error> {
     let call = sys::pkvm_call {
         cpu,
         step: call.raw(),
-        reply: calls::raw_reply(reply),
+        reply: calls::raw_said(reply.into()),
     };
     layout.with(|layout| {
         before.with(|before| {
@@ -271,6 +273,7 @@ pub fn judge(
 ///     cpus: 2,
 ///     carve: 0x40600..0x40640,
 ///     regions: vec![Region { kind: RegionKind::Memory, first: 0x40000, count: 0x800 }],
+///     freedoms: None,
 /// };
 /// let translate = Call::HostTranslate { page: 0x40000 };
 /// let reply = reply_to(&layout, &State::default(), 1, translate)?;
@@ -308,6 +311,7 @@ pub fn reply_to(layout: &Layout, before: &State, cpu: u64, call: Call) -> Result
 ///     cpus: 2,
 ///     carve: 0x40600..0x40640,
 ///     regions: vec![Region { kind: RegionKind::Memory, first: 0x40000, count: 0x800 }],
+///     freedoms: None,
 /// };
 /// let state = State::default();
 /// let reserve = Call::VmReserve { kind: VmKind::Protected, vcpus: 3 };
@@ -409,6 +413,7 @@ pub struct Root {
 ///     cpus: 1,
 ///     carve: 0x40600..0x40640,
 ///     regions: vec![Region { kind: RegionKind::Memory, first: 0x40000, count: 0x800 }],
+///     freedoms: None,
 /// };
 /// let mut words = [0; 512];
 /// words[3] = 4; // pages 0xc0000 to 0xfffff are kept for owner 1

@@ -27,6 +27,27 @@ pub struct Region {
     pub count: u64,
 }
 
+/// What a hypervisor with tables of its own may choose besides.
+#[derive(Clone, Copy, Debug, Default, PartialEq, Eq)]
+pub struct Freedoms {
+    /// Which pages of its own the host has mapped.
+    pub lazy_host: bool,
+    /// Of which kind of memory the host has a device's page.
+    pub any_kind: bool,
+    /// By which number it refuses what a test of a rule refuses.
+    pub any_refusal: bool,
+}
+
+impl Freedoms {
+    fn number(self) -> u64 {
+        let bit = |is: bool, bit: u64| if is { bit } else { 0 };
+        sys::PKVM_OWN_TABLES
+            | bit(self.lazy_host, sys::PKVM_LAZY_HOST)
+            | bit(self.any_kind, sys::PKVM_ANY_KIND)
+            | bit(self.any_refusal, sys::PKVM_ANY_REFUSAL)
+    }
+}
+
 /// What a hypervisor runs on.
 #[derive(Clone, Debug, PartialEq, Eq)]
 pub struct Layout {
@@ -38,6 +59,9 @@ pub struct Layout {
     pub carve: Range<u64>,
     /// The regions, at most 16.
     pub regions: Vec<Region>,
+    /// What [`judge`](crate::judge) leaves to a hypervisor that has tables and free frames of its own, which it doesn't read then; none: they
+    /// are compared too. Nothing else reads it.
+    pub freedoms: Option<Freedoms>,
 }
 
 impl Layout {
@@ -55,6 +79,7 @@ impl Layout {
             carve_count: self.carve.end.saturating_sub(self.carve.start),
             regions: regions.as_ptr(),
             regions_len: regions.len(),
+            freedoms: self.freedoms.map_or(0, Freedoms::number),
         })
     }
 }

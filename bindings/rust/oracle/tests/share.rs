@@ -1,8 +1,8 @@
 //! A page that the host shares with the hypervisor, from a state after boot.
 use pkvm_oracle::{
-    check, judge, predict, reply_to, Call, Error, Fault, Frame, Kind, Layout, List, Owner, Party,
-    Place, Refusal, Region, RegionKind, Rights, Row, Run, Sharing, State, Table, Trees, Usage,
-    Value, Verdict, Version, Word,
+    check, judge, predict, reply_to, Call, Error, Fault, Frame, Freedoms, Kind, Layout, List, Owner,
+    Party, Place, Refusal, Region, RegionKind, Rights, Row, Run, Said, Sharing, State, Table, Trees,
+    Usage, Value, Verdict, Version, Word,
 };
 
 const CARVE: u64 = 0x40600;
@@ -18,6 +18,7 @@ fn layout() -> Layout {
             region(RegionKind::Memory, 0x40000, 0x800),
             region(RegionKind::Registers, 0x9000, 0x10),
         ],
+        freedoms: None,
     }
 }
 
@@ -137,6 +138,39 @@ fn a_share_that_forgets_the_mark() {
 }
 
 #[test]
+fn what_a_hypervisor_may_choose() {
+    let share = Call::ShareHyp { frame: 0x40100 };
+    let (reply, mut after) = predict(&layout(), &booted(), 0, share).unwrap();
+    let mut before = booted();
+    for state in [&mut before, &mut after] {
+        state.tables.clear();
+        state.frames.clear();
+    }
+    let free = |any_refusal| Layout {
+        freedoms: Some(Freedoms {
+            any_refusal,
+            ..Freedoms::default()
+        }),
+        ..layout()
+    };
+    let agrees = Ok(Verdict::Agrees);
+    let differs = |told: &str| Ok(Verdict::Differs(told.into()));
+    let verdict = |layout: &Layout, call, said: Said, after| judge(layout, &before, 0, call, said, after);
+    assert_eq!(verdict(&free(false), share, reply.into(), &after), agrees);
+    assert_ne!(verdict(&layout(), share, reply.into(), &after), agrees);
+    let carved = Call::ShareHyp { frame: CARVE };
+    let refused = Said::Refusal(34);
+    assert_eq!(verdict(&free(true), carved, refused, &before), agrees);
+    let told = differs("disagree reply said 34 spec perm");
+    assert_eq!(verdict(&free(false), carved, refused, &before), told);
+    assert_eq!(verdict(&layout(), carved, refused, &before), told);
+    let told = differs("disagree reply said 34 spec ok");
+    assert_eq!(verdict(&free(true), share, refused, &before), told);
+    let told = differs("disagree reply said stopped spec ok");
+    assert_eq!(verdict(&free(true), share, Said::Stopped, &before), told);
+}
+
+#[test]
 fn what_is_refused() {
     let share = Call::ShareHyp { frame: 0x40100 };
     assert_eq!(reply_to(&layout(), &booted(), 2, share), Err(Error::Cpu));
@@ -178,10 +212,10 @@ fn each_number_is_of_one_variant() {
     }
     assert_eq!(
         (Fault::ALL.len(), Refusal::ALL.len(), List::ALL.len()),
-        (22, 8, 10)
+        (24, 8, 10)
     );
     assert_eq!(
-        (Fault::of(0), Fault::of(23), Refusal::of(0)),
+        (Fault::of(0), Fault::of(25), Refusal::of(0)),
         (None, None, None)
     );
 }

@@ -34,7 +34,7 @@ macro_rules! structs {
 }
 
 /// The version of the header that this crate stands for.
-pub const PKVM_VERSION: u64 = 0x2_0001_0000;
+pub const PKVM_VERSION: u64 = 0x3_0000_0000;
 
 numbers! {
     "Numbers of owners, trees and pools; a guest has `PKVM_GUEST` and its slot." u64:
@@ -71,6 +71,10 @@ numbers! {
     PKVM_MEMORY = 0, PKVM_REGISTERS = 1
 }
 numbers! {
+    "What a hypervisor may choose." u64:
+    PKVM_OWN_TABLES = 1, PKVM_LAZY_HOST = 2, PKVM_ANY_KIND = 4, PKVM_ANY_REFUSAL = 8
+}
+numbers! {
     "Stands of a slot." u64:
     PKVM_VACANT = 0, PKVM_RESERVED = 1, PKVM_OPEN = 2, PKVM_CLOSING = 3
 }
@@ -97,7 +101,8 @@ numbers! {
     PKVM_FAULT_ROWS_LARGE = 8, PKVM_FAULT_ROWS_SHARE = 9, PKVM_FAULT_TWICE = 10, PKVM_FAULT_LARGE = 11,
     PKVM_FAULT_RUNS_SHARE = 12, PKVM_FAULT_TABLE_TWICE = 13, PKVM_FAULT_FRAME_TWICE = 14,
     PKVM_FAULT_PAGE_LENGTH = 15, PKVM_FAULT_PAGE_TWICE = 16, PKVM_FAULT_ROOT_TREE = 17, PKVM_FAULT_ROOT_TWICE = 18,
-    PKVM_FAULT_ROOT_PAGE = 19, PKVM_FAULT_LOOP = 20, PKVM_FAULT_TWO_LEVELS = 21, PKVM_FAULT_REACHED_TWICE = 22
+    PKVM_FAULT_ROOT_PAGE = 19, PKVM_FAULT_LOOP = 20, PKVM_FAULT_TWO_LEVELS = 21, PKVM_FAULT_REACHED_TWICE = 22,
+    PKVM_FAULT_FREEDOM = 23, PKVM_FAULT_NOT_OWN_TABLES = 24
 }
 numbers! {
     "The lists in which the member at fault is." u64:
@@ -118,7 +123,7 @@ numbers! {
 numbers! {
     "Refusals." u64:
     PKVM_EPERM = 1, PKVM_ENOVM = 2, PKVM_ECONTENDED = 11, PKVM_ENOMEMORY = 12, PKVM_EBUSY = 16, PKVM_EINVALID = 22,
-    PKVM_ENOPOOL = 28, PKVM_ELOGFULL = 75
+    PKVM_ENOPOOL = 28, PKVM_ELOGFULL = 75, PKVM_STOPPED = 65536
 }
 numbers! {
     "What a call gives." u64:
@@ -140,7 +145,7 @@ structs! {
     /// What a hypervisor runs on.
     pkvm_layout {
         address_bits: u64, cpus: u64, carve_first: u64, carve_count: u64, regions: *const pkvm_region,
-        regions_len: usize
+        regions_len: usize, freedoms: u64
     }
     /// A run of pages of one tree.
     pkvm_run { tree: u64, page: u64, count: u64, word: pkvm_word }

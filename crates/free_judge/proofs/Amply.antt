@@ -1,20 +1,19 @@
 -- The reference step of a state with enough free frames that no memory has is the one where pools may hold any number of frames.
-use Rattle.std.proofs.Common.{◌≡◌, ◌≢◌, ℕ, ◌+◌, ◌-◌, ◌<◌, List, [], length, refl, ap, sym, ◌∙◌, subst, arith, inl, inr}
-use Rattle.std.specs.Prelude.{◌⊎◌, Bool, true, false, not, ◌||◌, ◌&&◌, nat_lt, Option, Some, None, if◌then◌else◌}
+use Rattle.std.proofs.Common.{◌≡◌, ◌≢◌, ℕ, ◌+◌, ◌<◌, List, [], length, refl, ap, sym, ◌∙◌, subst, arith, inl, inr}
+use Rattle.std.specs.Prelude.{◌⊎◌, Bool, true, false, not, ◌||◌, ◌&&◌, nat_lt, Option, Some, None, Ok, Err, if◌then◌else◌}
 use Rattle.std.proofs.lemmas.Bool.Decides.{nat_tests}
 use mathlib.Core.Path.{fun_ext}
 use Rattle.call_table.specs.declared.reply.Refusal.{Refusal}
-use Rattle.call_table.specs.declared.reply.Refusal.TheVariants.{NoPool}
+use Rattle.call_table.specs.declared.reply.Refusal.TheVariants.{Busy, Invalid, NoPool, NoVm, Perm}
 use Rattle.call_table.specs.declared.reply.Reply.{Reply}
 use Rattle.call_table.specs.declared.reply.Reply.TheVariants.{Done, Refused}
 use Rattle.call_table.specs.declared.step.Step.{Step}
 use Rattle.call_table.specs.declared.step.Step.TheVariants.{Topup, ReclaimPool, FinishGuest}
-use Rattle.page_state.proofs.Common.{and-both, both, same2}
+use Rattle.page_state.proofs.Common.{and-both, same2}
 use Rattle.page_state.specs.Layouts.{Layout, is_memory}
-use Rattle.page_state.specs.Tables.{Edit, keep, need, needs}
+use Rattle.page_state.specs.Tables.{need, needs}
 use Rattle.page_state.specs.Trees.{Tree}
 use Rattle.page_state.specs.declared.row.Row.{Row}
-use Rattle.reference_model.proofs.Answers.{told-err, told-ok}
 use Rattle.reference_model.proofs.ChangesUsed.{changes_used}
 use Rattle.reference_model.specs.declared.changes.Changes.{Changes}
 use Rattle.reference_model.specs.declared.changes.MapChange.{MapChange}
@@ -22,21 +21,22 @@ use Rattle.reference_model.specs.help.ChangeLaws.{OnlyUses}
 use Rattle.reference_model.specs.model.Changes.{edit_of}
 use Rattle.reference_model.specs.model.Decides.{decides}
 use Rattle.reference_model.specs.model.Owner.{is_free}
-use Rattle.reference_model.specs.model.Parts.{Names, lacks_slot, uses_shared}
+use Rattle.reference_model.specs.model.Parts.{lacks_slot, uses_shared}
 use Rattle.reference_model.specs.model.Rule.{Rule}
 use Rattle.reference_model.specs.model.Rules.{rule, names, guest_slot}
-use Rattle.reference_model.specs.model.State.{Shared, Guest, Contents, no_shared, no_guest}
-use Rattle.reference_model.specs.model.Step.{answer, changed, fails, first_test, guest_after, guest_need, is_short, is_touched, made, or_else, own_row, refusal, rule_of, shared_after, shared_need, with_rows}
-use Rattle.reference_model.specs.model.Used.{Used, used_of, put_back, guest_at}
+use Rattle.reference_model.specs.model.State.{Contents, Reference, Rooms, no_shared, no_guest}
+use Rattle.reference_model.specs.model.Step.{answer, changed, fails, first_test, foretell, guest_after, guest_need, is_full, is_short, is_touched, made, or_else, own_row, refusal, rule_of, shared_after, shared_need, stored, with_rows}
+use Rattle.reference_model.specs.model.Used.{Used, used_of, put_back, put_rooms, rooms_of, guest_at}
 use Rattle.freedoms.specs.Ample.{answer_amply, asks_pool, foretell_amply, rule_fails}
-use Rattle.freedoms.specs.OwnTables.{OwnTables, bare_used, without_tables}
+use Rattle.freedoms.specs.OwnTables.{bare_used, without_tables}
 use Rattle.freedoms.proofs.Bare.{changed-bare, put-bare, rule-bare}
-use Rattle.freedoms.proofs.Gone.{IsApart, IsClear, after-brings, guest_holds, still-apart}
-use Rattle.freedoms.proofs.OwnRows.{bare-apart, bare-clear, choose, nothing-clear, own-alike, used-apart, with_row}
+use Rattle.freedoms.proofs.Gone.{IsApart, after-brings, guest_holds, still-apart}
+use Rattle.freedoms.proofs.OwnRows.{bare-apart, bare-clear, choose, own-alike, used-apart, with_row}
 use Rattle.freedoms.proofs.Twins.{used-alike}
 use Rattle.ghost_spec.specs.Kept.{IsLowSlot}
-use Rattle.free_judge.specs.Asked.{asked_by, asked_guest, asked_of, filled_by, filled_guest, filled_shared, most_needed, used_asked, IsToldAmply}
-use Rattle.free_judge.proofs.Fills.{asked-alike, filled-alike}
+use Rattle.ghost_spec.proofs.Foretold.{foretold-answer}
+use Rattle.free_judge.specs.Asked.{asked_by, asked_guest, asked_of, filled_by, filled_guest, filled_shared, most_needed, IsToldAmply}
+use Rattle.free_judge.proofs.Fills.{filled-alike}
 
 choose-same : (b : Bool) (x y z w : Row) → z ≡ w → (b ≡ true → x ≡ y) → choose b x z ≡ choose b y w
 choose-same true x y z w e h = h refl
@@ -47,7 +47,7 @@ choose-same false x y z w e h = e
 no-pool : (r : Rule) (lacks : Bool) → first_test r lacks ≢ Some NoPool
 no-pool r lacks e = go (not r.valid.passes) (lacks || not r.has_vm.passes) (not r.ready.passes) (not r.allowed.passes) e
   where
-    go : (a b c d : Bool) → (if a then Some _ else if b then Some _ else if c then Some _ else if d then Some _ else None) ≡ Some NoPool → ⊥
+    go : (a b c d : Bool) → ◌≡◌ {A = Option Refusal} (if a then Some Invalid else if b then Some NoVm else if c then Some Busy else if d then Some Perm else None) (Some NoPool) → ⊥
     go true b c d e = cc
     go false true c d e = cc
     go false false true d e = cc
@@ -194,9 +194,112 @@ module _ (l : Layout) (fs : List ℕ) (outside : (f : ℕ) → is_memory l f ≡
     pub reply_is : reply ≡ (answer_amply l cpu slot step (z step)).0
     pub next : bare_used y ≡ bare_used (answer_amply l cpu slot step (z step)).1
 
-  amply-some : (step : Step) (why : Refusal) → rule_fails l cpu slot step (z step) ≡ Some why → answer_amply l cpu slot step (z step) ≡ (Refused why, z step)
+  abbrev told-for : Step → Option Refusal → Reply × Used
+  told-for step o = elim o [ Some why ↦ (Refused why, z step) | None ↦ (Done (rule_of l cpu slot step (z step)).changes.value, made l cpu slot step (z step)) ]
+
+  amply-by : (step : Step) (o : Option Refusal) → rule_fails l cpu slot step (z step) ≡ o → answer_amply l cpu slot step (z step) ≡ told-for step o
   unfolding answer_amply
-  amply-some step why e = ap (λ (o : Option Refusal). ◌by◌ step o) e
-    where
-      ◌by◌ : Step → Option Refusal → Reply × Used
-      ◌by◌ step o = elim o [ Some why ↦ (Refused why, z step) | None ↦ (Done (rule_of l cpu slot step (z step)).changes.value, made l cpu slot step (z step)) ]
+  amply-by step o e = ap (told-for step) e
+
+  abbrev given-for : Step → Option Refusal → Reply × Used
+  given-for step o = elim o [ Some why ↦ (Refused why, x step) | None ↦ (Done (rule_of l cpu slot step (x step)).changes.value, made l cpu slot step (x step)) ]
+
+  abbrev fails-for : Step → Option Refusal → Bool → Option Refusal
+  fails-for step o b = or_else o (if b then Some NoPool else None)
+
+  given-by : (step : Step) (o : Option Refusal) (b : Bool) → rule_fails l cpu slot step (x step) ≡ o → is_short l.depth (rule_of l cpu slot step (x step)).changes (x step) ≡ b → answer l cpu slot step (x step) ≡ given-for step (fails-for step o b)
+  unfolding answer fails refusal
+  given-by step o b p q = ap (given-for step) (same2 (fails-for step) p q)
+
+  first-is : (a b : Reply × Used) → a ≡ b → a.0 ≡ b.0
+  first-is a b e = ap (λ (p : Reply × Used). p.0) e
+
+  second-is : (a b : Reply × Used) → a ≡ b → a.1 ≡ b.1
+  second-is a b e = ap (λ (p : Reply × Used). p.1) e
+
+  answered-by : (step : Step) (o : Option Refusal) (b : Bool) → rule_fails l cpu slot step (x step) ≡ o → is_short l.depth (rule_of l cpu slot step (x step)).changes (x step) ≡ b
+      → (answer l cpu slot step (x step)).0 ≢ Refused NoPool → IsAnswer step (answer l cpu slot step (x step)).0 (answer l cpu slot step (x step)).1
+  answered-by step (Some why) b p q h =
+      let e = given-by step (Some why) b p q in
+      let t = amply-by step (Some why) (sym (fails-same step) ∙ p) in
+      record {
+        reply_is = first-is (answer l cpu slot step (x step)) (Refused why, x step) e ∙ sym (first-is (answer_amply l cpu slot step (z step)) (Refused why, z step) t);
+        next = ap bare_used (second-is (answer l cpu slot step (x step)) (Refused why, x step) e) ∙ bare step ∙ sym (ap bare_used (second-is (answer_amply l cpu slot step (z step)) (Refused why, z step) t));
+      }
+  answered-by step None true p q h = absurd (h (first-is (answer l cpu slot step (x step)) (Refused NoPool, x step) (given-by step None true p q)))
+  answered-by step None false p q h =
+      let e = given-by step None false p q in
+      let t = amply-by step None (sym (fails-same step) ∙ p) in
+      let v = ap (λ (r : Rule). Done r.changes.value) (rule-same step) in
+      record {
+        reply_is = first-is (answer l cpu slot step (x step)) (given-for step None) e ∙ v ∙ sym (first-is (answer_amply l cpu slot step (z step)) (told-for step None) t);
+        next = ap bare_used (second-is (answer l cpu slot step (x step)) (given-for step None) e) ∙ made-same step ∙ sym (ap bare_used (second-is (answer_amply l cpu slot step (z step)) (told-for step None) t));
+      }
+
+  pub answered : (step : Step) → (answer l cpu slot step (x step)).0 ≢ Refused NoPool → IsAnswer step (answer l cpu slot step (x step)).0 (answer l cpu slot step (x step)).1
+  answered step h = answered-by step (rule_fails l cpu slot step (x step)) (is_short l.depth (rule_of l cpu slot step (x step)).changes (x step)) refl refl h
+
+  refused-by : (step : Step) (o : Option Refusal) (b : Bool) → rule_fails l cpu slot step (x step) ≡ o → is_short l.depth (rule_of l cpu slot step (x step)).changes (x step) ≡ b
+      → (answer l cpu slot step (x step)).0 ≡ Refused NoPool → length fs < needed step
+  refused-by step (Some why) b p q h =
+      let e : Refused why ≡ Refused NoPool = sym (first-is (answer l cpu slot step (x step)) (Refused why, x step) (given-by step (Some why) b p q)) ∙ h in
+      let w : why ≡ NoPool = cc in
+      absurd (no-pool (rule_of l cpu slot step (x step)) (lacks_slot (names step) slot) (p ∙ ap Some w))
+  refused-by step None true p q h = too-few step p q
+  refused-by step None false p q h =
+      let bad : Done (rule_of l cpu slot step (x step)).changes.value ≡ Refused NoPool = sym (first-is (answer l cpu slot step (x step)) (given-for step None) (given-by step None false p q)) ∙ h in
+      cc
+
+  pub refused-few : (step : Step) → (answer l cpu slot step (x step)).0 ≡ Refused NoPool → length fs < needed step
+  refused-few step h = refused-by step (rule_fails l cpu slot step (x step)) (is_short l.depth (rule_of l cpu slot step (x step)).changes (x step)) refl refl h
+
+-- states
+
+module _ (l : Layout) (fs : List ℕ) (outside : (f : ℕ) → is_memory l f ≡ true → is_free fs f ≡ false) (s : Contents) (rooms : Rooms) (cpu : ℕ) (step : Step) (low : IsLowSlot (guest_slot (s.cpu cpu) step)) where
+  abbrev slot_at : Option ℕ
+  slot_at = guest_slot (s.cpu cpu) step
+
+  abbrev start : Reference
+  start = record { contents = filled_by (asks_pool step) fs s; rooms = rooms }
+
+  abbrev given : Reply × Used
+  given = answer l cpu slot_at step (used_of (names step) slot_at cpu start.contents)
+
+  module _ (room : is_full (names step) slot_at (rooms_of (names step) slot_at cpu rooms) ≡ false) where
+    foretold-is : foretell l start cpu step ≡ (given.0, record { contents = put_back (names step) slot_at cpu start.contents given.1; rooms = put_rooms (names step) slot_at cpu rooms (stored (rooms_of (names step) slot_at cpu rooms)) })
+    foretold-is = foretold-answer l start cpu step slot_at refl given.0 given.1 room refl
+
+    module _ (reply : Reply) (after : Reference) (is : ◌≡◌ {A = Reply × Reference} (reply, after) (foretell l start cpu step)) where
+      reply-given : reply ≡ given.0
+      reply-given = ap (λ (p : Reply × Reference). p.0) (is ∙ foretold-is)
+
+      after-given : after.contents ≡ put_back (names step) slot_at cpu start.contents given.1
+      after-given = ap (λ (p : Reply × Reference). p.1.contents) (is ∙ foretold-is)
+
+      pub told-amply : reply ≢ Refused NoPool → IsToldAmply l s cpu step reply after.contents
+      unfolding foretell_amply
+      told-amply h =
+          let a = answered l fs outside s cpu slot_at low step (λ e. h (reply-given ∙ e)) in
+          let n = names step in
+          record {
+            reply_is = reply-given ∙ a.reply_is;
+            contents_are = ap without_tables after-given ∙ put-bare n slot_at cpu start.contents given.1 ∙ same2 (put_back n slot_at cpu) (filled-alike (asks_pool step) fs s) a.next ∙ sym (put-bare n slot_at cpu (asked_of step s) (answer_amply l cpu slot_at step (used_of n slot_at cpu (asked_of step s))).1);
+          }
+
+      pub told-few : reply ≡ Refused NoPool → length fs < most_needed l s cpu step
+      told-few h = refused-few l fs outside s cpu slot_at low step (sym reply-given ∙ h)
+
+-- as the program has it
+
+module _ (l m : Layout) (fs : List ℕ) (outside : (f : ℕ) → is_memory l f ≡ true → is_free fs f ≡ false) (s : Contents) (cpu : ℕ) (step : Step) (low : IsLowSlot (guest_slot (s.cpu cpu) step)) (b : Reference) (layout : m ≡ l) (contents : b.contents ≡ filled_by (asks_pool step) fs s) (room : is_full (names step) (guest_slot (s.cpu cpu) step) (rooms_of (names step) (guest_slot (s.cpu cpu) step) cpu b.rooms) ≡ false) (reply : Reply) (after : Reference) (is : ◌≡◌ {A = Reply × Reference} (reply, after) (foretell m b cpu step)) where
+  abbrev begun : Contents → Reference
+  begun c = record { contents = c; rooms = b.rooms }
+
+  is-start : ◌≡◌ {A = Reply × Reference} (reply, after) (foretell l (begun (filled_by (asks_pool step) fs s)) cpu step)
+  is-start = is ∙ ap (λ (k : Layout). foretell k b cpu step) layout ∙ ap (λ (c : Contents). foretell l (begun c) cpu step) contents
+
+  pub told-at : reply ≢ Refused NoPool → IsToldAmply l s cpu step reply after.contents
+  told-at h = told-amply l fs outside s b.rooms cpu step low room reply after is-start h
+
+  pub few-at : reply ≡ Refused NoPool → length fs < most_needed l s cpu step
+  few-at h = told-few l fs outside s b.rooms cpu step low room reply after is-start h

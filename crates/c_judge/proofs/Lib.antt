@@ -1,0 +1,2 @@
+pub mod Callable
+pub mod Said

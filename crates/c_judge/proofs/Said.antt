@@ -1,0 +1,64 @@
+-- What is found of a call by what its reply says, and why there is none.
+use Rattle.std.proofs.Common.{◌≡◌, ℕ, refl, ap, sym, ◌∙◌, subst, inl, inr}
+use Rattle.std.specs.Prelude.{List, Option, Some, None, IsSome, Result, Ok, Err, IfOk, IfErr}
+use Rattle.call_table.specs.declared.step.Step.{Step}
+use Rattle.page_state.specs.Layouts.{Layout}
+use Rattle.page_state.specs.LayoutView.{layout_of}
+use Rattle.reference_model.specs.model.State.{Contents}
+use Rattle.freedoms.specs.declared.Freedoms.{Freedoms}
+use Rattle.ghost_spec.specs.declared.state.Ghost.{Ghost}
+use Rattle.ghost_spec.specs.States.{contents_in}
+use Rattle.c_words.specs.declared.step.PlainStep.{PlainStep}
+use Rattle.c_states.specs.declared.judge.PlainCall.{PlainCall}
+use Rattle.c_states.specs.declared.judge.Unjudged.{Unjudged}
+use Rattle.c_states.specs.declared.judge.Unjudged.TheVariants as unjudged
+use Rattle.c_states.specs.declared.layout.PlainLayout.{PlainLayout}
+use Rattle.c_states.specs.declared.layout.PlainRegion.{PlainRegion}
+use Rattle.c_states.specs.Judged.{CanCall, IsUnjudgedAfter, IsUntold}
+use Rattle.c_states.specs.Layouts.{layout_said}
+use Rattle.c_states.specs.States.{Lists, contents_said}
+use Rattle.c_judge.specs.declared.found.Found.{Found}
+use Rattle.c_judge.specs.declared.reply.Said.{Said}
+use Rattle.c_judge.specs.Found.{IsFoundFreely, IsFoundOf, IsUnfoundFreely}
+use Rattle.c_judge.specs.Ready.{IsCallable}
+use Rattle.c_judge.specs.Replies.{said_of}
+use Rattle.c_judge.proofs.Callable.{contents-are}
+
+some-said : (o : Option Said) (s : Said) → o ≡ Some s → IsSome o
+some-said (Some x) s e = tt
+some-said None s e = cc
+
+module _ (w : Freedoms) (l : PlainLayout) (regions : List PlainRegion) (before : Lists) (call : PlainCall) (after : Lists) (step : Step) (g : Ghost) (h : IsCallable l regions before call.cpu call.step step g) (says : Said) (says_is : said_of call.reply ≡ Some says) where
+  pub found-freely : (r : Result (Option Found) Unjudged) → IfOk r (IsFoundOf w (layout_of g.layout) l.cpus (contents_in g) call.cpu step says after) → IfOk r (IsFoundFreely w l regions before call after)
+  found-freely (Ok found) k = record {
+    step = step;
+    can = h.can;
+    says = says;
+    says_is = says_is;
+    found_is = subst (λ (s : Contents). IsFoundOf w (layout_said l regions) l.cpus s call.cpu step says after found) (contents-are l regions before call.cpu call.step step g h)
+        (subst (λ (m : Layout). IsFoundOf w m l.cpus (contents_in g) call.cpu step says after found) h.layout k);
+  }
+  found-freely (Err why) k = tt
+
+  after-fault : (why : Unjudged) → IsUnjudgedAfter l regions after why → IsUnfoundFreely l regions before call after why
+  after-fault unjudged.Step k = absurd k
+  after-fault unjudged.Reply k = absurd k
+  after-fault unjudged.Cpu k = absurd k
+  after-fault (unjudged.Before why) k = absurd k
+  after-fault unjudged.Generation k = absurd k
+  after-fault (unjudged.After why) k = (some-said (said_of call.reply) says says_is, (step, h.can), k)
+  after-fault unjudged.NoMemory k = tt
+
+  pub unfound-freely : (r : Result (Option Found) Unjudged) → IfErr r (IsUnjudgedAfter l regions after) → IfErr r (IsUnfoundFreely l regions before call after)
+  unfound-freely (Ok found) k = tt
+  unfound-freely (Err why) k = after-fault why k
+
+-- why a step that is known isn't told
+pub before-fault : (l : PlainLayout) (regions : List PlainRegion) (before : Lists) (call : PlainCall) (after : Lists) (says : Said) (why : Unjudged) → said_of call.reply ≡ Some says → IsUntold l regions before call.cpu call.step why → IsUnfoundFreely l regions before call after why
+before-fault l regions before call after says unjudged.Step e k = k
+before-fault l regions before call after says unjudged.Reply e k = absurd k
+before-fault l regions before call after says unjudged.Cpu e k = (some-said (said_of call.reply) says e, k)
+before-fault l regions before call after says (unjudged.Before why) e k = (some-said (said_of call.reply) says e, k)
+before-fault l regions before call after says unjudged.Generation e k = (some-said (said_of call.reply) says e, k)
+before-fault l regions before call after says (unjudged.After why) e k = absurd k
+before-fault l regions before call after says unjudged.NoMemory e k = tt

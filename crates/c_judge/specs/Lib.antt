@@ -1,0 +1,5 @@
+pub mod Found
+pub mod Freedoms
+pub mod Ready
+pub mod Replies
+pub mod Texts

@@ -1,0 +1,30 @@
+-- What a judgement up to the freedoms says of legal states and of steps of the model.
+use Rattle.std.specs.Prelude.{◌≡◌, ◌≢◌, ◌↔◌, ℕ, false, true, Option, None}
+use Rattle.call_table.specs.declared.reply.Call.{Call}
+use Rattle.call_table.specs.declared.reply.Refusal.TheVariants.{LogFull}
+use Rattle.call_table.specs.declared.reply.Reply.{Reply}
+use Rattle.call_table.specs.declared.reply.Reply.TheVariants.{Refused}
+use Rattle.call_table.specs.declared.step.Step.{Step}
+use Rattle.page_state.specs.Layouts.{Layout}
+use Rattle.reference_model.specs.help.Conditions.{IsUsable, Legal}
+use Rattle.reference_model.specs.model.State.{Contents, Reference}
+use Rattle.reference_model.specs.model.Step.{Steps}
+use Rattle.freedoms.specs.declared.Freedoms.{Freedoms}
+use Rattle.freedoms.specs.Ample.{asks_pool}
+use Rattle.freedoms.specs.AnyTrees.{LegalInAnyTrees}
+use Rattle.freedoms.specs.Freedoms.{Alike, JudgedWith, is_read}
+use Rattle.freedoms.specs.OwnTables.{OwnTables}
+use Rattle.ghost_judge.specs.declared.disagreement.Disagreement.{Disagreement}
+use Rattle.free_judge.specs.Freely.{IsJudgedFreely}
+
+-- where some legal state is like the one before, nothing is found just where the call is judged to agree. A read is of the state itself
+abbrev pub FoundWhere : Type 0
+FoundWhere = (w : Freedoms) (l : Layout) (before legal : Contents) (cpu : ℕ) (step : Step) (reply : Reply) (after : Contents) (found : Option Disagreement)
+    → IsUsable l → Alike w l before legal → (is_read step ≡ true → OwnTables before legal) → LegalInAnyTrees l legal → asks_pool step ≡ false
+    → IsJudgedFreely w l before cpu step reply after found → (found ≡ None) ↔ JudgedWith w l before cpu step reply after
+
+-- no false alarm: nothing is found of a step of the model from a legal state, whatever tables and free frames are told of the states before and after it
+abbrev pub NoFalseAlarm : Type 0
+NoFalseAlarm = (w : Freedoms) (l : Layout) (s t : Reference) (c : Call) (before after : Contents) (found : Option Disagreement)
+    → IsUsable l → Legal l s.contents → Steps l s c t → c.reply ≢ Refused LogFull → OwnTables before s.contents → OwnTables t.contents after → asks_pool c.step ≡ false
+    → IsJudgedFreely w l before c.cpu c.step c.reply after found → found ≡ None
