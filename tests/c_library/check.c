@@ -371,8 +371,10 @@ static int random_calls(long count)
 		struct pkvm_region good[] = {{0, 0x40000, 0x800}, {1, 0x9000, 0x10}};
 		struct pkvm_layout layout = {39, 2, 0x40600, 0x40, good, 2, 0};
 		if (next() % 8 == 0)
-			layout = (struct pkvm_layout){number(), number() % 100, number(),
-						      number(), regions,	0};
+			layout = (struct pkvm_layout){
+				number(), number() % 100, number(), number(), regions, 0, 0};
+		if (i % 4 == 0)
+			layout.freedoms = (uint64_t)i / 4 % 40;
 		struct pkvm_state before = lists(), after = lists();
 		if (next() % 8)
 			tame(&before);
@@ -408,13 +410,16 @@ static int random_calls(long count)
 			    (told < 0 && none.fault > PKVM_FAULT_CARVE_OUTSIDE))
 			return 4;
 		// A call that agrees has the reply that is told, but for want of memory.
-		if (status == PKVM_AGREES && call->reply.refusal != PKVM_ENOMEMORY &&
-		    reply.refusal != call->reply.refusal)
+		if (status == PKVM_AGREES && !layout.freedoms &&
+		    call->reply.refusal != PKVM_ENOMEMORY && reply.refusal != call->reply.refusal)
 			return 5;
+		layout.freedoms = 0;
 		if (predict(&layout, &before, call->cpu, &call->step, told))
 			return 6;
 		predicted += !told;
-		met[refused.fault < 15 ? refused.fault : 15]++;
+		bool is_of_freedoms = refused.fault == PKVM_FAULT_FREEDOM ||
+				      refused.fault == PKVM_FAULT_NOT_OWN_TABLES;
+		met[refused.fault < 15 ? refused.fault : is_of_freedoms ? 0 : 15]++;
 		free(regions);
 		clear(&before);
 		clear(&after);

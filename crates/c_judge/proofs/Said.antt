@@ -25,7 +25,7 @@ use Rattle.c_judge.specs.Replies.{said_of}
 use Rattle.c_judge.proofs.Callable.{contents-are}
 
 some-said : (o : Option Said) (s : Said) → o ≡ Some s → IsSome o
-some-said (Some x) s e = tt
+some-said (Some x) s e = refl
 some-said None s e = cc
 
 module _ (w : Freedoms) (l : PlainLayout) (regions : List PlainRegion) (before : Lists) (call : PlainCall) (after : Lists) (step : Step) (g : Ghost) (h : IsCallable l regions before call.cpu call.step step g) (says : Said) (says_is : said_of call.reply ≡ Some says) where

@@ -62,11 +62,11 @@ IsUnfoundExactly l regions before call after unjudged.Step = step_said call.step
 IsUnfoundExactly l regions before call after unjudged.Reply = IsSome (step_said call.step) × (said_of call.reply ≡ None)
 IsUnfoundExactly l regions before call after why = IsSome (said_of call.reply) × (IsUnjudged l regions before call after why ⊎ IsUntold l regions before call.cpu call.step why)
 
-module _ (w : Freedoms) (l : Layout) (cpus : ℕ) (before : Contents) (cpu : ℕ) (step : Step) where
-  -- the reply that the model gives, whatever the tables and free frames
-  abbrev pub IsToldOnly : Reply → Type 0
-  IsToldOnly reply = (after : Contents) × IsToldFreely w l before cpu step reply after
+-- the reply that the model gives, whatever the tables and free frames
+abbrev pub IsToldOnly : Freedoms → Layout → Contents → ℕ → Step → Reply → Type 0
+IsToldOnly w l before cpu step reply = (after : Contents) × IsToldFreely w l before cpu step reply after
 
+module _ (w : Freedoms) (l : Layout) (cpus : ℕ) (before : Contents) (cpu : ℕ) (step : Step) where
   -- the lists after the call make a state, and this is found of it
   pub record IsCompared (reply : Reply) (after : Lists) (found : Option Disagreement) : Type 0 where
     pub taken : AreTaken cpus after
@@ -77,8 +77,8 @@ module _ (w : Freedoms) (l : Layout) (cpus : ℕ) (before : Contents) (cpu : ℕ
   IsFoundOf (said.Known reply) after found = (o : Option Disagreement) × IsCompared reply after o × (found ≡ option_map differs o)
   IsFoundOf (said.Refusal n) after found =
       ((w.any_refusal ≡ true) × ((o : Option Disagreement) × IsCompared (Refused Contended) after o × (found ≡ option_map (renamed n) o)))
-      ⊎ ((w.any_refusal ≡ false) × ((spec : Reply) × IsToldOnly spec × (found ≡ Some (Refusal n spec))))
-  IsFoundOf said.Stopped after found = (spec : Reply) × IsToldOnly spec × (found ≡ Some (Stopped spec))
+      ⊎ ((w.any_refusal ≡ false) × ((spec : Reply) × IsToldOnly w l before cpu step spec × (found ≡ Some (Refusal n spec))))
+  IsFoundOf said.Stopped after found = (spec : Reply) × IsToldOnly w l before cpu step spec × (found ≡ Some (Stopped spec))
 
 -- judged up to the freedoms
 pub record IsFoundFreely (w : Freedoms) (l : PlainLayout) (regions : List PlainRegion) (before : Lists) (call : PlainCall) (after : Lists) (found : Option Found) : Type 0 where

@@ -17,6 +17,8 @@ use Rattle.ghost_judge.specs.declared.disagreement.Disagreement.{Disagreement}
 use Rattle.ghost_judge.specs.declared.disagreement.Disagreement.TheVariants.{Map as MapDiffers, Reply as ReplyDiffers}
 use Rattle.ghost_judge.specs.declared.disagreement.TreeOf.TheVariants.{Host}
 use Rattle.ghost_judge.specs.Judgements.{IsFirstOfState}
+use Rattle.ghost_spec.specs.declared.lists.GhostLists.{GhostLists}
+use Rattle.ghost_spec.specs.States.{contents_in}
 
 -- what a step is judged by: what the freedoms leave of the state before, and for one that only reads the state itself without tables and free frames
 abbrev pub stepped_from : Freedoms → Layout → Contents → Step → Contents
@@ -56,6 +58,14 @@ pub record IsUntouchedBy (w : Freedoms) (step : Step) (reply : Reply) (post want
   pub touched : page_touched step reply ≡ Some page
   pub missing : IsMissing page post wanted d
 
+-- the state is the one that is wanted, and a lazy host has the page that it touched
+abbrev pub IsWanted : Freedoms → Step → Reply → Contents → Contents → Contents → Type 0
+IsWanted w step reply after wanted post = (after ≡ wanted) × (w.lazy_host ≡ true → Touches step reply post)
+
+-- the first difference from the state that is wanted, or else that page
+abbrev pub IsFirstUnwanted : Freedoms → Step → Reply → Contents → Contents → Contents → Disagreement → Type 0
+IsFirstUnwanted w step reply after wanted post d = IsFirstOfState after wanted d ⊎ ((after ≡ wanted) × IsUntouchedBy w step reply post wanted d)
+
 -- agreement by what is seen of the states before and after and of the one that is wanted, and by the state after itself
 pub record AgreesBy (w : Freedoms) (step : Step) (reply told : Reply) (before after wanted post : Contents) : Type 0 where
   pub agrees : (SaysAs w told reply × (after ≡ wanted)) ⊎ (WantsAnyMemory step reply told × (after ≡ before))
@@ -79,6 +89,13 @@ IsFirstSeen w step reply told before after wanted post d =
 abbrev pub IsFirstBy : Freedoms → Step → Reply → Reply → Contents → Contents → Contents → Contents → Disagreement → Type 0
 IsFirstBy w step reply told before after wanted post (ReplyDiffers said spec) = IsOtherReply w step reply told said spec
 IsFirstBy w step reply told before after wanted post d = IsFirstSeen w step reply told before after wanted post d
+
+-- both of states on lists
+abbrev pub AgreesIn : Freedoms → Step → Reply → Reply → GhostLists → GhostLists → GhostLists → GhostLists → Type 0
+AgreesIn w step reply told before after wanted post = AgreesBy w step reply told (contents_in before) (contents_in after) (contents_in wanted) (contents_in post)
+
+abbrev pub IsFirstIn : Freedoms → Step → Reply → Reply → GhostLists → GhostLists → GhostLists → GhostLists → Disagreement → Type 0
+IsFirstIn w step reply told before after wanted post = IsFirstBy w step reply told (contents_in before) (contents_in after) (contents_in wanted) (contents_in post)
 
 -- judged up to the freedoms: nothing is found just where reply and state agree with what the model says, else the first difference of what the freedoms leave
 pub record IsJudgedFreely (w : Freedoms) (l : Layout) (before : Contents) (cpu : ℕ) (step : Step) (reply : Reply) (after : Contents) (found : Option Disagreement) : Type 0 where

@@ -1,13 +1,12 @@
 //! Judges a call up to what a hypervisor may choose.
-ghost use Rattle.std.specs.Prelude.{◌≡◌, ◌<◌, ◌↔◌, ◌⊎◌, None, IfOk, IfSome, false, true};
+ghost use Rattle.std.specs.Prelude.{◌≡◌, ◌<◌, ◌↔◌, None, IfOk, IfSome, false, true};
 ghost use Rattle.page_state.specs.EntryTests.{is_unmapped};
 ghost use Rattle.page_state.specs.LayoutView.{layout_of};
 ghost use Rattle.freedoms.specs.Freedoms.{Touches};
-ghost use Rattle.ghost_judge.specs.Judgements.{IsFirstOfState};
 ghost use Rattle.ghost_spec.specs.Kept.{HasNextGeneration};
 ghost use Rattle.ghost_spec.specs.States.{contents_in};
 ghost use Rattle.free_judge.specs.Asked.{asked_of};
-ghost use Rattle.free_judge.specs.Freely.{page_touched, AgreesBy, IsFirstBy, IsJudgedFreely, IsMissing, IsReady, IsToldFreely, IsUntouchedBy};
+ghost use Rattle.free_judge.specs.Freely.{page_touched, AgreesIn, IsFirstIn, IsFirstUnwanted, IsJudgedFreely, IsMissing, IsReady, IsToldFreely, IsUntouchedBy, IsWanted};
 
 use crate::ample::predict_amply;
 use crate::asked::asked;
@@ -78,8 +77,8 @@ fn in_state(
     wanted: &Ghost,
     post: &Ghost,
 ) -> Option<Disagreement>
-    ensures none { (result ≡ None) ↔ ((contents_in after.now ≡ contents_in wanted.now) × (freedoms.lazy_host ≡ true → Touches step reply (contents_in post.now))) }
-    ensures first { IfSome result (λ d. IsFirstOfState (contents_in after.now) (contents_in wanted.now) d ⊎ ((contents_in after.now ≡ contents_in wanted.now) × IsUntouchedBy freedoms step reply (contents_in post.now) (contents_in wanted.now) d)) }
+    ensures none { (result ≡ None) ↔ IsWanted freedoms step reply (contents_in after.now) (contents_in wanted.now) (contents_in post.now) }
+    ensures first { IfSome result (IsFirstUnwanted freedoms step reply (contents_in after.now) (contents_in wanted.now) (contents_in post.now)) }
 {
     let found = differs(after, wanted);
     if found.is_some() {
@@ -99,8 +98,8 @@ fn judge_seen(
     wanted: &Ghost,
     post: &Ghost,
 ) -> Option<Disagreement>
-    ensures none { (result ≡ None) ↔ AgreesBy freedoms step reply told (contents_in before.now) (contents_in after.now) (contents_in wanted.now) (contents_in post.now) }
-    ensures first { IfSome result (IsFirstBy freedoms step reply told (contents_in before.now) (contents_in after.now) (contents_in wanted.now) (contents_in post.now)) }
+    ensures none { (result ≡ None) ↔ AgreesIn freedoms step reply told before.now after.now wanted.now post.now }
+    ensures first { IfSome result (IsFirstIn freedoms step reply told before.now after.now wanted.now post.now) }
 {
     if wants(step, reply, told) {
         return differs(after, before);

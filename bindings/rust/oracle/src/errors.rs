@@ -95,6 +95,8 @@ impl Fault {
             Fault::Loop => "a table is below itself",
             Fault::TwoLevels => "a table is reached at two levels",
             Fault::ReachedTwice => "a table is reached twice",
+            Fault::Freedom => "a freedom that there is not",
+            Fault::NotOwnTables => "freedoms without that of own tables",
         }
     }
 }

@@ -1,8 +1,8 @@
 //! A page that the host shares with the hypervisor, from a state after boot.
 use pkvm_oracle::{
-    check, judge, predict, reply_to, Call, Error, Fault, Frame, Freedoms, Kind, Layout, List, Owner,
-    Party, Place, Refusal, Region, RegionKind, Rights, Row, Run, Said, Sharing, State, Table, Trees,
-    Usage, Value, Verdict, Version, Word,
+    check, judge, predict, reply_to, Call, Error, Fault, Frame, Freedoms, Kind, Layout, List,
+    Owner, Party, Place, Refusal, Region, RegionKind, Rights, Row, Run, Said, Sharing, State,
+    Table, Trees, Usage, Value, Verdict, Version, Word,
 };
 
 const CARVE: u64 = 0x40600;
@@ -155,7 +155,8 @@ fn what_a_hypervisor_may_choose() {
     };
     let agrees = Ok(Verdict::Agrees);
     let differs = |told: &str| Ok(Verdict::Differs(told.into()));
-    let verdict = |layout: &Layout, call, said: Said, after| judge(layout, &before, 0, call, said, after);
+    let verdict =
+        |layout: &Layout, call, said: Said, after| judge(layout, &before, 0, call, said, after);
     assert_eq!(verdict(&free(false), share, reply.into(), &after), agrees);
     assert_ne!(verdict(&layout(), share, reply.into(), &after), agrees);
     let carved = Call::ShareHyp { frame: CARVE };
