@@ -1,6 +1,6 @@
 -- A step that a CPU can make of a state in numbers, and what the model says of it.
-use Rattle.std.proofs.Common.{◌≡◌, ℕ, ◌<◌, refl, ap, sym, ◌∙◌, subst}
-use Rattle.std.specs.Prelude.{◌↔◌, Bool, true, false, not, IsTrue, List, Option, Some, None}
+use Rattle.std.proofs.Common.{◌≡◌, ℕ, ◌<◌, ap, sym, ◌∙◌, subst}
+use Rattle.std.specs.Prelude.{◌↔◌, Bool, true, false, not, IsTrue, List, Some}
 use Rattle.call_table.specs.declared.reply.Reply.{Reply}
 use Rattle.call_table.specs.declared.step.Step.{Step}
 use Rattle.page_state.proofs.Common.{same2}
@@ -16,7 +16,7 @@ use Rattle.ghost_spec.specs.States.{contents_in, ghost_state}
 use Rattle.c_states.specs.declared.layout.PlainLayout.{PlainLayout}
 use Rattle.c_states.specs.declared.layout.PlainRegion.{PlainRegion}
 use Rattle.c_states.specs.Faults.{AreTaken}
-use Rattle.c_states.specs.Judged.{told_said, CanCall, HasLastGeneration}
+use Rattle.c_states.specs.Judged.{told_said, HasLastGeneration}
 use Rattle.c_states.specs.Layouts.{layout_said, IsTakenLayout}
 use Rattle.c_states.specs.States.{Lists, contents_said, state_said}
 use Rattle.c_judge.specs.Ready.{IsCallable}

@@ -1,5 +1,5 @@
 -- What is found of a call by what its reply says, and why there is none.
-use Rattle.std.proofs.Common.{◌≡◌, ℕ, refl, ap, sym, ◌∙◌, subst, inl, inr}
+use Rattle.std.proofs.Common.{◌≡◌, refl, subst}
 use Rattle.std.specs.Prelude.{List, Option, Some, None, IsSome, Result, Ok, Err, IfOk, IfErr}
 use Rattle.call_table.specs.declared.step.Step.{Step}
 use Rattle.page_state.specs.Layouts.{Layout}
@@ -8,15 +8,14 @@ use Rattle.reference_model.specs.model.State.{Contents}
 use Rattle.freedoms.specs.declared.Freedoms.{Freedoms}
 use Rattle.ghost_spec.specs.declared.state.Ghost.{Ghost}
 use Rattle.ghost_spec.specs.States.{contents_in}
-use Rattle.c_words.specs.declared.step.PlainStep.{PlainStep}
 use Rattle.c_states.specs.declared.judge.PlainCall.{PlainCall}
 use Rattle.c_states.specs.declared.judge.Unjudged.{Unjudged}
 use Rattle.c_states.specs.declared.judge.Unjudged.TheVariants as unjudged
 use Rattle.c_states.specs.declared.layout.PlainLayout.{PlainLayout}
 use Rattle.c_states.specs.declared.layout.PlainRegion.{PlainRegion}
-use Rattle.c_states.specs.Judged.{CanCall, IsUnjudgedAfter, IsUntold}
+use Rattle.c_states.specs.Judged.{IsUnjudgedAfter, IsUntold}
 use Rattle.c_states.specs.Layouts.{layout_said}
-use Rattle.c_states.specs.States.{Lists, contents_said}
+use Rattle.c_states.specs.States.{Lists}
 use Rattle.c_judge.specs.declared.found.Found.{Found}
 use Rattle.c_judge.specs.declared.reply.Said.{Said}
 use Rattle.c_judge.specs.Found.{IsFoundFreely, IsFoundOf, IsUnfoundFreely}
