@@ -249,7 +249,7 @@ static void must_fit(int32_t status, size_t length, size_t room, const struct pk
 	must(status == PKVM_DISAGREES || status == PKVM_NO_ROOM || length == 0);
 	must((status == PKVM_BAD_LAYOUT || status == PKVM_BAD_BEFORE || status == PKVM_BAD_AFTER ||
 	      status == PKVM_BAD_TABLES) == (refused->fault != PKVM_FAULT_NONE));
-	must(refused->fault <= PKVM_FAULT_REACHED_TWICE && refused->list <= 65);
+	must(refused->fault <= PKVM_FAULT_NOT_OWN_TABLES && refused->list <= 65);
 }
 
 static void judge(void)
@@ -267,6 +267,7 @@ static void judge(void)
 	size_t room = byte(), length = 99;
 	uint8_t *text = block(room, 1);
 	struct pkvm_refused refused;
+	on.freedoms = byte() % 40;
 	int32_t status = pkvm_judge(&on, &before, &call, &after, text, room, &length, &refused);
 
 	must_fit(status, length, room, &refused);
