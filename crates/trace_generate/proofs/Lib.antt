@@ -1,5 +1,6 @@
 mod Lines
-mod Spaces
+mod Settled
 mod Spelled
 mod Walked
-mod Words
+pub mod Spaces
+pub mod Words

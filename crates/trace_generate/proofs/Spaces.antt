@@ -74,16 +74,21 @@ no_silence [] ws e = absurd (cc)
 no_silence (b ∷ bs) [] e = not_silent b e
 no_silence (b ∷ bs) (v ∷ vs) e = not_silent b e
 
--- a line of at most six words, the first of which begins with a digit, says what its words say
-pub said-spaced : (allows : Allows) (told : Told) (w : List ℕ) (ws : List (List ℕ)) → begins_with_digit w ≡ true → IsWord w → AreWords ws → length ws ≤ 5
+-- a line of at most six words, which isn't silent, says what its words say
+pub said-words : (allows : Allows) (told : Told) (w : List ℕ) (ws : List (List ℕ)) → is_silent (spaced w ws) ≡ false → IsWord w → AreWords ws → length ws ≤ 5
     → said allows told (spaced w ws) ≡ said_by_words allows told (w ∷ ws)
 unfolding said
-said-spaced allows told w ws e h hs few =
+said-words allows told w ws e h hs few =
     let long : nat_lt 256 (length (spaced w ws)) ≡ false = below (length (spaced w ws)) (omega (arith, short w ws h hs, few)) in
-    rw (long, no_stray_byte w ws h hs, no_silence w ws e, words-spaced w ws h hs, no_empty (w ∷ ws) (h, hs)) refl
+    rw (long, no_stray_byte w ws h hs, e, words-spaced w ws h hs, no_empty (w ∷ ws) (h, hs)) refl
   where
     below : (n : ℕ) → n ≤ 256 → nat_lt 256 n ≡ false
     below n h = grind (arith, nat_tests)
+
+-- so does one whose first word begins with a digit
+pub said-spaced : (allows : Allows) (told : Told) (w : List ℕ) (ws : List (List ℕ)) → begins_with_digit w ≡ true → IsWord w → AreWords ws → length ws ≤ 5
+    → said allows told (spaced w ws) ≡ said_by_words allows told (w ∷ ws)
+said-spaced allows told w ws e = said-words allows told w ws (no_silence w ws e)
 
 pub length-spaced : (w : List ℕ) (ws : List (List ℕ)) → IsWord w → AreWords ws → length ws ≤ 5 → length (spaced w ws) ≤ 256
 length-spaced w ws h hs few = omega (arith, short w ws h hs, few)

@@ -73,14 +73,14 @@ share_predicted : (l : Layout) (cpu : ℕ) (slot : Option ℕ) (f : ℕ) (x : Us
 unfolding predict answer
 share_predicted l cpu slot f x r e = either (is_full (names (ShareHyp f)) slot r) _ _ refl (answered (fails l cpu slot (ShareHyp f) x) x _ _ (share_fails l cpu slot f x e))
 
-share_refused : (l : Layout) (s : Reference) (cpu f : ℕ) → is_memory l f ≡ false → is_refused l s (record { cpu = cpu; step = ShareHyp f }) ≡ true
+pub share_refused : (l : Layout) (s : Reference) (cpu f : ℕ) → is_memory l f ≡ false → is_refused l s (record { cpu = cpu; step = ShareHyp f }) ≡ true
 unfolding foretell
 share_refused l s cpu f e =
     let step = ShareHyp f in
     let slot = guest_slot (s.contents.cpu cpu) step in
     share_predicted l cpu slot f (used_of (names step) slot cpu s.contents) (rooms_of (names step) slot cpu s.rooms) e
 
-no_memory : (l : Layout) → IsAccepted l.memory → is_memory l 0xffff_ffff_ffff_ffff ≡ false
+pub no_memory : (l : Layout) → IsAccepted l.memory → is_memory l 0xffff_ffff_ffff_ffff ≡ false
 no_memory l a = by_test (is_memory l 0xffff_ffff_ffff_ffff) (λ t. absurd (omega (arith, memory_below l.memory 0xffff_ffff_ffff_ffff a t))) (λ f. f)
 
 sure_numbers : (hostile : Bool) → IsIn64Bits (if hostile then ShareHyp 0xffff_ffff_ffff_ffff else OwnerOf 0x40000)

@@ -9,6 +9,7 @@ mod made;
 mod options;
 mod refusal;
 mod seen;
+mod suggest;
 #[cfg(test)]
 mod tests;
 mod walk;
@@ -17,3 +18,4 @@ mod wanting;
 pub use line::StepLine;
 pub use made::generate;
 pub use options::{GenerateFault, Options};
+pub use suggest::suggested;

@@ -4,11 +4,18 @@ use call_table::VmId;
 use ghost_spec::cpu::GhostCpu;
 use ghost_spec::lists::GhostLists;
 use ghost_spec::parts::{GhostGuest, GhostPhase, GhostSlot, GhostStand};
-use page_state::{Owner, Page, PageRange, Prot, Row, Run, Usage};
+use page_state::{Owner, Page, PageRange, Prot, RegionKind, Row, Run, Usage};
 use rand_pcg::Pcg32;
 
 /// How many slots are used at most.
 pub(crate) const SLOTS: u64 = 6;
+
+/// The row of a frame that isn't listed.
+const PLAIN: Row = Row {
+    owner: Owner(0),
+    lent: None,
+    usage: Usage::Plain,
+};
 
 /// How often a run is drawn before none is found.
 const DRAWS: usize = 6;
@@ -21,11 +28,72 @@ pub(crate) fn own_state(lists: &GhostLists, cpu: u64) -> GhostCpu {
     }
 }
 
-/// A run of owner rows. None where there is no memory.
+/// A run of owner rows, or a gap between them: memory whose rows aren't listed is the host's. None where there is no memory.
 pub(crate) fn picked_rows(lists: &GhostLists, chance: &mut Pcg32) -> Option<run_list::Run<Row>> {
     let runs = lists.shared.rows.runs();
-    let at = picked_place(chance, runs.len())?;
-    runs.get(at).copied()
+    let gaps = Gaps::before(lists, u64::MAX).count;
+    let at = picked_place(chance, runs.len().saturating_add(gaps as usize))?;
+    if at < runs.len() {
+        return runs.get(at).copied();
+    }
+    let number = at.saturating_sub(runs.len()) as u64;
+    let pages = Gaps::before(lists, number).next?;
+    Some(run_list::Run {
+        pages,
+        value: PLAIN,
+    })
+}
+
+/// Gaps between runs of owner rows, in memory.
+#[derive(Clone, Copy)]
+struct Gaps {
+    /// How many there are, up to a number.
+    count: u64,
+    /// The one behind these, if they are as many.
+    next: Option<PageRange>,
+}
+
+impl Gaps {
+    /// Those before the one of a number.
+    fn before(lists: &GhostLists, number: u64) -> Gaps {
+        let mut found = Gaps {
+            count: 0,
+            next: None,
+        };
+        for region in lists.layout.map.regions() {
+            if region.kind == RegionKind::Memory {
+                found.add_of(lists.shared.rows.runs(), region.pages, number);
+            }
+        }
+        found
+    }
+
+    /// Adds those of a region. The runs are in order.
+    fn add_of(&mut self, runs: &[run_list::Run<Row>], region: PageRange, number: u64) {
+        let end = region.first.0.saturating_add(region.count);
+        let mut from = region.first.0;
+        for run in runs {
+            let first = run.pages.first.0;
+            self.add(from, first.min(end), number);
+            from = from.max(first.saturating_add(run.pages.count));
+        }
+        self.add(from, end, number);
+    }
+
+    /// Adds the pages from one up to another, if there are any.
+    fn add(&mut self, from: u64, to: u64, number: u64) {
+        if from >= to || self.next.is_some() {
+            return;
+        }
+        if self.count == number {
+            self.next = Some(PageRange {
+                first: Page(from),
+                count: to.saturating_sub(from),
+            });
+        } else {
+            self.count = self.count.saturating_add(1);
+        }
+    }
 }
 
 /// A run of a guest's map. None where nothing is mapped.

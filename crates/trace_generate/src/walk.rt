@@ -24,7 +24,7 @@ use std::alloc::{AllocError, Global};
 use std::mem;
 
 /// How many calls are tried before a sure one is taken.
-const TRIES: u64 = 6;
+pub(crate) const TRIES: u64 = 6;
 
 /// The state at boot of the machine that options describe.
 pub(crate) fn booted(global: Global, steps: u64, options: Options) -> Result<Ghost, GenerateFault>
@@ -114,7 +114,7 @@ fn candidate(
 }
 
 /// A call of the walk, unless it isn't as wanted; then the state is as it was. Its CPU is drawn.
-fn tried(
+pub(crate) fn tried(
     global: Global,
     state: &mut Ghost,
     memory: PageRange,
@@ -126,6 +126,7 @@ fn tried(
     ensures none { result ≡ Ok None → state.new ≡ state.old }
     ensures drawn { IfOk result (λ o. IfSome o (λ c. c.cpu ≡ drawn chance.old state.old.layout.config.cpus)) }
     ensures call { IfOk result (λ o. IfSome o (IsCallOf (layout_of state.old.layout) hostile (ghost_state state.old))) }
+    ensures wanted { IfOk result (λ o. IfSome o (λ c. is_refused (layout_of state.old.layout) (ghost_state state.old) c ≡ hostile)) }
     ensures state { IfOk result (λ o. IfSome o (λ c. ghost_state state.new ≡ after_call (layout_of state.old.layout) (ghost_state state.old) c)) }
     ensures layout { OnOk result (layout_of state.new.layout ≡ layout_of state.old.layout) }
 {

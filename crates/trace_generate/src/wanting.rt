@@ -43,6 +43,24 @@ impl Made {
         release: false,
     };
 
+    /// Each as chance has it: what is wanted is then any of those that aren't flagged.
+    pub(crate) fn picked(chance: &mut Pcg32) -> Made {
+        Made {
+            unfund: below(chance, 2) == 0,
+            topup: below(chance, 2) == 0,
+            share_guest: below(chance, 2) == 0,
+            relax: below(chance, 2) == 0,
+            unshare_guest: below(chance, 2) == 0,
+            donate_guest: below(chance, 2) == 0,
+            share_host: below(chance, 2) == 0,
+            unshare_host: below(chance, 2) == 0,
+            reclaim_page: below(chance, 2) == 0,
+            reclaim_pool: below(chance, 2) == 0,
+            finish: below(chance, 2) == 0,
+            release: below(chance, 2) == 0,
+        }
+    }
+
     /// Notes a call.
     pub(crate) fn note(&mut self, step: Step) {
         match step {
