@@ -1,0 +1,3 @@
+mod LinesJoined
+mod Starts
+mod StepsSaid
