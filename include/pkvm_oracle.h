@@ -311,7 +311,10 @@ enum {
 	PKVM_FAULT_TWO_LEVELS = 21,    /* a table is reached at two levels, in one tree or in two */
 	PKVM_FAULT_REACHED_TWICE = 22, /* a table is reached twice */
 	PKVM_FAULT_FREEDOM = 23,       /* freedoms has a bit beyond PKVM_ANY_REFUSAL */
-	PKVM_FAULT_NOT_OWN_TABLES = 24 /* freedoms has another bit without PKVM_OWN_TABLES */
+	PKVM_FAULT_NOT_OWN_TABLES = 24, /* freedoms has another bit without PKVM_OWN_TABLES */
+	PKVM_FAULT_CPUS = 25,		/* the CPUs aren't 1 to 64; this and the next are of layouts
+					   that are to boot */
+	PKVM_FAULT_CARVE_SMALL = 26	/* the carve-out has fewer frames than boot needs tables */
 };
 
 /* The lists of a state, and those of an audit, by number. */
@@ -331,7 +334,7 @@ enum {
 
 /* Why something is refused, and the member of a list that is at fault: the first with an unknown
  * number, or that can't be there with an earlier one. PKVM_LIST_NONE where no member is told: of
- * the faults of a layout (1 to 6), of those of rows (8, 9), and of 11. */
+ * the faults of a layout (1 to 6, 25, 26), of those of rows (8, 9), and of 11. */
 struct pkvm_refused {
 	uint64_t fault; /* PKVM_FAULT_NONE where nothing of layout and states is refused */
 	uint64_t list, index;
@@ -526,6 +529,82 @@ int32_t pkvm_predict(const struct pkvm_layout *layout, const struct pkvm_state *
 		     uint64_t cpu, const struct pkvm_step *step, struct pkvm_reply *reply,
 		     struct pkvm_room *room, struct pkvm_sizes *sizes,
 		     struct pkvm_refused *refused);
+
+/* The state at boot: each CPU idle, no VM, the carve-out the hypervisor's, and all else the host's.
+ *
+ *   layout     what the hypervisor runs on, of 1 to 64 CPUs
+ *   room       its lists are written; its pointers and lengths stay. No list may share memory with
+ *              another one, or with what else is handed in
+ *   sizes      written: how many members each list has
+ *   refused    written: what of the layout is refused
+ *
+ * Answers:
+ *   0                  the first `sizes->x` members of each list `x` are the state, with the frames
+ *                      in which the model has the tables; all behind them stays
+ *   PKVM_BAD_LAYOUT    `refused` says why; in this and all that follow all lists stay
+ *   PKVM_NO_MEMORY     at any point
+ *   PKVM_NO_ROOM       a list has room for fewer members than `sizes` tells; in the errors above
+ *                      `sizes` is all 0 */
+int32_t pkvm_boot(const struct pkvm_layout *layout, struct pkvm_room *room,
+		  struct pkvm_sizes *sizes, struct pkvm_refused *refused);
+
+/* --- Random tests --- */
+
+/* A call that may come next, for tests by random calls. It is one of the 29, by a CPU of the
+ * layout, on pages and VMs that the state has. Nothing is known of the calls before it, and the
+ * same arguments give the same call: hand in another number each time.
+ *
+ *   layout     what the hypervisor runs on
+ *   state      the state that the call is to be made on
+ *   random     any number
+ *   hostile    how many of a hundred numbers give a call that the model refuses, 0 to 100; for all
+ *              others it makes the call
+ *   call       written: its CPU and its step; its reply stays
+ *   refused    written: what of the layout or the state is refused
+ *
+ * Answers:
+ *   0                  it is written
+ *   PKVM_BAD_NUMBER    `hostile` is over 100; in this and all that follow `call` stays
+ *   PKVM_BAD_CPU       the layout has none
+ *   PKVM_BAD_LAYOUT    `refused` says why
+ *   PKVM_BAD_BEFORE    the state is refused, and `refused` says why
+ *   PKVM_NO_MEMORY     at any point */
+int32_t pkvm_suggest(const struct pkvm_layout *layout, const struct pkvm_state *state,
+		     uint64_t random, uint64_t hostile, struct pkvm_call *call,
+		     struct pkvm_refused *refused);
+
+/* What a trace of a layout begins with: its settings and `boot`. Behind it come the lines of calls,
+ * and it can be replayed, explained, drawn and shrunk as any trace (docs/TRACES.md).
+ *
+ *   layout      what the hypervisor runs on, of 1 to 64 CPUs
+ *   text        written: no more than text_room bytes, and not ended by a 0
+ *   text_len    written: the number of bytes; 0 where no text is told
+ *   refused     written: what of the layout is refused
+ *
+ * Answers:
+ *   0                  the first `*text_len` bytes of `text` are the lines, each with its end
+ *   PKVM_BAD_LAYOUT    `refused` says why; in this and all that follow `text` stays
+ *   PKVM_NO_MEMORY     at any point
+ *   PKVM_NO_ROOM       the lines need `*text_len` bytes */
+int32_t pkvm_trace_start(const struct pkvm_layout *layout, uint8_t *text, size_t text_room,
+			 size_t *text_len, struct pkvm_refused *refused);
+
+/* The line of a trace that makes a call: its CPU, its name and its arguments, as `0 share_hyp
+ * 0x40100`. The reply isn't read.
+ *
+ *   layout      what the hypervisor runs on
+ *   call        the call
+ *   text        written: no more than text_room bytes, and not ended by a 0; 256 are enough
+ *   text_len    written: the number of bytes; 0 where no text is told
+ *
+ * Answers:
+ *   0                 the first `*text_len` bytes of `text` are the line, with its end
+ *   PKVM_BAD_STEP     in this and all that follow `text` stays
+ *   PKVM_BAD_CPU
+ *   PKVM_NO_MEMORY
+ *   PKVM_NO_ROOM      the line needs `*text_len` bytes */
+int32_t pkvm_trace_of(const struct pkvm_layout *layout, const struct pkvm_call *call, uint8_t *text,
+		      size_t text_room, size_t *text_len);
 
 /* --- Tables in memory --- */
 

@@ -877,6 +877,61 @@ static int empty(void)
 	return 0;
 }
 
+// What random tests are made of, on layouts and states that are mostly none.
+static int random_tests(long count)
+{
+	long suggested = 0;
+	for (long i = 0; i < count; i++) {
+		size_t regions_len = next() % 3;
+		struct pkvm_region *regions = numbers(regions_len, sizeof *regions);
+		if (regions_len && next() % 4)
+			regions[0] = (struct pkvm_region){PKVM_MEMORY, 0x40000, 0x800};
+		if (regions_len > 1 && next() % 4)
+			regions[1] = (struct pkvm_region){PKVM_REGISTERS, 0x9000, 0x10};
+		struct pkvm_layout layout = {next() % 8 ? 39 + 9 * (next() % 2) : number(),
+					     next() % 66,
+					     0x40600,
+					     next() % 4 ? 0x40 : number(),
+					     regions,
+					     regions_len};
+		struct pkvm_state state = next() % 2 ? lists() : (struct pkvm_state){0};
+		struct pkvm_call *call = numbers(1, sizeof *call), was = *call;
+		struct pkvm_room room = {0};
+		struct pkvm_sizes sizes;
+		struct pkvm_refused refused, other;
+		size_t text_room = next() % 300, length = 99, written = 99;
+		uint8_t *text = block(text_room);
+
+		int32_t boot = pkvm_boot(&layout, &room, &sizes, &refused);
+		int32_t start = pkvm_trace_start(&layout, text, text_room, &length, &other);
+		if ((boot == PKVM_NO_ROOM) != (sizes.slots == 64) || refused.fault != other.fault ||
+		    (boot == PKVM_BAD_LAYOUT) != (start == PKVM_BAD_LAYOUT) ||
+		    (boot == PKVM_BAD_LAYOUT) != (refused.fault != 0) ||
+		    (start == PKVM_NO_ROOM) != (length > text_room))
+			return 1;
+		if (!start && pkvm_replay(text, length, NULL, 0, &written) != PKVM_NO_ROOM)
+			return 2;
+		uint64_t hostile = next() % 120;
+		int32_t status = pkvm_suggest(&layout, &state, next(), hostile, call, &refused);
+		if ((status == PKVM_BAD_NUMBER) != (hostile > 100) || status > 0 ||
+		    (status && memcmp(call, &was, sizeof was)))
+			return 3;
+		if (!status && (call->cpu >= layout.cpus || call->step.call - 1 > 28 ||
+				pkvm_trace_of(&layout, call, text, text_room, &length) !=
+					(length > text_room ? PKVM_NO_ROOM : 0)))
+			return 4;
+		suggested += !status;
+		status = pkvm_trace_of(&layout, &was, text, text_room, &length);
+		if (status > 0 || (status && status != PKVM_NO_ROOM && length))
+			return 5;
+		free(text);
+		free(call);
+		free(regions);
+		clear(&state);
+	}
+	return suggested > count / 30 ? 0 : 6;
+}
+
 // Random byte strings for each function. 0, or what went wrong.
 static int random_all(long count)
 {
@@ -889,6 +944,8 @@ static int random_all(long count)
 		wrong += 30;
 	if (!wrong && (wrong = random_tables(count)))
 		wrong += 50;
+	if (!wrong && (wrong = random_tests(count)))
+		wrong += 70;
 	return wrong;
 }
 

@@ -249,7 +249,7 @@ static void must_fit(int32_t status, size_t length, size_t room, const struct pk
 	must(status == PKVM_DISAGREES || status == PKVM_NO_ROOM || length == 0);
 	must((status == PKVM_BAD_LAYOUT || status == PKVM_BAD_BEFORE || status == PKVM_BAD_AFTER ||
 	      status == PKVM_BAD_TABLES) == (refused->fault != PKVM_FAULT_NONE));
-	must(refused->fault <= PKVM_FAULT_NOT_OWN_TABLES && refused->list <= 65);
+	must(refused->fault <= PKVM_FAULT_CARVE_SMALL && refused->list <= 65);
 }
 
 static void judge(void)
@@ -394,7 +394,7 @@ static void check(void)
 	int32_t status = pkvm_check(&on, &told, byte() % 3, text, room, &length, &refused);
 
 	must_fit(status, length, room, &refused);
-	status = pkvm_fault_text(byte() % 26, text, room, &length);
+	status = pkvm_fault_text(byte() % 30, text, room, &length);
 	must(status == 0	      ? length > 0 && length <= room
 	     : status == PKVM_NO_ROOM ? length > room
 				      : status == PKVM_BAD_NUMBER && length == 0);
@@ -403,9 +403,54 @@ static void check(void)
 	free(regions);
 }
 
+// What random tests are made of: a suggested call is the model's, and its line is one that can be
+// replayed.
+static void random_tests(void)
+{
+	struct pkvm_layout on = layout();
+	struct pkvm_state now = state();
+	uint64_t random = wide(), hostile = byte() % 104;
+	struct pkvm_call call = {byte() % 3, step(), {.refusal = number()}}, was = call;
+	struct pkvm_room room = {0};
+	struct pkvm_sizes sizes;
+	struct pkvm_refused refused, other;
+	size_t text_room = byte() * 2u, length = 99, written = 99;
+	uint8_t *text = block(text_room, 1), line[256];
+	int32_t boot = pkvm_boot(&on, &room, &sizes, &refused);
+	int32_t start = pkvm_trace_start(&on, text, text_room, &length, &other);
+
+	must(boot == PKVM_BAD_LAYOUT || (boot == PKVM_NO_ROOM && sizes.slots == 64));
+	must((boot == PKVM_BAD_LAYOUT) == (start == PKVM_BAD_LAYOUT));
+	must(refused.fault == other.fault && (boot == PKVM_BAD_LAYOUT) == (refused.fault != 0));
+	must(start == 0		     ? length <= text_room
+	     : start == PKVM_NO_ROOM ? length > text_room
+				     : !length);
+	if (!start)
+		must(pkvm_replay(text, length, NULL, 0, &written) == PKVM_NO_ROOM);
+	int32_t status = pkvm_suggest(&on, &now, random, hostile, &call, &refused);
+	must(status == 0 || !memcmp(&call, &was, sizeof call));
+	must((status == PKVM_BAD_NUMBER) == (hostile > 100));
+	must(!memcmp(&call.reply, &was.reply, sizeof was.reply));
+	if (!status) {
+		struct pkvm_reply reply;
+		must(call.cpu < on.cpus && call.step.call - 1 < 29);
+		must(pkvm_predict_reply(&on, &now, call.cpu, &call.step, &reply, &refused) == 0);
+		must(!reply.refusal || hostile > 0);
+		must(reply.refusal || hostile < 100);
+		must(pkvm_trace_of(&on, &call, line, sizeof line, &length) == 0 && length > 0);
+	}
+	status = pkvm_trace_of(&on, &was, text, text_room, &length);
+	must(status == 0 ? length <= text_room
+			 : length == 0 || (status == PKVM_NO_ROOM && length > text_room));
+	free(text);
+	clear(&now);
+	free(regions);
+}
+
 int LLVMFuzzerTestOneInput(const uint8_t *data, size_t size)
 {
-	static void (*const each[])(void) = {words, traces, judge, predict, audit, check};
+	static void (*const each[])(void) = {words, traces, judge,	 predict,
+					     audit, check,  random_tests};
 
 	input = data;
 	left = size;

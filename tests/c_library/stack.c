@@ -68,6 +68,22 @@ WRAPPED(pkvm_predict,
 	 const struct pkvm_step *step, struct pkvm_reply *reply, struct pkvm_room *room,
 	 struct pkvm_sizes *sizes, struct pkvm_refused *refused),
 	(layout, before, cpu, step, reply, room, sizes, refused))
+WRAPPED(pkvm_boot,
+	(const struct pkvm_layout *layout, struct pkvm_room *room, struct pkvm_sizes *sizes,
+	 struct pkvm_refused *refused),
+	(layout, room, sizes, refused))
+WRAPPED(pkvm_suggest,
+	(const struct pkvm_layout *layout, const struct pkvm_state *state, uint64_t random,
+	 uint64_t hostile, struct pkvm_call *call, struct pkvm_refused *refused),
+	(layout, state, random, hostile, call, refused))
+WRAPPED(pkvm_trace_start,
+	(const struct pkvm_layout *layout, uint8_t *text, size_t text_room, size_t *text_len,
+	 struct pkvm_refused *refused),
+	(layout, text, text_room, text_len, refused))
+WRAPPED(pkvm_trace_of,
+	(const struct pkvm_layout *layout, const struct pkvm_call *call, uint8_t *text,
+	 size_t text_room, size_t *text_len),
+	(layout, call, text, text_room, text_len))
 WRAPPED(pkvm_audit,
 	(const struct pkvm_layout *layout, const struct pkvm_state *kept,
 	 const struct pkvm_page *pages, size_t pages_len, const struct pkvm_root *roots,

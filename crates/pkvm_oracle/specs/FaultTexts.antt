@@ -14,6 +14,8 @@ text_of_table_fault n =
     else if n == 22 then codes "a table is reached twice"
     else if n == 23 then codes "a freedom that there is not"
     else if n == 24 then codes "freedoms without that of own tables"
+    else if n == 25 then codes "CPUs that aren't 1 to 64"
+    else if n == 26 then codes "the carve-out has fewer frames than boot needs tables"
     else []
 
 -- faults of the lists of a state, and then those of tables

@@ -1,9 +1,12 @@
 pub mod Audited
+pub mod Booted
+pub mod FaultTexts
 pub mod Judged
+pub mod Laws
+pub mod Legal
 pub mod Predicted
 pub mod Refusals
 pub mod Replayed
+pub mod Suggested
+pub mod Traced
 pub mod Words
-pub mod Laws
-pub mod Legal
-pub mod FaultTexts

@@ -92,7 +92,7 @@ fn lists_number(fault: GhostFault) -> u64
 }
 
 /// A fault with this number, of no list.
-fn of_fault(fault: u64) -> PlainRefused
+pub(crate) fn of_fault(fault: u64) -> PlainRefused
     ensures { result ≡ of_fault_of fault }
 {
     PlainRefused { fault, ..NOTHING }

@@ -5,13 +5,16 @@
 ghost use Rattle.std.specs.Prelude.{◌≡◌, pos};
 
 mod audited;
+mod booted;
 mod judged;
 pub mod laws;
 mod legal;
 mod predicted;
 mod replayed;
 mod statuses;
+mod suggested;
 mod texts;
+mod traced;
 mod words;
 
 /// The version of these functions and structs, 3.0.0: the first 32 bits change where a program that uses them has to, the next 16 where

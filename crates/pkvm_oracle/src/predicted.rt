@@ -40,7 +40,7 @@ pub struct PlainSizes {
 }
 
 /// No member.
-const NO_SIZES: PlainSizes = PlainSizes {
+pub(crate) const NO_SIZES: PlainSizes = PlainSizes {
     runs: 0,
     tables: 0,
     frames: 0,
@@ -52,7 +52,7 @@ const NO_SIZES: PlainSizes = PlainSizes {
 };
 
 /// The sizes of a state's lists.
-fn sizes_of(lists: &PlainLists) -> PlainSizes
+pub(crate) fn sizes_of(lists: &PlainLists) -> PlainSizes
     ensures { result ≡ sizes_of_lists (lists_owned lists.now) }
 {
     PlainSizes {
@@ -68,7 +68,7 @@ fn sizes_of(lists: &PlainLists) -> PlainSizes
 }
 
 /// The sizes for which there is room.
-fn room_of(room: &PlainRoom<'_>) -> PlainSizes
+pub(crate) fn room_of(room: &PlainRoom<'_>) -> PlainSizes
     ensures { result ≡ room_of_lists room.now }
 {
     PlainSizes {
@@ -84,7 +84,7 @@ fn room_of(room: &PlainRoom<'_>) -> PlainSizes
 }
 
 /// Whether lists of these sizes have room.
-fn fits(sizes: PlainSizes, room: PlainSizes) -> bool
+pub(crate) fn fits(sizes: PlainSizes, room: PlainSizes) -> bool
     ensures { result ≡ fits_in sizes room }
 {
     let is_map_in = sizes.runs <= room.runs && sizes.tables <= room.tables;
@@ -103,7 +103,7 @@ fn put<T: Copy>(members: &[T], room: &mut [T])
 }
 
 /// Writes the lists into the fronts of their rooms.
-fn put_all(lists: &PlainLists, room: &mut PlainRoom<'_>)
+pub(crate) fn put_all(lists: &PlainLists, room: &mut PlainRoom<'_>)
     requires runs { length lists.now.runs.items ≤ length room.old.runs.now }
     requires tables { length lists.now.tables.items ≤ length room.old.tables.now }
     requires frames { length lists.now.frames.items ≤ length room.old.frames.now }

@@ -19,6 +19,8 @@ fn table_fault_text(fault: u64) -> &'static str
         22 => "a table is reached twice",
         23 => "a freedom that there is not",
         24 => "freedoms without that of own tables",
+        25 => "CPUs that aren't 1 to 64",
+        26 => "the carve-out has fewer frames than boot needs tables",
         _ => "",
     }
 }

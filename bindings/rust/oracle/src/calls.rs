@@ -24,14 +24,22 @@ numbered! {
 }
 
 /// An argument of a call: one number, or two.
-trait Argument {
+trait Argument: Sized {
     fn put(self, into: &mut [u64; 4], at: &mut usize);
+
+    /// What `put` put there. None where the number stands for nothing.
+    fn take(from: &[u64; 4], at: &mut usize) -> Option<Self>;
 }
 
 impl Argument for u64 {
     fn put(self, into: &mut [u64; 4], at: &mut usize) {
         into[*at] = self;
         *at += 1;
+    }
+
+    fn take(from: &[u64; 4], at: &mut usize) -> Option<u64> {
+        *at += 1;
+        from.get(*at - 1).copied()
     }
 }
 
@@ -40,17 +48,32 @@ impl Argument for Vm {
         self.slot.put(into, at);
         self.generation.put(into, at);
     }
+
+    fn take(from: &[u64; 4], at: &mut usize) -> Option<Vm> {
+        Some(Vm {
+            slot: u64::take(from, at)?,
+            generation: u64::take(from, at)?,
+        })
+    }
 }
 
 impl Argument for Rights {
     fn put(self, into: &mut [u64; 4], at: &mut usize) {
         self.number().put(into, at);
     }
+
+    fn take(from: &[u64; 4], at: &mut usize) -> Option<Rights> {
+        Rights::of(u64::take(from, at)?)
+    }
 }
 
 impl Argument for VmKind {
     fn put(self, into: &mut [u64; 4], at: &mut usize) {
         self.number().put(into, at);
+    }
+
+    fn take(from: &[u64; 4], at: &mut usize) -> Option<VmKind> {
+        VmKind::of(u64::take(from, at)?)
     }
 }
 
@@ -75,6 +98,19 @@ macro_rules! calls {
                         let _ = at;
                         sys::pkvm_step { call: sys::$number, arguments }
                     })*
+                }
+            }
+
+            pub(crate) fn of(raw: sys::pkvm_step) -> Option<Call> {
+                #[allow(unused_mut)]
+                let mut at = 0;
+                match raw.call {
+                    $(sys::$number => {
+                        $(let $field = Argument::take(&raw.arguments, &mut at)?;)*
+                        let _ = at;
+                        Some(Call::$variant { $($field),* })
+                    })*
+                    _ => None,
                 }
             }
         }

@@ -64,6 +64,10 @@ faults! {
     Freedom = PKVM_FAULT_FREEDOM,
     /// The freedoms have another bit without that of own tables. This crate hands none in.
     NotOwnTables = PKVM_FAULT_NOT_OWN_TABLES,
+    /// The CPUs of a layout that is to boot aren't 1 to 64.
+    Cpus = PKVM_FAULT_CPUS,
+    /// The carve-out has fewer frames than boot needs tables.
+    CarveSmall = PKVM_FAULT_CARVE_SMALL,
 }
 
 impl Fault {
@@ -97,6 +101,8 @@ impl Fault {
             Fault::ReachedTwice => "a table is reached twice",
             Fault::Freedom => "a freedom that there is not",
             Fault::NotOwnTables => "freedoms without that of own tables",
+            Fault::Cpus => "CPUs that aren't 1 to 64",
+            Fault::CarveSmall => "the carve-out has fewer frames than boot needs tables",
         }
     }
 }
@@ -188,6 +194,8 @@ pub enum Error {
     Level,
     /// No word of this level says it.
     NoWord,
+    /// The percentage of refused calls is over 100.
+    Percentage,
     /// The layout hasn't the CPU.
     Cpu,
     /// The layout is refused.
@@ -232,6 +240,7 @@ impl fmt::Display for Error {
         match self {
             Error::Level => f.write_str("no such level"),
             Error::NoWord => f.write_str("no word of this level says it"),
+            Error::Percentage => f.write_str("over 100 percent"),
             Error::Cpu => f.write_str("no such CPU"),
             Error::Layout(why) => write!(f, "the layout: {why}"),
             Error::Before(why) => write!(f, "the state before the call, or the kept one: {why}"),

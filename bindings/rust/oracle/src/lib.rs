@@ -1,5 +1,5 @@
 //! A proved oracle of protected KVM's page ownership. It decodes words of stage 2 tables, judges a hypervisor's calls by the states
-//! before and after them, predicts them, compares kept states with tables in memory, and replays traces. `docs/C_LIBRARY.md` of the
+//! before and after them, predicts and suggests them, compares kept states with tables in memory, and writes and replays traces. `docs/C_LIBRARY.md` of the
 //! repository says what to record in a hypervisor, and when.
 //!
 //! ```
@@ -32,12 +32,14 @@ mod calls;
 mod check;
 mod errors;
 mod numbered;
+mod random;
 mod states;
 mod words;
 
 pub use calls::{Call, Refusal, Reply, Said, Value, Vm, VmKind};
 pub use check::{check, Trees};
 pub use errors::{Error, Fault, List, Place, Refused};
+pub use random::{boot, suggest, trace_of, trace_start};
 pub use states::{
     Cpu, Frame, Freedoms, Guest, Layout, Load, Owner, Phase, Region, RegionKind, Row, Run, Slot,
     Stage, Stand, State, Table, Ticket, Usage,

@@ -102,7 +102,8 @@ numbers! {
     PKVM_FAULT_RUNS_SHARE = 12, PKVM_FAULT_TABLE_TWICE = 13, PKVM_FAULT_FRAME_TWICE = 14,
     PKVM_FAULT_PAGE_LENGTH = 15, PKVM_FAULT_PAGE_TWICE = 16, PKVM_FAULT_ROOT_TREE = 17, PKVM_FAULT_ROOT_TWICE = 18,
     PKVM_FAULT_ROOT_PAGE = 19, PKVM_FAULT_LOOP = 20, PKVM_FAULT_TWO_LEVELS = 21, PKVM_FAULT_REACHED_TWICE = 22,
-    PKVM_FAULT_FREEDOM = 23, PKVM_FAULT_NOT_OWN_TABLES = 24
+    PKVM_FAULT_FREEDOM = 23, PKVM_FAULT_NOT_OWN_TABLES = 24,
+    PKVM_FAULT_CPUS = 25, PKVM_FAULT_CARVE_SMALL = 26
 }
 numbers! {
     "The lists in which the member at fault is." u64:
@@ -241,6 +242,34 @@ unsafe extern "C" {
         room: *mut pkvm_room,
         sizes: *mut pkvm_sizes,
         refused: *mut pkvm_refused,
+    ) -> i32;
+    pub fn pkvm_boot(
+        layout: *const pkvm_layout,
+        room: *mut pkvm_room,
+        sizes: *mut pkvm_sizes,
+        refused: *mut pkvm_refused,
+    ) -> i32;
+    pub fn pkvm_suggest(
+        layout: *const pkvm_layout,
+        state: *const pkvm_state,
+        random: u64,
+        hostile: u64,
+        call: *mut pkvm_call,
+        refused: *mut pkvm_refused,
+    ) -> i32;
+    pub fn pkvm_trace_start(
+        layout: *const pkvm_layout,
+        text: *mut u8,
+        text_room: usize,
+        text_len: *mut usize,
+        refused: *mut pkvm_refused,
+    ) -> i32;
+    pub fn pkvm_trace_of(
+        layout: *const pkvm_layout,
+        call: *const pkvm_call,
+        text: *mut u8,
+        text_room: usize,
+        text_len: *mut usize,
     ) -> i32;
     pub fn pkvm_audit(
         layout: *const pkvm_layout,
