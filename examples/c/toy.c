@@ -164,6 +164,8 @@ static void record(const struct toy *toy, struct recorded *out)
 static const struct pkvm_region regions[] = {{0, MEMORY, PAGES}, {1, 0x9000, 0x10}};
 static const struct pkvm_layout layout = {39, 1, CARVE, CARVED, regions, 2, 0};
 
+// tester.c takes the toy up to here.
+#ifndef TOY_IS_TESTED
 // Makes a call under the hypervisor's lock, and asks the oracle.
 static void made(struct toy *toy, uint64_t call, uint64_t frame)
 {
@@ -210,3 +212,4 @@ int main(void)
 	}
 	return 0;
 }
+#endif
