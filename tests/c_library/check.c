@@ -929,7 +929,7 @@ static int random_tests(long count)
 		free(regions);
 		clear(&state);
 	}
-	return suggested > count / 30 ? 0 : 6;
+	return count < 100 || suggested > count / 30 ? 0 : 6;
 }
 
 // Random byte strings for each function. 0, or what went wrong.
