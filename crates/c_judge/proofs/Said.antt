@@ -1,5 +1,5 @@
 -- What is found of a call by what its reply says, and why there is none.
-use Rattle.std.proofs.Common.{◌≡◌, refl, subst}
+use Rattle.std.proofs.Common.{◌≡◌, inl, refl, subst}
 use Rattle.std.specs.Prelude.{List, Option, Some, None, IsSome, Result, Ok, Err, IfOk, IfErr}
 use Rattle.call_table.specs.declared.step.Step.{Step}
 use Rattle.page_state.specs.Layouts.{Layout}
@@ -18,7 +18,8 @@ use Rattle.c_states.specs.Layouts.{layout_said}
 use Rattle.c_states.specs.States.{Lists}
 use Rattle.c_judge.specs.declared.found.Found.{Found}
 use Rattle.c_judge.specs.declared.reply.Said.{Said}
-use Rattle.c_judge.specs.Found.{IsFoundFreely, IsFoundOf, IsUnfoundFreely}
+use Rattle.c_judge.specs.declared.found.Unfound.TheVariants.{Call}
+use Rattle.c_judge.specs.Found.{IsFound, IsFoundBy, IsFoundFreely, IsFoundOf, IsUnfound, IsUnfoundBy, IsUnfoundFreely}
 use Rattle.c_judge.specs.Ready.{IsCallable}
 use Rattle.c_judge.specs.Replies.{said_of}
 use Rattle.c_judge.proofs.Callable.{contents-are}
@@ -61,3 +62,12 @@ before-fault l regions before call after says (unjudged.Before why) e k = (some-
 before-fault l regions before call after says unjudged.Generation e k = (some-said (said_of call.reply) says e, k)
 before-fault l regions before call after says (unjudged.After why) e k = absurd k
 before-fault l regions before call after says unjudged.NoMemory e k = tt
+
+-- a call of which something is found can be refused for want of memory
+module _ (l : PlainLayout) (regions : List PlainRegion) (before : Lists) (call : PlainCall) (after : Lists) (found : Option Found) where
+  wanting : (o : Option Freedoms) → IsFoundBy l regions before call after o found → IsUnfoundBy l regions before call after o unjudged.NoMemory
+  wanting None j = (some-said (said_of call.reply) j.says j.says_is, inl tt)
+  wanting (Some w) j = tt
+
+  pub no-memory : IsFound l regions before call after found → IsUnfound l regions before call after (Call unjudged.NoMemory)
+  no-memory f = (f.freedoms, f.taken, wanting f.freedoms f.judged)
