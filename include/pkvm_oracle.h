@@ -173,9 +173,9 @@ struct pkvm_layout {
 
 /* What a hypervisor may choose, bit by bit. The last three are of one with tables of its own. */
 enum {
-	/* Where its tables are, when blocks fold, and which frames are free: of its states tables
-	 * and frames aren't read, and may be left out. A call that may take memory may be refused
-	 * by PKVM_ENOPOOL or PKVM_ENOMEMORY. */
+	/* Where its tables are, when blocks fold, and which frames are free: tables and frames of
+	 * its states may be left out, and aren't compared. A call that may take memory may be
+	 * refused by PKVM_ENOPOOL as by PKVM_ENOMEMORY. */
 	PKVM_OWN_TABLES = 1,
 	PKVM_LAZY_HOST = 2,  /* which pages of its own the host has mapped */
 	PKVM_ANY_KIND = 4,   /* of which kind of memory the host has a device's page */

@@ -1,13 +1,10 @@
 //! What is told of bugs, and what is left to a hypervisor.
-use crate::walks::read;
+use crate::changes::{with_host, with_hyp, with_row};
+use crate::walks::{ALL, Call, TABLES, read, stepped, told as told_of};
 use call_table::{Refusal, Reply, Value};
-use free_judge::judge::judge_freely;
 use freedoms::Freedoms;
-use ghost_judge::text::Judgement;
-use ghost_spec::lists::GhostLists;
-use ghost_spec::state::{Ghost, predict};
-use ghost_trees::runs::updated;
-use page_state::{Entry, Frame, Kind, Owner, Page, PageRange, Prot, Row, State, Usage};
+use ghost_spec::state::Ghost;
+use page_state::{Entry, Frame, Kind, Owner, Prot, Row, State, Usage};
 use std::alloc::Global;
 use std::process::Abort;
 use std::test::Fail;
@@ -44,36 +41,12 @@ fn leaf(frame: u64, kind: Kind, state: State) -> Entry {
     }
 }
 
-fn range(first: u64, count: u64) -> PageRange {
-    PageRange {
-        first: Page(first),
-        count,
+fn row(owner: u64, usage: Usage) -> Row {
+    Row {
+        owner: Owner(owner),
+        lent: None,
+        usage,
     }
-}
-
-fn put_host(rt: &impl Abort, alloc: Global, lists: &mut GhostLists, page: u64, entry: Entry) {
-    let runs = updated(
-        alloc,
-        lists.shared.host.runs.as_slice(),
-        range(page, 1),
-        entry,
-    );
-    lists.shared.host.runs = runs.expect(rt, "memory");
-}
-
-fn put_hyp(rt: &impl Abort, alloc: Global, lists: &mut GhostLists, page: u64, entry: Entry) {
-    let runs = updated(
-        alloc,
-        lists.shared.hyp.runs.as_slice(),
-        range(page, 1),
-        entry,
-    );
-    lists.shared.hyp.runs = runs.expect(rt, "memory");
-}
-
-fn put_row(rt: &impl Abort, lists: &mut GhostLists, frame: u64, row: Option<Row>) {
-    lists.shared.rows.reserve(2).expect(rt, "memory");
-    lists.shared.rows.set(range(frame, 1), row);
 }
 
 /// What is otherwise in the state after the last call, or in its reply.
@@ -93,7 +66,49 @@ enum Change {
     Reclaims(u64, u64),
 }
 
-/// The state before the last call of a trace, the call's reply, and the state after it, with the change.
+/// The state in which the host got another frame of a pool in place of the model's, by row and maps.
+fn reclaimed(rt: &impl Abort, alloc: Global, state: Ghost, told: u64, frame: u64) -> Ghost {
+    assert!(rt; told < 0x1_0000_0000 && frame < 0x1_0000_0000);
+    let state = with_row(rt, alloc, state, told, row(1, Usage::VmPool(0)));
+    let state = with_row(rt, alloc, state, frame, row(0, Usage::Plain));
+    let state = with_host(rt, alloc, state, told, Entry::Annotated(Owner(1)));
+    let state = with_host(rt, alloc, state, frame, Entry::Unmapped);
+    let kept = Entry::Leaf {
+        frame: Frame(told),
+        prot: Prot::RW,
+        kind: Kind::Normal,
+        state: State::Owned,
+    };
+    let state = with_hyp(rt, alloc, state, told + 0x400_0000, kept);
+    with_hyp(rt, alloc, state, frame + 0x400_0000, Entry::Unmapped)
+}
+
+/// The reply and the state after a call with the change.
+fn changed(
+    rt: &impl Abort,
+    alloc: Global,
+    state: &Ghost,
+    call: Call,
+    change: Change,
+) -> (Reply, Ghost) {
+    let (reply, after) = stepped(rt, alloc, state, call);
+    match change {
+        Change::None => (reply, after),
+        Change::Says(said) => (said, state.copied(alloc).expect(rt, "memory")),
+        Change::SaysAfter(said) => (said, after),
+        Change::Host(page, entry) => (reply, with_host(rt, alloc, after, page, entry)),
+        Change::PoolRow(frame) => {
+            let row = row(0, Usage::SharedPool);
+            (reply, with_row(rt, alloc, after, frame, row))
+        }
+        Change::Reclaims(told, frame) => {
+            let reply = Reply::Done(Value::Frame(Frame(frame)));
+            (reply, reclaimed(rt, alloc, after, told, frame))
+        }
+    }
+}
+
+/// What is told of the last call of a trace, with the change.
 fn judged(
     rt: &impl Abort,
     alloc: Global,
@@ -102,60 +117,16 @@ fn judged(
     change: Change,
 ) -> String {
     let (mut state, calls) = read(rt, alloc, text);
+    let calls = calls.as_slice();
+    assert!(rt; !calls.is_empty());
     let last = calls.len() - 1;
     for call in &calls[..last] {
-        let (_, after) = predict(alloc, &state, call.cpu, call.step).expect(rt, "memory");
+        let (_, after) = stepped(rt, alloc, &state, *call);
         state = after;
     }
     let call = calls[last];
-    let (mut reply, after) = predict(alloc, &state, call.cpu, call.step).expect(rt, "memory");
-    let mut lists = after.into_lists();
-    match change {
-        Change::None => (),
-        Change::Says(said) => {
-            reply = said;
-            lists = state.copied(alloc).expect(rt, "memory").into_lists();
-        }
-        Change::SaysAfter(said) => reply = said,
-        Change::Host(page, entry) => put_host(rt, alloc, &mut lists, page, entry),
-        Change::PoolRow(frame) => {
-            let row = Row {
-                owner: Owner(0),
-                lent: None,
-                usage: Usage::SharedPool,
-            };
-            put_row(rt, &mut lists, frame, Some(row));
-        }
-        Change::Reclaims(told, frame) => {
-            let owned = Row {
-                owner: Owner(1),
-                lent: None,
-                usage: Usage::VmPool(0),
-            };
-            put_row(rt, &mut lists, told, Some(owned));
-            put_row(rt, &mut lists, frame, None);
-            put_host(rt, alloc, &mut lists, told, Entry::Annotated(Owner(1)));
-            put_host(rt, alloc, &mut lists, frame, Entry::Unmapped);
-            let kept = Entry::Leaf {
-                frame: Frame(told),
-                prot: Prot::RW,
-                kind: Kind::Normal,
-                state: State::Owned,
-            };
-            put_hyp(rt, alloc, &mut lists, told + 0x400_0000, kept);
-            put_hyp(rt, alloc, &mut lists, frame + 0x400_0000, Entry::Unmapped);
-            reply = Reply::Done(Value::Frame(Frame(frame)));
-        }
-    }
-    let post = Ghost::of_kept(lists);
-    let found = judge_freely(alloc, freedoms, &state, call.cpu, call.step, &reply, &post);
-    match found.expect(rt, "memory") {
-        Some(d) => {
-            let d = Judgement(d);
-            format!(in alloc; "{d}").expect(rt, "memory")
-        }
-        None => String::new(alloc),
-    }
+    let (reply, post) = changed(rt, alloc, &state, call, change);
+    told_of(rt, alloc, freedoms, &state, call, reply, &post)
 }
 
 /// What is told where the last lines are these.
@@ -165,18 +136,6 @@ fn told(rt: &impl Abort, alloc: Global, freedoms: Freedoms, lines: &str, change:
     text.push_str(lines).expect(rt, "memory");
     judged(rt, alloc, freedoms, text.as_str(), change)
 }
-
-const TABLES: Freedoms = Freedoms {
-    lazy_host: false,
-    any_kind: false,
-    any_refusal: false,
-};
-
-const ALL: Freedoms = Freedoms {
-    lazy_host: true,
-    any_kind: true,
-    any_refusal: true,
-};
 
 const OK: Reply = Reply::Done(Value::Nothing);
 

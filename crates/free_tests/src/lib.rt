@@ -4,7 +4,7 @@
 #[cfg(test)]
 mod bugs;
 #[cfg(test)]
-mod real;
+mod changes;
 #[cfg(test)]
 mod runs;
 #[cfg(test)]

@@ -1,49 +1,23 @@
-//! Random runs: of the model, and of hypervisors of another manner.
-use crate::real::{Manner, act};
-use crate::walks::read;
-use call_table::Reply;
-use free_judge::judge::judge_freely;
+//! Random runs: the model's, told as it has them, by one with tables of its own, and by one whose host is lazy.
+use crate::changes::{bare, lazy};
+use crate::walks::{ALL, Call, TABLES, read, stepped, told};
+use call_table::{Refusal, Reply, Step};
 use freedoms::Freedoms;
-use ghost_judge::judge::judge;
-use ghost_judge::text::Judgement;
-use ghost_spec::state::{Ghost, predict};
+use ghost_spec::state::Ghost;
 use std::alloc::Global;
 use std::process::Abort;
 use std::test::Fail;
 use trace_generate::{Options, generate};
 use trace_reader::Silent;
 
-/// Own tables alone.
-const TABLES: Freedoms = Freedoms {
-    lazy_host: false,
-    any_kind: false,
-    any_refusal: false,
-};
-
-/// All freedoms.
-const ALL: Freedoms = Freedoms {
-    lazy_host: true,
-    any_kind: true,
-    any_refusal: true,
-};
-
-/// What was counted.
-#[derive(Clone, Copy)]
-struct Counts {
-    /// Calls that were made.
-    made: u64,
-    /// Calls in which the judge without freedoms differs.
-    apart: u64,
-}
-
-fn trace(rt: &impl Abort, alloc: Global, seed: u64, steps: u64) -> String {
+fn trace(rt: &impl Abort, alloc: Global, seed: u64) -> String {
     let options = Options {
         cpus: 1 + seed % 4,
-        pages: 1024 << (seed % 2),
+        pages: if seed % 2 == 0 { 1024 } else { 2048 },
         geometry: if seed % 2 == 0 { 39 } else { 48 },
         hostile: if seed % 3 == 0 { 30 } else { 0 },
     };
-    generate(alloc, seed, steps, &options, &Silent).expect(rt, "a trace")
+    generate(alloc, seed, 100, &options, &Silent).expect(rt, "a trace")
 }
 
 /// No difference is told.
@@ -52,108 +26,65 @@ fn agrees(
     alloc: Global,
     freedoms: Freedoms,
     pre: &Ghost,
-    cpu: u64,
-    step: call_table::Step,
+    call: Call,
     reply: Reply,
     post: &Ghost,
 ) {
-    let found = judge_freely(alloc, freedoms, pre, cpu, step, &reply, post).expect(rt, "memory");
-    let told = match found {
-        Some(d) => {
-            let d = Judgement(d);
-            format!(in alloc; "{d}").expect(rt, "memory")
-        }
-        None => String::new(alloc),
-    };
+    let told = told(rt, alloc, freedoms, pre, call, reply, post);
     assert_eq!(rt; told.as_str(), "");
 }
 
-/// A run of another hypervisor, each of its calls judged.
-fn run(
-    rt: &impl Abort,
-    alloc: Global,
-    seed: u64,
-    steps: u64,
-    manner: Manner,
-    freedoms: Freedoms,
-) -> Counts {
-    let text = trace(rt, alloc, seed, steps);
-    let (mut state, calls) = read(rt, alloc, text.as_str());
-    let mut counts = Counts { made: 0, apart: 0 };
-    for call in calls {
-        let (reply, after) = act(rt, alloc, manner, &state, call);
-        agrees(
-            rt, alloc, freedoms, &state, call.cpu, call.step, reply, &after,
-        );
-        let plain = judge(alloc, &state, call.cpu, call.step, &reply, &after);
-        if plain.expect(rt, "memory").is_some() {
-            counts.apart += 1;
+/// Another refusal for one that a rule's test refuses.
+fn renamed(reply: Reply) -> Reply {
+    match reply {
+        Reply::Refused(Refusal::Invalid | Refusal::NoVm | Refusal::Busy | Refusal::Perm) => {
+            Reply::Refused(Refusal::Contended)
         }
+        other => other,
+    }
+}
+
+/// Whether a step depends on which of its own pages the host has.
+fn reads_host(step: Step) -> bool {
+    matches!(step, Step::HostAbort { .. } | Step::HostTranslate { .. })
+}
+
+/// A call of the model agrees, however it is told.
+fn is_told(rt: &impl Abort, alloc: Global, pre: &Ghost, call: Call, reply: Reply, post: &Ghost) {
+    agrees(rt, alloc, ALL, pre, call, reply, post);
+    let before = bare(rt, alloc, pre);
+    let after = bare(rt, alloc, post);
+    agrees(rt, alloc, TABLES, &before, call, reply, &after);
+    if !reads_host(call.step) {
+        let before = lazy(rt, alloc, pre);
+        let after = lazy(rt, alloc, post);
+        agrees(rt, alloc, ALL, &before, call, renamed(reply), &after);
+    }
+}
+
+/// A run of the model; how many calls were made.
+fn run(rt: &impl Abort, alloc: Global, seed: u64) -> u64 {
+    let text = trace(rt, alloc, seed);
+    let (mut state, calls) = read(rt, alloc, text.as_str());
+    let mut made = 0u64;
+    for call in calls.as_slice() {
+        let (reply, after) = stepped(rt, alloc, &state, *call);
+        is_told(rt, alloc, &state, *call, reply, &after);
         if let Reply::Done(_) = reply {
-            counts.made += 1;
+            made = made.saturating_add(1);
         }
         state = after;
     }
-    counts
+    made
 }
 
 #[test]
-fn the_model_is_judged_to_agree(rt: HostRuntime) -> Result<(), Fail> {
+fn runs_agree(rt: HostRuntime) -> Result<(), Fail> {
     let alloc = rt.alloc();
-    let mut made = 0;
-    for seed in 0..4u64 {
-        let text = trace(&rt, alloc, seed, 60);
-        let (mut state, calls) = read(&rt, alloc, text.as_str());
-        for call in calls {
-            let (reply, after) = predict(alloc, &state, call.cpu, call.step)?;
-            agrees(&rt, alloc, ALL, &state, call.cpu, call.step, reply, &after);
-            agrees(
-                &rt, alloc, TABLES, &state, call.cpu, call.step, reply, &after,
-            );
-            if let Reply::Done(_) = reply {
-                made += 1;
-            }
-            state = after;
-        }
-    }
-    assert!(rt; made > 100);
-    Ok(())
-}
-
-#[test]
-fn another_allocator_agrees(rt: HostRuntime) -> Result<(), Fail> {
-    let manner = Manner {
-        lazy: false,
-        normal: false,
-        perm: false,
-    };
-    let (mut made, mut apart) = (0, 0);
+    let mut made = 0u64;
     for seed in 0..6u64 {
-        let counts = run(&rt, rt.alloc(), seed, 100, manner, TABLES);
-        made += counts.made;
-        apart += counts.apart;
+        made = made.saturating_add(run(&rt, alloc, seed));
     }
     assert!(rt; made > 300);
-    assert!(rt; apart > 50);
-    println!(rt; "own tables: made {made} apart {apart}")?;
-    Ok(())
-}
-
-#[test]
-fn a_lazy_host_agrees(rt: HostRuntime) -> Result<(), Fail> {
-    let manner = Manner {
-        lazy: true,
-        normal: true,
-        perm: true,
-    };
-    let (mut made, mut apart) = (0, 0);
-    for seed in 10..16u64 {
-        let counts = run(&rt, rt.alloc(), seed, 100, manner, ALL);
-        made += counts.made;
-        apart += counts.apart;
-    }
-    assert!(rt; made > 300);
-    assert!(rt; apart > 50);
-    println!(rt; "lazy: made {made} apart {apart}")?;
     Ok(())
 }

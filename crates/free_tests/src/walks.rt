@@ -1,11 +1,28 @@
 //! The machine of a trace, and its steps.
-use call_table::Step;
+use call_table::{Reply, Step};
+use free_judge::judge::judge_freely;
+use freedoms::Freedoms;
+use ghost_judge::text::Judgement;
 use ghost_spec::start::start;
-use ghost_spec::state::Ghost;
+use ghost_spec::state::{Ghost, has_next_generation, predict};
 use page_state::{Geometry, Layout, MemoryMap};
 use std::alloc::Global;
 use std::process::Abort;
 use trace_lines::{Allows, Line, Settings, said};
+
+/// Own tables alone.
+pub(crate) const TABLES: Freedoms = Freedoms {
+    lazy_host: false,
+    any_kind: false,
+    any_refusal: false,
+};
+
+/// All freedoms.
+pub(crate) const ALL: Freedoms = Freedoms {
+    lazy_host: true,
+    any_kind: true,
+    any_refusal: true,
+};
 
 /// A step of a CPU.
 #[derive(Clone, Copy)]
@@ -20,6 +37,7 @@ fn booted(rt: &impl Abort, alloc: Global, settings: &Settings) -> Ghost {
     let carve = settings.carve.expect(rt, "a carve-out");
     let map = MemoryMap::new(alloc, settings.regions.as_slice(), carve).expect(rt, "a memory");
     let geometry = Geometry::of_bits(config.geometry).expect(rt, "a width");
+    assert!(rt; config.cpus > 0);
     let layout = Layout {
         map,
         config,
@@ -39,15 +57,45 @@ pub(crate) fn read(rt: &impl Abort, alloc: Global, text: &str) -> (Ghost, Vec<Ca
             Some(_) => Allows::of_replay(false),
             None => Allows::before_boot(),
         };
-        let Ok(Some(line)) = said(allows, &settings, line.as_bytes()) else {
-            continue;
-        };
-        match line {
-            Line::Setting(setting) => settings.say(setting).expect(rt, "memory"),
-            Line::Boot => state = Some(booted(rt, alloc, &settings)),
-            Line::Step { cpu, step } => calls.push(Call { cpu, step }).expect(rt, "memory"),
-            _ => (),
+        if let Ok(Some(line)) = said(allows, &settings, line.as_bytes()) {
+            match line {
+                Line::Setting(setting) => settings.say(setting).expect(rt, "memory"),
+                Line::Boot => state = Some(booted(rt, alloc, &settings)),
+                Line::Step { cpu, step } => calls.push(Call { cpu, step }).expect(rt, "memory"),
+                _ => (),
+            }
         }
     }
     (state.expect(rt, "a boot"), calls)
+}
+
+/// The model's reply to a call, and the state after it.
+pub(crate) fn stepped(rt: &impl Abort, alloc: Global, state: &Ghost, call: Call) -> (Reply, Ghost) {
+    let cpus = state.lists().layout.config.cpus;
+    assert!(rt; call.cpu < cpus);
+    assert!(rt; has_next_generation(state, call.cpu, call.step));
+    predict(alloc, state, call.cpu, call.step).expect(rt, "memory")
+}
+
+/// What is told of a call; nothing where it agrees.
+pub(crate) fn told(
+    rt: &impl Abort,
+    alloc: Global,
+    freedoms: Freedoms,
+    pre: &Ghost,
+    call: Call,
+    reply: Reply,
+    post: &Ghost,
+) -> String {
+    let cpus = pre.lists().layout.config.cpus;
+    assert!(rt; call.cpu < cpus);
+    assert!(rt; has_next_generation(pre, call.cpu, call.step));
+    let found = judge_freely(alloc, freedoms, pre, call.cpu, call.step, &reply, post);
+    match found.expect(rt, "memory") {
+        Some(d) => {
+            let d = Judgement(d);
+            format!(in alloc; "{d}").expect(rt, "memory")
+        }
+        None => String::new(alloc),
+    }
 }
