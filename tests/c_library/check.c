@@ -893,7 +893,8 @@ static int random_tests(long count)
 					     0x40600,
 					     next() % 4 ? 0x40 : number(),
 					     regions,
-					     regions_len};
+					     regions_len,
+					     next() % 16};
 		struct pkvm_state state = next() % 2 ? lists() : (struct pkvm_state){0};
 		struct pkvm_call *call = numbers(1, sizeof *call), was = *call;
 		struct pkvm_room room = {0};
