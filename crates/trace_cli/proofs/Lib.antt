@@ -1,4 +1,5 @@
 mod Checked
+mod Covering
 mod Explained
 mod Greatest
 mod Made

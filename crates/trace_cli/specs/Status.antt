@@ -32,10 +32,11 @@ use Rattle.trace_generate.specs.declared.options.GenerateFault.TheVariants as ge
 use Rattle.trace_generate.specs.declared.options.Options.{Options}
 use Rattle.trace_generate.specs.Machine.{IsFault}
 use Rattle.trace_generate.specs.Made.{IsTrace}
-use Rattle.trace_command.specs.Asked.{Asking, Replaying, Racing, Auditing, Finding, Checking, Recording, Explaining, Generating, Drawing, Dumping, IsRead, asking_of}
+use Rattle.trace_command.specs.Asked.{Asking, Replaying, Racing, Auditing, Finding, Checking, Covering, Recording, Explaining, Generating, Drawing, Dumping, IsRead, asking_of}
 use Rattle.trace_command.specs.declared.words.Invocation.{Invocation}
 use Rattle.trace_command.specs.declared.words.UsageFault.{UsageFault}
 use Rattle.trace_command.specs.declared.words.UsageFault.TheVariants.{NoMemory, Usage}
+use Rattle.trace_cli.specs.Covering.{HasCoverStatus}
 use Rattle.trace_cli.specs.Dumping.{HasDumpStatus}
 use Rattle.trace_cli.specs.declared.tasks.Opened.{Opened}
 use Rattle.trace_cli.specs.declared.tasks.Task.{Task}
@@ -207,6 +208,7 @@ module _ {F I E : Type 0} (bytes : F → Option (List ℕ)) (opens : List ℕ �
   HasAskedStatus (Finding file limit None output) status = HasFileStatus bytes opens (tasks.Outcomes limit output) file status
   HasAskedStatus (Finding file limit (Some report) output) status = HasOrderStatus bytes opens file report limit status
   HasAskedStatus (Checking files looks output) status = HasGreatestStatus bytes opens (tasks.Check looks output) files status
+  HasAskedStatus (Covering files missing quiet) status = HasCoverStatus bytes opens missing files status
   HasAskedStatus (Recording file) status = HasFileStatus bytes opens tasks.Record file status
   HasAskedStatus (Explaining file line output) status = HasFileStatus bytes opens (tasks.Explain line output) file status
   HasAskedStatus (Generating seed steps cpus pages geometry hostile) status =

@@ -4,17 +4,18 @@
 //! The tables of the trees lie in a heap of BYTES (4,096 to 1,073,741,824), or in the machine's memory. `trace_cli race FILE`
 //! makes the steps after `start` on one thread for each CPU, and `trace_cli outcomes FILE` finds all that they may be told;
 //! `trace_cli audit FILE` sets words and audits once.
-//! `trace_cli check FILE..` compares what lines report with what comments after them expect, `explain FILE` shows what each
-//! step looked at, `generate SEED STEPS` makes a trace, and `draw FILE` a picture of who
+//! `trace_cli check FILE..` compares what lines report with what comments after them expect, `cover FILE..` counts what traces
+//! have tried, `explain FILE` shows what each step looked at, `generate SEED STEPS` makes a trace, and `draw FILE` a picture of who
 //! owns what; `dump IMAGE` tells who owns what in an image of memory. With `--json` a report's lines are JSON. The lines of a
 //! trace, its reports and each fault are explained in docs/TRACES.md, the JSON in docs/JSON.md.
 //!
 //! The exit status:
 //!
-//! - 0: the report ends without a fault or a disagreement; a check has no miss; or the version was asked for.
-//! - 1: the report has a fault or a disagreement, or a check a miss; or reading, writing, memory or the start of a thread
-//!   failed, which one line on standard error says.
-//! - 2: FILE can't be opened, the words are refused, or help was asked for. The reason, or help, is on standard error.
+//! - 0: the report ends without a fault or a disagreement; a check has no miss; nothing is missing; or the version was asked for.
+//! - 1: the report has a fault or a disagreement, a check a miss, or something is missing; or reading, writing, memory or the start
+//!   of a thread failed, which one line on standard error says.
+//! - 2: FILE can't be opened, `cover` met a fault, the words are refused, or help was asked for. The reason, or help, is on standard
+//!   error, but a fault of a trace in the report.
 //!
 //! What the words ask for is read in `trace_command`; each library crate of a subcommand does it. Here files are opened, and
 //! what is in no report is written to standard error.
@@ -24,6 +25,7 @@ ghost use Rattle.std.specs.Prelude.{IfOk, map};
 ghost use Rattle.trace_cli.specs.Status.{HasAskedStatus, HasFileStatus, HasGreatestStatus, HasOrderStatus, HasSomeStatus, HasWordsStatus};
 ghost use Rattle.trace_command.specs.Asked.{asking_of};
 
+mod covering;
 mod dumping;
 mod files;
 mod generated;
@@ -34,6 +36,7 @@ mod tasks;
 mod telling;
 mod texts;
 
+use covering::covered;
 use dumping::dumped;
 use files::{HostFiles, Opens, OpensImage, ShowsWork};
 use generated::made;
@@ -125,6 +128,11 @@ fn done<
             looks,
             output,
         } => done_with_each(rt, files, paths.as_slice(), Task::Check { looks, output }),
+        Invocation::Cover {
+            files: paths,
+            missing,
+            quiet,
+        } => covered(rt, files, paths.as_slice(), missing, quiet),
         Invocation::Record { file } => done_with(rt, files, file, Task::Record),
         Invocation::Explain { file, line, output } => done_with(
             rt,

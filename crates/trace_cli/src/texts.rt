@@ -188,7 +188,7 @@ fn pictured<R: AllocGlobal + Print + Eprint>(
 }
 
 /// All bytes of a file.
-fn whole<R: AllocGlobal, F: io::Read + Drop>(rt: &R, file: F) -> Result<Vec<u8>, Halted>
+pub fn whole<R: AllocGlobal, F: io::Read + Drop>(rt: &R, file: F) -> Result<Vec<u8>, Halted>
     ensures { IfOk result (λ trace. IfSome (F.remaining file) (λ all. trace.items ≡ all)) }
 {
     let mut file = file;
@@ -222,7 +222,7 @@ fn show<R: AllocGlobal + Print>(
 }
 
 /// Writes to standard output.
-fn write<R: Print>(rt: &R, text: &[u8]) -> Result<(), Halted> {
+pub fn write<R: Print>(rt: &R, text: &[u8]) -> Result<(), Halted> {
     written(io::writer(rt).write_all(text))
 }
 

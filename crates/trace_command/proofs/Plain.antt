@@ -14,8 +14,8 @@ use Rattle.clap.specs.Walk.{Held, Rule, Step, Text, Waiting, Walk, after_step, a
 use Rattle.clap.specs.Words.{App, is_simple_and_free, kind_of}
 use Rattle.trace_words.specs.Numbers.{number_of}
 use Rattle.trace_command.specs.declared.words.Output.TheVariants.{Report}
-use Rattle.trace_command.specs.Words.{audit, check, draw, dump, explain, generate, outcomes, program, race, replay}
-use Rattle.trace_command.specs.Asked.{Asking, Auditing, Checking, Drawing, Dumping, Explaining, Finding, Generating, Gives, IsPlain, IsRead, IsRefused, Racing, Replaying, Takes, asked_by, asked_in, heap_told, of_core}
+use Rattle.trace_command.specs.Words.{audit, check, cover, draw, dump, explain, generate, outcomes, program, race, replay}
+use Rattle.trace_command.specs.Asked.{Asking, Auditing, Checking, Covering, Drawing, Dumping, Explaining, Finding, Generating, Gives, IsPlain, IsRead, IsRefused, Racing, Replaying, Takes, asked_by, asked_in, heap_told, of_core}
 use Rattle.trace_command.specs.declared.words.Invocation.{Invocation}
 use Rattle.trace_command.specs.declared.words.Looks.TheVariants.{Each}
 use Rattle.trace_command.specs.declared.words.UsageFault.{UsageFault}
@@ -143,6 +143,14 @@ module _ (name file : Text) (plain : strip_byte 45 file ≡ None) where
   check_asked : asked_by (name ∷ codes "check" ∷ file ∷ []) ≡ Some (Checking (file ∷ []) Each Report)
   unfolding clap_on_literals
   check_asked = ap (λ (w : Walk). asked_in (codes "check", finished (leaf check).rules w.held)) (one_walk (leaf check) refl file plain)
+
+  cover_none : fault_of program (name ∷ codes "cover" ∷ file ∷ []) ≡ []
+  unfolding clap_on_literals
+  cover_none = ap (λ k. or_else k []) (one_none (leaf cover) refl file plain refl)
+
+  cover_asked : asked_by (name ∷ codes "cover" ∷ file ∷ []) ≡ Some (Covering (file ∷ []) false false)
+  unfolding clap_on_literals
+  cover_asked = ap (λ (w : Walk). asked_in (codes "cover", finished (leaf cover).rules w.held)) (one_walk (leaf cover) refl file plain)
 
   explain_none : fault_of program (name ∷ codes "explain" ∷ file ∷ []) ≡ []
   unfolding clap_on_literals
@@ -460,6 +468,7 @@ takes_of words r read = record {
   outcomes = λ name file is other. let plain = plain_of file other in taken words _ r _ is (outcomes_none name file plain) (outcomes_asked name file plain) read;
   audit = λ name file is other. let plain = plain_of file other in taken words _ r _ is (audit_none name file plain) (audit_asked name file plain) read;
   check = λ name file is other. let plain = plain_of file other in taken words _ r _ is (check_none name file plain) (check_asked name file plain) read;
+  cover = λ name file is other. let plain = plain_of file other in taken words _ r _ is (cover_none name file plain) (cover_asked name file plain) read;
   explain = λ name file is other. let plain = plain_of file other in taken words _ r _ is (explain_none name file plain) (explain_asked name file plain) read;
   generate = λ name seed steps n count is other other_steps is_seed is_steps.
       let plain = plain_of seed other in

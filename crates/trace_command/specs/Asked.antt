@@ -43,6 +43,8 @@ pub data Asking : Type 0 where
   -- the file, the points of a step, the report that was observed, and how the own one is written
   Finding : Text → ℕ → Option Text → Output → Asking
   Checking : List Text → Looks → Output → Asking
+  -- the files, whether only what never came is written, and whether nothing is
+  Covering : List Text → Bool → Bool → Asking
   Recording : Text → Asking
   -- the line that is shown, where it is one
   Explaining : Text → Option ℕ → Output → Asking
@@ -71,6 +73,7 @@ asking_of (invocation.Race file output) = Racing file.now output
 asking_of (invocation.Audit file output) = Auditing file.now output
 asking_of (invocation.Outcomes file limit observed output) = Finding file.now limit (option_map (λ report. report.now) observed) output
 asking_of (invocation.Check files looks output) = Checking (map (λ file. file.now) files.items) looks output
+asking_of (invocation.Cover files missing quiet) = Covering (map (λ file. file.now) files.items) missing quiet
 asking_of (invocation.Record file) = Recording file.now
 asking_of (invocation.Explain file line output) = Explaining file.now line output
 asking_of (invocation.Generate seed steps cpus pages geometry hostile) = Generating seed steps cpus pages geometry hostile
@@ -164,6 +167,9 @@ checking rows =
     option_and_then (λ files. option_and_then (λ looks. if is_set (codes "record") rows then recording files else Some (Checking files looks (output_in rows)))
     (looks_told (first_of (codes "oracle") rows))) (all_of (codes "FILE") rows)
 
+abbrev pub covering : List Row → Option Asking
+covering rows = option_map (λ files. Covering files (is_set (codes "missing") rows) (is_set (codes "quiet") rows)) (all_of (codes "FILE") rows)
+
 abbrev pub explaining : List Row → Option Asking
 explaining rows = option_and_then (λ file. option_map (λ line. Explaining file line (output_in rows)) (line_told (first_of (codes "line") rows))) (first_of (codes "FILE") rows)
 
@@ -207,11 +213,12 @@ asked_in (name, rows) =
     else (if bytes_eq name (codes "audit") then auditing rows
     else (if bytes_eq name (codes "outcomes") then finding rows
     else (if bytes_eq name (codes "check") then checking rows
+    else (if bytes_eq name (codes "cover") then covering rows
     else (if bytes_eq name (codes "explain") then explaining rows
     else (if bytes_eq name (codes "generate") then generating rows
     else (if bytes_eq name (codes "draw") then drawing rows
     else (if bytes_eq name (codes "dump") then dumping rows
-    else None))))))))
+    else None)))))))))
 
 -- what words ask for, where clap finds no fault in them
 abbrev pub asked_by : List Text → Option Asking
@@ -259,6 +266,7 @@ pub record Takes (words : List Text) (r : Result Invocation UsageFault) : Type 0
   pub outcomes : (name file : Text) → words ≡ name ∷ codes "outcomes" ∷ file ∷ [] → IsPlain file → Gives (Finding file 100000 None Report) r
   pub audit : (name file : Text) → words ≡ name ∷ codes "audit" ∷ file ∷ [] → IsPlain file → Gives (Auditing file Report) r
   pub check : (name file : Text) → words ≡ name ∷ codes "check" ∷ file ∷ [] → IsPlain file → Gives (Checking (file ∷ []) Each Report) r
+  pub cover : (name file : Text) → words ≡ name ∷ codes "cover" ∷ file ∷ [] → IsPlain file → Gives (Covering (file ∷ []) false false) r
   pub explain : (name file : Text) → words ≡ name ∷ codes "explain" ∷ file ∷ [] → IsPlain file → Gives (Explaining file None Report) r
   pub generate : (name seed steps : Text) (n count : ℕ) → words ≡ name ∷ codes "generate" ∷ seed ∷ steps ∷ [] → IsPlain seed → IsPlain steps → number_of seed ≡ Some n → number_of steps ≡ Some count
       → Gives (Generating n count 4 2048 39 0) r

@@ -61,6 +61,9 @@ outcomes = reporting (with_rule (with_rule (with_rule (new_app (codes "outcomes"
 abbrev pub check : App
 check = reporting (with_rule (with_rule (with_rule (new_app (codes "check")) files) (flag (codes "record"))) oracle)
 
+abbrev pub cover : App
+cover = with_rule (with_rule (with_rule (new_app (codes "cover")) files) (flag (codes "missing"))) quiet
+
 abbrev pub explain : App
 explain = reporting (with_rule (with_rule (new_app (codes "explain")) file) (option (codes "line")))
 
@@ -84,5 +87,5 @@ named = record (new_app (codes "trace_cli")) { top = record (new_app (codes "tra
 
 abbrev pub program : App
 program =
-    with_subcommand (with_subcommand (with_subcommand (with_subcommand (with_subcommand (with_subcommand (with_subcommand (with_subcommand (with_subcommand named replay.top) race.top) audit.top) outcomes.top)
-    check.top) explain.top) generate.top) draw.top) dump.top
+    with_subcommand (with_subcommand (with_subcommand (with_subcommand (with_subcommand (with_subcommand (with_subcommand (with_subcommand (with_subcommand (with_subcommand named replay.top) race.top) audit.top)
+    outcomes.top) check.top) cover.top) explain.top) generate.top) draw.top) dump.top

@@ -10,6 +10,7 @@ ghost use Rattle.trace_command.specs.Asked.{
   asked_in,
   auditing,
   checking,
+  covering,
   number_given,
   drawing,
   dumping,
@@ -118,6 +119,9 @@ fn asked_of<'a>(
     }
     if name == "check" {
         return check_asked(global, inner);
+    }
+    if name == "cover" {
+        return cover_asked(global, inner);
     }
     if name == "explain" {
         return explain_asked(inner);
@@ -384,6 +388,17 @@ fn record_asked<'a>(files: &[&'a str]) -> Result<Invocation<'a>, Unread>
         [file] => Ok(Invocation::Record { file: *file }),
         _ => Err(Unread::Word(Wanted::OneFile)),
     }
+}
+
+fn cover_asked<'a>(global: Global, inner: &ArgMatches<'a>) -> Result<Invocation<'a>, Unread>
+    ensures { HasAsked (covering (rows_of (found_of inner.now))) result }
+{
+    let files = files(global, inner)?;
+    Ok(Invocation::Cover {
+        files,
+        missing: is_set(inner, "missing"),
+        quiet: is_set(inner, "quiet"),
+    })
 }
 
 fn explain_asked<'a>(inner: &ArgMatches<'a>) -> Result<Invocation<'a>, Unread>

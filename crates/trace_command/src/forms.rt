@@ -5,6 +5,7 @@ ghost use Rattle.clap.specs.declared.builder.command.Command.TheViews.{out-Comma
 ghost use Rattle.trace_command.specs.Words.{
   audit as audit_app,
   check as check_app,
+  cover as cover_app,
   draw as draw_app,
   dump as dump_app,
   explain as explain_app,
@@ -36,7 +37,7 @@ const PROGRAM: &str = "./run";
 
 /// What help shows after the words.
 const HELP: &str =
-    "Examples:\n  ./run replay examples/first_share.trace\n  ./run replay examples/first_share.trace --heap 262144\n  ./run race examples/raced/one_vcpu.trace\n  ./run outcomes examples/raced/one_vcpu.trace\n  ./run audit examples/audited/broken_word.trace\n  ./run check examples/expected_replies.trace\n  ./run explain examples/first_share.trace\n  ./run generate 1 1000 --cpus 4 --hostile 10\n  ./run draw examples/protected_vm.trace\n\nFILE is a path, or - for standard input.\n\nExit status:\n  0  the report ends without a fault or a disagreement; what a trace expects is met\n  1  the report has a fault or a disagreement, an expectation is missed, or reading, writing, memory or the start of a thread failed\n  2  FILE can't be opened, the words are refused, or help was asked for\n\nThe lines of a trace, its report and each fault are explained in docs/TRACES.md, the objects of --json in docs/JSON.md.";
+    "Examples:\n  ./run replay examples/first_share.trace\n  ./run replay examples/first_share.trace --heap 262144\n  ./run race examples/raced/one_vcpu.trace\n  ./run outcomes examples/raced/one_vcpu.trace\n  ./run audit examples/audited/broken_word.trace\n  ./run check examples/expected_replies.trace\n  ./run cover examples/first_share.trace examples/refusals.trace\n  ./run explain examples/first_share.trace\n  ./run generate 1 1000 --cpus 4 --hostile 10\n  ./run draw examples/protected_vm.trace\n\nFILE is a path, or - for standard input.\n\nExit status:\n  0  the report ends without a fault or a disagreement; what a trace expects is met, or nothing is missing\n  1  the report has a fault or a disagreement, an expectation is missed, something never came, or reading, writing, memory or the start of a thread failed\n  2  FILE can't be opened, or has a fault that cover meets, the words are refused, or help was asked for\n\nThe lines of a trace, its report and each fault are explained in docs/TRACES.md, the objects of --json in docs/JSON.md.";
 
 /// A value that must be given, by its place.
 fn needed<'a>(global: Global, id: &'a str, help: &'a str) -> Arg<'a>
@@ -268,6 +269,26 @@ fn check<'a>(global: Global) -> Result<Command<'a>, AllocError>
     reporting(global, form)
 }
 
+fn cover<'a>(global: Global) -> Result<Command<'a>, AllocError>
+    ensures app { IfOk result (λ form. app_of form ≡ cover_app) }
+    ensures local { IfOk result (λ form. (fields_of form).has_globals ≡ false) }
+{
+    let form = subcommand(
+        global,
+        "cover",
+        "Count what traces have tried: calls, refusals, and conditions of frames",
+    );
+    let files = files_arg(global);
+    let form = with(form, files)?;
+    let missing = flag(
+        global,
+        "missing",
+        "write only what never came, with status 1 if there is any",
+    );
+    let form = with(form, missing)?;
+    with(form, quiet(global))
+}
+
 fn explain<'a>(global: Global) -> Result<Command<'a>, AllocError>
     ensures app { IfOk result (λ form. app_of form ≡ explain_app) }
     ensures local { IfOk result (λ form. (fields_of form).has_globals ≡ false) }
@@ -418,6 +439,7 @@ pub(crate) fn form<'a>(global: Global) -> Result<Command<'a>, AllocError>
     let form = with_form(form, audit(global)?)?;
     let form = with_form(form, outcomes(global)?)?;
     let form = with_form(form, check(global)?)?;
+    let form = with_form(form, cover(global)?)?;
     let form = with_form(form, explain(global)?)?;
     let form = with_form(form, generate(global)?)?;
     let form = with_form(form, draw(global)?)?;

@@ -65,6 +65,14 @@ pub enum Invocation<'a> {
         looks: Looks,
         output: Output,
     },
+    /// Count what traces have tried.
+    Cover {
+        files: Vec<&'a str>,
+        /// Whether only what never came is written.
+        missing: bool,
+        /// Whether nothing is written: the exit status tells.
+        quiet: bool,
+    },
     /// Write a trace with what its lines report as expectations.
     Record {
         file: &'a str,

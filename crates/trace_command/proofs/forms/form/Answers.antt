@@ -19,7 +19,8 @@ returns c =
     let three = c.in_ok-form-3.ensures.app ∙ ap₂ with_subcommand two (ap top_of c.in_ok-audit.ensures.app) in
     let four = c.in_ok-form-4.ensures.app ∙ ap₂ with_subcommand three (ap top_of c.in_ok-outcomes.ensures.app) in
     let five = c.in_ok-form-5.ensures.app ∙ ap₂ with_subcommand four (ap top_of c.in_ok-check.ensures.app) in
-    let six = c.in_ok-form-6.ensures.app ∙ ap₂ with_subcommand five (ap top_of c.in_ok-explain.ensures.app) in
-    let seven = c.in_ok-form-7.ensures.app ∙ ap₂ with_subcommand six (ap top_of c.in_ok-generate.ensures.app) in
-    let eight = c.in_ok-form-8.ensures.app ∙ ap₂ with_subcommand seven (ap top_of c.in_ok-draw.ensures.app) in
-    IfOk-weaker c.with_form-9.result _ _ (λ r h. h ∙ ap₂ with_subcommand eight (ap top_of c.in_ok-dump.ensures.app)) c.with_form-9.ensures.app
+    let six = c.in_ok-form-6.ensures.app ∙ ap₂ with_subcommand five (ap top_of c.in_ok-cover.ensures.app) in
+    let seven = c.in_ok-form-7.ensures.app ∙ ap₂ with_subcommand six (ap top_of c.in_ok-explain.ensures.app) in
+    let eight = c.in_ok-form-8.ensures.app ∙ ap₂ with_subcommand seven (ap top_of c.in_ok-generate.ensures.app) in
+    let nine = c.in_ok-form-9.ensures.app ∙ ap₂ with_subcommand eight (ap top_of c.in_ok-draw.ensures.app) in
+    IfOk-weaker c.with_form-10.result _ _ (λ r h. h ∙ ap₂ with_subcommand nine (ap top_of c.in_ok-dump.ensures.app)) c.with_form-10.ensures.app

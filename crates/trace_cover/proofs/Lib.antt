@@ -1,0 +1,4 @@
+pub mod Going
+pub mod Legality
+pub mod Once
+pub mod Untold

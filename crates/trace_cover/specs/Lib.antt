@@ -1,0 +1,10 @@
+pub mod Conditions
+pub mod Counted
+pub mod Found
+pub mod Kinds
+pub mod Laws
+pub mod Legality
+pub mod Rows
+pub mod Steps
+pub mod Told
+pub mod View

@@ -1,0 +1,23 @@
+//! The laws of counts. Each function does nothing, and its contract is the law.
+ghost use Rattle.trace_cover.specs.Laws.{EachOnce, UntoldPass};
+ghost use Rattle.trace_cover.specs.Legality.{NeverFound, SameCondition};
+
+/// Each step is counted in one row of a reply, and, where it names a frame, in one row of a condition.
+pub fn each_once()
+    ensures { EachOnce }
+{}
+
+/// A test that the table says no rule of the call has always passes, so no reply is left out.
+pub fn untold_pass()
+    ensures { UntoldPass }
+{}
+
+/// In a legal state, as each of a run is, the condition that is counted of a memory frame is that of the invariant.
+pub fn same_condition()
+    ensures { SameCondition }
+{}
+
+/// In a legal state no step finds a frame in a condition that the report tells to be impossible.
+pub fn never_found()
+    ensures { NeverFound }
+{}
