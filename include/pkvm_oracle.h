@@ -555,10 +555,10 @@ int32_t pkvm_boot(const struct pkvm_layout *layout, struct pkvm_room *room,
  * same arguments give the same call: hand in another number each time.
  *
  *   layout     what the hypervisor runs on
- *   state      the state that the call is to be made on
+ *   state      the state that it is to be made on
  *   random     any number
- *   hostile    how many of a hundred numbers give a call that the model refuses, 0 to 100; for all
- *              others it makes the call
+ *   hostile    how many of a hundred numbers give one that the model refuses, 0 to 100; it makes
+ *              the others
  *   call       written: its CPU and its step; its reply stays
  *   refused    written: what of the layout or the state is refused
  *

@@ -14,6 +14,7 @@ use pkvm_oracle_sys as sys;
 ///     cpus: 2,
 ///     carve: 0x40600..0x40640,
 ///     regions: vec![Region { kind: RegionKind::Memory, first: 0x40000, count: 0x800 }],
+///     freedoms: None,
 /// };
 /// let state = boot(&layout)?;
 /// assert_eq!((state.tables.len(), state.frames[0].frame), (6, 0x40606));
@@ -63,6 +64,7 @@ pub fn boot(layout: &Layout) -> Result<State, Error> {
 ///     cpus: 2,
 ///     carve: 0x40600..0x40640,
 ///     regions: vec![Region { kind: RegionKind::Memory, first: 0x40000, count: 0x800 }],
+///     freedoms: None,
 /// };
 /// let mut state = boot(&layout)?;
 /// for random in 0..100 {
@@ -132,6 +134,7 @@ fn told(
 ///     cpus: 1,
 ///     carve: 0x40600..0x40640,
 ///     regions: vec![Region { kind: RegionKind::Memory, first: 0x40000, count: 0x800 }],
+///     freedoms: None,
 /// };
 /// let mut trace = trace_start(&layout)?;
 /// let line = trace_of(&layout, 0, Call::DonateHyp { frame: 0x40100, count: 2 })?;

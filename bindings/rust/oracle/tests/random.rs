@@ -14,6 +14,7 @@ fn layout() -> Layout {
             first: 0x40000,
             count: 0x800,
         }],
+        freedoms: None,
     }
 }
 
