@@ -1,6 +1,6 @@
 mod Checked
-mod Covering
 mod Explained
 mod Greatest
 mod Made
 mod Outcomes
+mod Together

@@ -1,4 +1,4 @@
-use Rattle.trace_cli.proofs.Covering.{of_bytes}
+use Rattle.trace_cli.proofs.Together.{of_bytes}
 use Rattle.trace_cli.proofs.covering.counted.Goals as goal
 
 pub returns : goal.returns

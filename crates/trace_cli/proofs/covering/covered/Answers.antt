@@ -1,7 +1,7 @@
 use Rattle.std.proofs.Common.{◌∙◌, ap, arith, map, refl, subst}
 use Rattle.std.specs.Prelude.{◌||◌}
 use Rattle.std.proofs.lemmas.List.{length-map}
-use Rattle.trace_cli.proofs.Covering.{all_done, at_first, ok_added, one_further, stopped}
+use Rattle.trace_cli.proofs.Together.{all_done, at_first, ok_added, one_further, stopped}
 use Rattle.trace_cli.proofs.Greatest.{at_map}
 use Rattle.trace_cli.specs.Covering.{IsToldStatus}
 use Rattle.trace_cli.proofs.covering.covered.Goals as goal

@@ -1,5 +1,5 @@
 use Rattle.std.specs.Prelude.{map}
-use Rattle.trace_cli.proofs.Covering.{IsAhead}
+use Rattle.trace_cli.proofs.Together.{IsAhead}
 use Rattle.trace_cli.proofs.covering.covered.Given as goal
 
 abbrev pub invariant-loop-path : goal.invariant-loop-path
