@@ -37,7 +37,7 @@ either_tree false r s h = refl
 pub same_tree : (has_records : Bool) (root : Root) → (told_root has_records root).tree ≡ root.tree
 same_tree has_records root =
     either_tree (is_stated has_records root)
-        (record root { profile = record root.profile { has_states = true } }) root refl
+    (record root { profile = record root.profile { has_states = true } }) root refl
 
 -- what more elements give
 flat_more : {X Y : Type 0} (f : X → List Y) (xs : List X) (x : X) → flat_map f (xs ++ x ∷ []) ≡ flat_map f xs ++ f x
