@@ -70,12 +70,18 @@ refill : (s : PlainStep) (m n : ℕ) → m ≡ s.third → n ≡ s.fourth → re
 refill s m n e f = rw (e, f) refl
 
 -- what is behind an argument is what it was put before
-behind : (form : Form) (more : List Form) (a : Arguments) (c : ℕ) → weight (form ∷ more) ≤ 4 → numbers_behind form (in_front form a (written more a c)) ≡ written more a c
-behind Vm more a c h = refill (written more a c) 0 0 (sym (zero_third more a c (omega (arith, h)))) (sym (zero_fourth more a c (omega (arith, h))))
-behind form more a c h = refill (written more a c) (written more a c).third 0 refl (sym (zero_fourth more a c (omega (arith, h))))
+behind : (form : Form) (more : List Form) (a : Arguments) (c : ℕ)
+    → weight (form ∷ more) ≤ 4
+    → numbers_behind form (in_front form a (written more a c)) ≡ written more a c
+behind Vm more a c h =
+    refill (written more a c) 0 0 (sym (zero_third more a c (omega (arith, h))))
+    (sym (zero_fourth more a c (omega (arith, h))))
+behind form more a c h =
+    refill (written more a c) (written more a c).third 0 refl (sym (zero_fourth more a c (omega (arith, h))))
 
 -- the argument is said
-argument_back : (form : Form) (a to : Arguments) (s : PlainStep) → argument_said form (in_front form a s) to ≡ Some (taken form a to)
+argument_back : (form : Form) (a to : Arguments) (s : PlainStep)
+    → argument_said form (in_front form a s) to ≡ Some (taken form a to)
 argument_back Kind a to s = rw (kind_says a.kind) refl
 argument_back Rights a to s = rw (rights_says a.rights) refl
 argument_back form a to s = refl
@@ -84,10 +90,13 @@ less : (form : Form) (more : List Form) → weight (form ∷ more) ≤ 4 → wei
 less Vm more h = omega (arith, h)
 less form more h = omega (arith, h)
 
-arguments_back : (fs : List Form) (a to : Arguments) (c : ℕ) → weight fs ≤ 4 → arguments_said fs (written fs a c) to ≡ Some (kept fs a to)
+arguments_back : (fs : List Form) (a to : Arguments) (c : ℕ)
+    → weight fs ≤ 4
+    → arguments_said fs (written fs a c) to ≡ Some (kept fs a to)
 arguments_back [] a to c h = refl
 arguments_back (form ∷ more) a to c h =
-    ap (option_and_then (arguments_said more (numbers_behind form (written (form ∷ more) a c)))) (argument_back form a to (written more a c))
+    ap (option_and_then (arguments_said more (numbers_behind form (written (form ∷ more) a c))))
+    (argument_back form a to (written more a c))
     ∙ ap (λ s. arguments_said more s (taken form a to)) (behind form more a c h)
     ∙ arguments_back more a (taken form a to) c (less form more h)
 
@@ -105,7 +114,10 @@ and_right : (a b : Bool) → (a && b) ≡ true → b ≡ true
 and_right true b e = e
 and_right false b e = absurd (cc)
 
-found_passes : {X : Type 0} (p q : X → Bool) (xs : List X) (x : X) → find p xs ≡ Some x → list_all q xs ≡ true → q x ≡ true
+found_passes : {X : Type 0} (p q : X → Bool) (xs : List X) (x : X)
+    → find p xs ≡ Some x
+    → list_all q xs ≡ true
+    → q x ≡ true
 found_passes p q [] x e h = absurd (cc)
 found_passes p q (y ∷ ys) x e h =
     (elim (p y) as (λ b. cond b (Some y) (find p ys) ≡ Some x → q x ≡ true) [
@@ -118,17 +130,25 @@ most n e = grind (arith, nat_tests)
 
 four : (call : CallName) → weight (row call).forms ≤ 4
 unfolding named
-four call = most (weight (row call).forms) (found_passes (λ c. bytes_eq (row call).word (row c).word) (λ c. nat_le (weight (row c).forms) 4) calls call (rows_differ call).0 refl)
+four call =
+    most (weight (row call).forms)
+    (found_passes (λ c. bytes_eq (row call).word (row c).word) (λ c. nat_le (weight (row c).forms) 4) calls call
+    (rows_differ call).0 refl)
 
 -- the arguments that are kept make the step
-kept_makes : (step : Step) → step_by (named_by step).call (kept (row (named_by step).call).forms (named_by step).arguments blank) ≡ step
+kept_makes : (step : Step)
+    → step_by (named_by step).call (kept (row (named_by step).call).forms (named_by step).arguments blank) ≡ step
 kept_makes step =
     let n = named_by step in
     let made : step_by n.call n.arguments ≡ step = steps_made step in
-    let same : n.arguments ≡ kept (row n.call).forms n.arguments blank = ap (λ s. (named_by s).arguments) (sym made) ∙ ap (λ m. m.arguments) (calls_named n.call n.arguments) in
+    let same : n.arguments ≡ kept (row n.call).forms n.arguments blank =
+    ap (λ s. (named_by s).arguments) (sym made) ∙ ap (λ m. m.arguments) (calls_named n.call n.arguments) in
     ap (step_by n.call) (sym same) ∙ made
 
-said_by : (s : PlainStep) (call : CallName) (given : Arguments) (step : Step) → numbered s.call ≡ Some call → arguments_said (row call).forms s blank ≡ Some given → step_by call given ≡ step
+said_by : (s : PlainStep) (call : CallName) (given : Arguments) (step : Step)
+    → numbered s.call ≡ Some call
+    → arguments_said (row call).forms s blank ≡ Some given
+    → step_by call given ≡ step
     → step_said s ≡ Some step
 unfolding step_said
 said_by s call given step e f g = rw (e, f, g) refl
@@ -138,5 +158,6 @@ steps_said step =
     let n = named_by step in
     let forms = (row n.call).forms in
     let number = (row n.call).number in
-    said_by (step_written step) n.call (kept forms n.arguments blank) step (ap numbered (call_kept forms n.arguments number) ∙ (rows_differ n.call).1)
+    said_by (step_written step) n.call (kept forms n.arguments blank) step
+    (ap numbered (call_kept forms n.arguments number) ∙ (rows_differ n.call).1)
     (arguments_back forms n.arguments blank number (four n.call)) (kept_makes step)

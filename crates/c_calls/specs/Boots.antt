@@ -30,5 +30,6 @@ pub record IsBootTold (l : PlainLayout) (regions : List PlainRegion) (p : Lists)
 abbrev pub IsUnbooted : PlainLayout → List PlainRegion → Unbooted → Type 0
 IsUnbooted l regions (unbooted.Layout fault) = IsLayoutFault l regions fault
 IsUnbooted l regions unbooted.Cpus = IsTakenLayout l regions × ¬ HasCpus l
-IsUnbooted l regions unbooted.CarveSmall = IsTakenLayout l regions × HasCpus l × ¬ IsCarveEnough (layout_said l regions)
+IsUnbooted l regions unbooted.CarveSmall =
+    IsTakenLayout l regions × HasCpus l × ¬ IsCarveEnough (layout_said l regions)
 IsUnbooted l regions unbooted.NoMemory = Unit {0}

@@ -28,7 +28,10 @@ pub record AreIn64Bits (l : PlainLayout) (regions : List PlainRegion) : Type 0 w
 -- lines lead from settings to others, each by a setting that it says where it comes
 abbrev pub SaySettings : List (List ℕ) → Told → Told → Type 0
 SaySettings [] told end = told ≡ end
-SaySettings (line ∷ more) told end = (s : Setting) × (said before_boot told line ≡ Ok (Some (lines.Setting s))) × SaySettings more (told_after s told) end
+SaySettings (line ∷ more) told end =
+    (s : Setting)
+    × (said before_boot told line ≡ Ok (Some (lines.Setting s)))
+    × SaySettings more (told_after s told) end
 
 -- the settings of a layout, with the largest logs
 abbrev pub settings_said : PlainLayout → List PlainRegion → Told
@@ -43,4 +46,5 @@ settings_said l regions = record {
 -- the lines of a layout's settings say just these, and then `boot` says the boot
 abbrev pub StartsAreRead : Type 0
 StartsAreRead = (l : PlainLayout) (regions : List PlainRegion) → AreIn64Bits l regions
-    → SaySettings (setting_lines l regions) nothing_told (settings_said l regions) × (said before_boot (settings_said l regions) (codes "boot") ≡ Ok (Some lines.Boot))
+    → SaySettings (setting_lines l regions) nothing_told (settings_said l regions)
+    × (said before_boot (settings_said l regions) (codes "boot") ≡ Ok (Some lines.Boot))

@@ -30,7 +30,8 @@ region_line r = range_line (if r.kind == 0 then codes "memory" else codes "devic
 
 -- the lines before those of regions. Each log has room for as many calls as a log can have
 abbrev pub config_lines : ℕ → ℕ → List (List ℕ)
-config_lines bits cpus = number_line (codes "geometry") bits ∷ number_line (codes "cpus") cpus ∷ codes "log 1048576" ∷ []
+config_lines bits cpus =
+    number_line (codes "geometry") bits ∷ number_line (codes "cpus") cpus ∷ codes "log 1048576" ∷ []
 
 -- those behind them: the carve-out, and the boot
 abbrev pub end_lines : ℕ → ℕ → List (List ℕ)
@@ -38,7 +39,10 @@ end_lines first count = range_line (codes "carve") first count ∷ codes "boot" 
 
 -- the lines of a layout's settings
 abbrev pub setting_lines : PlainLayout → List PlainRegion → List (List ℕ)
-setting_lines l regions = config_lines l.address_bits l.cpus ++ (map region_line regions ++ (range_line (codes "carve") l.carve_first l.carve_count ∷ []))
+setting_lines l regions =
+    config_lines l.address_bits l.cpus
+    ++ (map region_line regions
+    ++ (range_line (codes "carve") l.carve_first l.carve_count ∷ []))
 
 -- lines, each with its end
 abbrev pub text_of_lines : List (List ℕ) → List ℕ
@@ -51,15 +55,19 @@ text_of_start l regions = text_of_lines (setting_lines l regions ++ (codes "boot
 
 -- a line says this wherever a step may be: after any settings, and before `start` or behind it
 abbrev pub IsReadAs : List ℕ → Line → Type 0
-IsReadAs line says = (started : Bool) (told : Told) → said (of_replay started) told line ≡ Ok (Some says)
+IsReadAs line says =
+    (started : Bool) (told : Told) → said (of_replay started) told line ≡ Ok (Some says)
 
 -- the line of a call of one of the layout's CPUs is offered, with its end, and says that call
-pub record IsLineOf (l : PlainLayout) (call : PlainCall) (old new : List ℕ) (count : ℕ) : Type 0 where
+pub record IsLineOf (l : PlainLayout) (call : PlainCall) (old new : List ℕ)
+    (count : ℕ) : Type 0 where
   pub step : Step
   pub step_is : step_said call.step ≡ Some step
   pub cpu : call.cpu < l.cpus
-  pub offered : IsOffered (text_of_line (record { cpu = call.cpu; step = step }) ++ codes "\n") old new count
-  pub read : IsReadAs (text_of_line (record { cpu = call.cpu; step = step })) (lines.Step call.cpu step)
+  pub offered : IsOffered
+      (text_of_line (record { cpu = call.cpu; step = step }) ++ codes "\n") old new count
+  pub read : IsReadAs (text_of_line (record { cpu = call.cpu; step = step }))
+      (lines.Step call.cpu step)
 
 -- why a call has no line: the first that is true
 abbrev pub IsUnwritten : PlainLayout → PlainCall → Unwritten → Type 0

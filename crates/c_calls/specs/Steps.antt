@@ -1,4 +1,5 @@
--- Steps in numbers: the call's, and those of its arguments in the order of its forms, with 0 behind them.
+-- Steps in numbers: the call's, and those of its arguments in the order of its forms, with 0 behind
+-- them.
 use Rattle.std.specs.Prelude.{ℕ, List, [], ◌∷◌}
 use Rattle.call_table.specs.declared.argument.Arguments.{Arguments}
 use Rattle.call_table.specs.declared.argument.Form.{Form}
@@ -29,8 +30,10 @@ number_of Rights a = rights_written a.rights
 
 -- an argument before those that a step has. A VM is two numbers, its slot and its generation
 abbrev pub in_front : Form → Arguments → PlainStep → PlainStep
-in_front Vm a s = record s { first = a.vm.slot; second = a.vm.generation; third = s.first; fourth = s.second }
-in_front form a s = record s { first = number_of form a; second = s.first; third = s.second; fourth = s.third }
+in_front Vm a s =
+    record s { first = a.vm.slot; second = a.vm.generation; third = s.first; fourth = s.second }
+in_front form a s =
+    record s { first = number_of form a; second = s.first; third = s.second; fourth = s.third }
 
 -- and arguments of these forms
 abbrev pub all_in_front : List Form → Arguments → PlainStep → PlainStep
@@ -42,4 +45,5 @@ abbrev pub bare : ℕ → PlainStep
 bare call = record { call = call; first = 0; second = 0; third = 0; fourth = 0 }
 
 abbrev pub step_written : Step → PlainStep
-step_written step = let named = named_by step in all_in_front (row named.call).forms named.arguments (bare (row named.call).number)
+step_written step = let named = named_by step in
+    all_in_front (row named.call).forms named.arguments (bare (row named.call).number)

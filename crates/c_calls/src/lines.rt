@@ -41,7 +41,8 @@ impl fmt::Display for RegionLine {
 
 /// Adds the line of a region.
 fn add_region(text: &mut String, region: PlainRegion) -> Result<(), AllocError>
-    ensures { OnOk result (string_bytes text.new ≡ string_bytes text.old ++ (region_line region ++ codes "\n")) }
+    ensures { OnOk result
+        (string_bytes text.new ≡ string_bytes text.old ++ (region_line region ++ codes "\n")) }
 {
     let line = RegionLine(region);
     writeln!(text, "{line}")
@@ -49,7 +50,9 @@ fn add_region(text: &mut String, region: PlainRegion) -> Result<(), AllocError>
 
 /// Adds the lines of regions.
 fn add_regions(text: &mut String, regions: &[PlainRegion]) -> Result<(), AllocError>
-    ensures { OnOk result (string_bytes text.new ≡ string_bytes text.old ++ text_of_lines (map region_line regions.now)) }
+    ensures { OnOk result
+        (string_bytes text.new
+        ≡ string_bytes text.old ++ text_of_lines (map region_line regions.now)) }
 {
     for region in regions {
         add_region(text, *region)?;
@@ -66,7 +69,8 @@ fn config_text(alloc: Global, bits: u64, cpus: u64) -> Result<String, AllocError
 
 /// Adds the lines behind those of regions.
 fn add_end(text: &mut String, first: u64, count: u64) -> Result<(), AllocError>
-    ensures { OnOk result (string_bytes text.new ≡ string_bytes text.old ++ text_of_lines (end_lines first count)) }
+    ensures { OnOk result
+        (string_bytes text.new ≡ string_bytes text.old ++ text_of_lines (end_lines first count)) }
 {
     write!(text, "carve 0x{first:x} {count}\nboot\n")
 }

@@ -38,8 +38,11 @@ pub fn suggested_call(
     random: u64,
     hostile: u64,
 ) -> Result<Suggested, Unsuggested>
-    ensures call { IfOk result (IsSuggestedCall layout.now layout.now.regions.now (lists_told state.now) random hostile) }
-    ensures fault { IfErr result (IsUnsuggested layout.now layout.now.regions.now (lists_told state.now) hostile) }
+    ensures call { IfOk result
+        (IsSuggestedCall layout.now layout.now.regions.now
+        (lists_told state.now) random hostile) }
+    ensures fault { IfErr result
+        (IsUnsuggested layout.now layout.now.regions.now (lists_told state.now) hostile) }
 {
     if hostile > 100 {
         return Err(Unsuggested::Hostile);

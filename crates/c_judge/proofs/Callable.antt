@@ -25,17 +25,30 @@ not-true : (b : Bool) → not b ≡ true → IsTrue b → ⊥
 not-true true e is = absurd (let bad = e in cc)
 not-true false e is = absurd (let bad = is in cc)
 
-pub last-generation : (s : Reference) (before : Lists) (cpu : ℕ) (plain : PlainStep) (step : Step) (b : Bool) → step_said plain ≡ Some step → s ≡ state_said before
-    → (IsTrue b ↔ HasNextGeneration (s.contents.cpu cpu).ticket step) → not b ≡ true → HasLastGeneration before cpu plain
+pub last-generation : (s : Reference) (before : Lists) (cpu : ℕ) (plain : PlainStep) (step : Step) (b : Bool)
+    → step_said plain ≡ Some step
+    → s ≡ state_said before
+    → (IsTrue b ↔ HasNextGeneration (s.contents.cpu cpu).ticket step)
+    → not b ≡ true
+    → HasLastGeneration before cpu plain
 last-generation s before cpu plain step b said is test last = record {
   step = step;
   step_is = said;
   last = λ has. not-true b last (test.1 (subst (λ t. HasNextGeneration (t.contents.cpu cpu).ticket step) (sym is) has));
 }
 
-pub callable : (l : PlainLayout) (regions : List PlainRegion) (g : Ghost) (before : Lists) (cpu : ℕ) (plain : PlainStep) (step : Step) (b : Bool) → step_said plain ≡ Some step → cpu < l.cpus
-    → IsTakenLayout l regions → AreTaken l.cpus before → ghost_state g ≡ state_said before → (IsTrue b ↔ HasNextGeneration ((ghost_state g).contents.cpu cpu).ticket step) → b ≡ true
-    → layout_of g.layout ≡ layout_said l regions → g.layout.config.cpus ≡ l.cpus → IsCallable l regions before cpu plain step g
+pub callable : (l : PlainLayout) (regions : List PlainRegion) (g : Ghost) (before : Lists) (cpu : ℕ)
+    (plain : PlainStep) (step : Step) (b : Bool)
+    → step_said plain ≡ Some step
+    → cpu < l.cpus
+    → IsTakenLayout l regions
+    → AreTaken l.cpus before
+    → ghost_state g ≡ state_said before
+    → (IsTrue b ↔ HasNextGeneration ((ghost_state g).contents.cpu cpu).ticket step)
+    → b ≡ true
+    → layout_of g.layout ≡ layout_said l regions
+    → g.layout.config.cpus ≡ l.cpus
+    → IsCallable l regions before cpu plain step g
 callable l regions g before cpu plain step b said less taken listed is test next layout cpus = record {
   can = record {
     step_is = said;
@@ -49,7 +62,8 @@ callable l regions g before cpu plain step b said less taken listed is test next
   cpus = cpus;
 }
 
-module _ (l : PlainLayout) (regions : List PlainRegion) (before : Lists) (cpu : ℕ) (plain : PlainStep) (step : Step) (g : Ghost) (h : IsCallable l regions before cpu plain step g) where
+module _ (l : PlainLayout) (regions : List PlainRegion) (before : Lists) (cpu : ℕ) (plain : PlainStep) (step : Step)
+    (g : Ghost) (h : IsCallable l regions before cpu plain step g) where
   pub cpu-is : cpu < g.layout.config.cpus
   cpu-is = subst (λ (n : ℕ). cpu < n) (sym h.cpus) h.can.cpu_is
 
@@ -59,5 +73,9 @@ module _ (l : PlainLayout) (regions : List PlainRegion) (before : Lists) (cpu : 
   pub generation-is : HasNextGeneration ((contents_in g).cpu cpu).ticket step
   generation-is = subst (λ s. HasNextGeneration (s.cpu cpu).ticket step) (sym contents-are) h.can.generation
 
-  pub told-reply : (reply : Reply) (after : Reference) → ◌≡◌ {A = Reply × Reference} (reply, after) (foretell (layout_of g.layout) (ghost_state g) cpu step) → reply ≡ (told_said l regions before cpu step).0
-  told-reply reply after e = ap (λ (p : Reply × Reference). p.0) (e ∙ same2 (λ (m : Layout) (s : Reference). foretell m s cpu step) h.layout h.state)
+  pub told-reply : (reply : Reply) (after : Reference)
+      → ◌≡◌ {A = Reply × Reference} (reply, after) (foretell (layout_of g.layout) (ghost_state g) cpu step)
+      → reply ≡ (told_said l regions before cpu step).0
+  told-reply reply after e =
+      ap (λ (p : Reply × Reference). p.0)
+      (e ∙ same2 (λ (m : Layout) (s : Reference). foretell m s cpu step) h.layout h.state)

@@ -28,14 +28,20 @@ some-said : (o : Option Said) (s : Said) → o ≡ Some s → IsSome o
 some-said (Some x) s e = refl
 some-said None s e = cc
 
-module _ (w : Freedoms) (l : PlainLayout) (regions : List PlainRegion) (before : Lists) (call : PlainCall) (after : Lists) (step : Step) (g : Ghost) (h : IsCallable l regions before call.cpu call.step step g) (says : Said) (says_is : said_of call.reply ≡ Some says) where
-  pub found-freely : (r : Result (Option Found) Unjudged) → IfOk r (IsFoundOf w (layout_of g.layout) l.cpus (contents_in g) call.cpu step says after) → IfOk r (IsFoundFreely w l regions before call after)
+module _ (w : Freedoms) (l : PlainLayout) (regions : List PlainRegion) (before : Lists) (call : PlainCall)
+    (after : Lists) (step : Step) (g : Ghost) (h : IsCallable l regions before call.cpu call.step step g) (says : Said)
+    (says_is : said_of call.reply ≡ Some says) where
+  pub found-freely : (r : Result (Option Found) Unjudged)
+      → IfOk r (IsFoundOf w (layout_of g.layout) l.cpus (contents_in g) call.cpu step says after)
+      → IfOk r (IsFoundFreely w l regions before call after)
   found-freely (Ok found) k = record {
     step = step;
     can = h.can;
     says = says;
     says_is = says_is;
-    found_is = subst (λ (s : Contents). IsFoundOf w (layout_said l regions) l.cpus s call.cpu step says after found) (contents-are l regions before call.cpu call.step step g h)
+    found_is =
+        subst (λ (s : Contents). IsFoundOf w (layout_said l regions) l.cpus s call.cpu step says after found)
+        (contents-are l regions before call.cpu call.step step g h)
         (subst (λ (m : Layout). IsFoundOf w m l.cpus (contents_in g) call.cpu step says after found) h.layout k);
   }
   found-freely (Err why) k = tt
@@ -49,12 +55,18 @@ module _ (w : Freedoms) (l : PlainLayout) (regions : List PlainRegion) (before :
   after-fault (unjudged.After why) k = (some-said (said_of call.reply) says says_is, (step, h.can), k)
   after-fault unjudged.NoMemory k = tt
 
-  pub unfound-freely : (r : Result (Option Found) Unjudged) → IfErr r (IsUnjudgedAfter l regions after) → IfErr r (IsUnfoundFreely l regions before call after)
+  pub unfound-freely : (r : Result (Option Found) Unjudged)
+      → IfErr r (IsUnjudgedAfter l regions after)
+      → IfErr r (IsUnfoundFreely l regions before call after)
   unfound-freely (Ok found) k = tt
   unfound-freely (Err why) k = after-fault why k
 
 -- why a step that is known isn't told
-pub before-fault : (l : PlainLayout) (regions : List PlainRegion) (before : Lists) (call : PlainCall) (after : Lists) (says : Said) (why : Unjudged) → said_of call.reply ≡ Some says → IsUntold l regions before call.cpu call.step why → IsUnfoundFreely l regions before call after why
+pub before-fault : (l : PlainLayout) (regions : List PlainRegion) (before : Lists) (call : PlainCall) (after : Lists)
+    (says : Said) (why : Unjudged)
+    → said_of call.reply ≡ Some says
+    → IsUntold l regions before call.cpu call.step why
+    → IsUnfoundFreely l regions before call after why
 before-fault l regions before call after says unjudged.Step e k = k
 before-fault l regions before call after says unjudged.Reply e k = absurd k
 before-fault l regions before call after says unjudged.Cpu e k = (some-said (said_of call.reply) says e, k)
@@ -64,10 +76,14 @@ before-fault l regions before call after says (unjudged.After why) e k = absurd 
 before-fault l regions before call after says unjudged.NoMemory e k = tt
 
 -- a call of which something is found can be refused for want of memory
-module _ (l : PlainLayout) (regions : List PlainRegion) (before : Lists) (call : PlainCall) (after : Lists) (found : Option Found) where
-  wanting : (o : Option Freedoms) → IsFoundBy l regions before call after o found → IsUnfoundBy l regions before call after o unjudged.NoMemory
+module _ (l : PlainLayout) (regions : List PlainRegion) (before : Lists) (call : PlainCall) (after : Lists)
+    (found : Option Found) where
+  wanting : (o : Option Freedoms)
+      → IsFoundBy l regions before call after o found
+      → IsUnfoundBy l regions before call after o unjudged.NoMemory
   wanting None j = (some-said (said_of call.reply) j.says j.says_is, inl tt)
   wanting (Some w) j = tt
 
-  pub no-memory : IsFound l regions before call after found → IsUnfound l regions before call after (Call unjudged.NoMemory)
+  pub no-memory : IsFound l regions before call after found
+      → IsUnfound l regions before call after (Call unjudged.NoMemory)
   no-memory f = (f.freedoms, f.taken, wanting f.freedoms f.judged)

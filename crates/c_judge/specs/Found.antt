@@ -1,4 +1,5 @@
--- What the judgement of a call by plain lists and by the layout's freedoms says, and why there is none.
+-- What the judgement of a call by plain lists and by the layout's freedoms says, and why there is
+-- none.
 use Rattle.std.specs.Prelude.{◌≡◌, ◌⊎◌, ℕ, true, false, List, Option, Some, None, IsSome, option_map}
 use Rattle.call_table.specs.declared.reply.Refusal.TheVariants.{Contended}
 use Rattle.call_table.specs.declared.reply.Reply.{Reply}
@@ -31,7 +32,8 @@ use Rattle.c_judge.specs.Freedoms.{IsFreedomsFault, IsTakenAs}
 use Rattle.c_judge.specs.Replies.{said_of}
 
 -- the reply that the model gives to a step of the lists' state
-pub record IsTold (l : PlainLayout) (regions : List PlainRegion) (before : Lists) (cpu : ℕ) (plain : PlainStep) (reply : Reply) : Type 0 where
+pub record IsTold (l : PlainLayout) (regions : List PlainRegion) (before : Lists) (cpu : ℕ)
+    (plain : PlainStep) (reply : Reply) : Type 0 where
   pub step : Step
   pub can : CanCall l regions before cpu plain step
   pub reply_is : reply ≡ (told_said l regions before cpu step).0
@@ -46,25 +48,40 @@ renamed n (ReplyDiffers said spec) = Refusal n spec
 renamed n d = Differs d
 
 -- judged exactly: a call whose reply the model has, as it is judged; another one disagrees
-abbrev pub IsFoundExactlyOf : PlainLayout → List PlainRegion → Lists → PlainCall → Lists → Said → Option Found → Type 0
-IsFoundExactlyOf l regions before call after (said.Known reply) found = (o : Option Disagreement) × IsJudged l regions before call after o × (found ≡ option_map differs o)
-IsFoundExactlyOf l regions before call after (said.Refusal n) found = (spec : Reply) × IsTold l regions before call.cpu call.step spec × (found ≡ Some (Refusal n spec))
-IsFoundExactlyOf l regions before call after said.Stopped found = (spec : Reply) × IsTold l regions before call.cpu call.step spec × (found ≡ Some (Stopped spec))
+abbrev pub IsFoundExactlyOf : PlainLayout → List PlainRegion → Lists → PlainCall → Lists → Said
+    → Option Found → Type 0
+IsFoundExactlyOf l regions before call after (said.Known reply) found =
+    (o : Option Disagreement)
+    × IsJudged l regions before call after o
+    × (found ≡ option_map differs o)
+IsFoundExactlyOf l regions before call after (said.Refusal n) found =
+    (spec : Reply)
+    × IsTold l regions before call.cpu call.step spec
+    × (found ≡ Some (Refusal n spec))
+IsFoundExactlyOf l regions before call after said.Stopped found =
+    (spec : Reply) × IsTold l regions before call.cpu call.step spec × (found ≡ Some (Stopped spec))
 
-pub record IsFoundExactly (l : PlainLayout) (regions : List PlainRegion) (before : Lists) (call : PlainCall) (after : Lists) (found : Option Found) : Type 0 where
+pub record IsFoundExactly (l : PlainLayout) (regions : List PlainRegion) (before : Lists)
+    (call : PlainCall) (after : Lists) (found : Option Found) : Type 0 where
   pub says : Said
   pub says_is : said_of call.reply ≡ Some says
   pub found_is : IsFoundExactlyOf l regions before call after says found
 
 -- why a call isn't judged exactly
-abbrev pub IsUnfoundExactly : PlainLayout → List PlainRegion → Lists → PlainCall → Lists → Unjudged → Type 0
+abbrev pub IsUnfoundExactly : PlainLayout → List PlainRegion → Lists → PlainCall → Lists → Unjudged
+    → Type 0
 IsUnfoundExactly l regions before call after unjudged.Step = step_said call.step ≡ None
-IsUnfoundExactly l regions before call after unjudged.Reply = IsSome (step_said call.step) × (said_of call.reply ≡ None)
-IsUnfoundExactly l regions before call after why = IsSome (said_of call.reply) × (IsUnjudged l regions before call after why ⊎ IsUntold l regions before call.cpu call.step why)
+IsUnfoundExactly l regions before call after unjudged.Reply =
+    IsSome (step_said call.step) × (said_of call.reply ≡ None)
+IsUnfoundExactly l regions before call after why =
+    IsSome (said_of call.reply)
+    × (IsUnjudged l regions before call after why
+    ⊎ IsUntold l regions before call.cpu call.step why)
 
 -- the reply that the model gives, whatever the tables and free frames
 abbrev pub IsToldOnly : Freedoms → Layout → Contents → ℕ → Step → Reply → Type 0
-IsToldOnly w l before cpu step reply = (after : Contents) × IsToldFreely w l before cpu step reply after
+IsToldOnly w l before cpu step reply =
+    (after : Contents) × IsToldFreely w l before cpu step reply after
 
 module _ (w : Freedoms) (l : Layout) (cpus : ℕ) (before : Contents) (cpu : ℕ) (step : Step) where
   -- the lists after the call make a state, and this is found of it
@@ -72,45 +89,66 @@ module _ (w : Freedoms) (l : Layout) (cpus : ℕ) (before : Contents) (cpu : ℕ
     pub taken : AreTaken cpus after
     pub judged : IsJudgedFreely w l before cpu step reply (contents_said after) found
 
-  -- a refusal that the model hasn't stands for one, where any does; else it disagrees, and so does a call that stopped the machine
+  -- a refusal that the model hasn't stands for one, where any does; else it disagrees, and so does
+  -- a call that stopped the machine
   abbrev pub IsFoundOf : Said → Lists → Option Found → Type 0
-  IsFoundOf (said.Known reply) after found = (o : Option Disagreement) × IsCompared reply after o × (found ≡ option_map differs o)
+  IsFoundOf (said.Known reply) after found =
+      (o : Option Disagreement) × IsCompared reply after o × (found ≡ option_map differs o)
   IsFoundOf (said.Refusal n) after found =
-      ((w.any_refusal ≡ true) × ((o : Option Disagreement) × IsCompared (Refused Contended) after o × (found ≡ option_map (renamed n) o)))
-      ⊎ ((w.any_refusal ≡ false) × ((spec : Reply) × IsToldOnly w l before cpu step spec × (found ≡ Some (Refusal n spec))))
-  IsFoundOf said.Stopped after found = (spec : Reply) × IsToldOnly w l before cpu step spec × (found ≡ Some (Stopped spec))
+      ((w.any_refusal ≡ true)
+      × ((o : Option Disagreement)
+      × IsCompared (Refused Contended) after o
+      × (found ≡ option_map (renamed n) o)))
+      ⊎ ((w.any_refusal ≡ false)
+      × ((spec : Reply) × IsToldOnly w l before cpu step spec × (found ≡ Some (Refusal n spec))))
+  IsFoundOf said.Stopped after found =
+      (spec : Reply) × IsToldOnly w l before cpu step spec × (found ≡ Some (Stopped spec))
 
 -- judged up to the freedoms
-pub record IsFoundFreely (w : Freedoms) (l : PlainLayout) (regions : List PlainRegion) (before : Lists) (call : PlainCall) (after : Lists) (found : Option Found) : Type 0 where
+pub record IsFoundFreely (w : Freedoms) (l : PlainLayout) (regions : List PlainRegion)
+    (before : Lists) (call : PlainCall) (after : Lists) (found : Option Found) : Type 0 where
   pub step : Step
   pub can : CanCall l regions before call.cpu call.step step
   pub says : Said
   pub says_is : said_of call.reply ≡ Some says
-  pub found_is : IsFoundOf w (layout_said l regions) l.cpus (contents_said before) call.cpu step says after found
+  pub found_is : IsFoundOf w (layout_said l regions) l.cpus
+      (contents_said before) call.cpu step says after found
 
 -- why a call isn't judged so
-abbrev pub IsUnfoundFreely : PlainLayout → List PlainRegion → Lists → PlainCall → Lists → Unjudged → Type 0
+abbrev pub IsUnfoundFreely : PlainLayout → List PlainRegion → Lists → PlainCall → Lists → Unjudged
+    → Type 0
 IsUnfoundFreely l regions before call after unjudged.Step = step_said call.step ≡ None
-IsUnfoundFreely l regions before call after unjudged.Reply = IsSome (step_said call.step) × (said_of call.reply ≡ None)
-IsUnfoundFreely l regions before call after (unjudged.After why) = IsSome (said_of call.reply) × ((step : Step) × CanCall l regions before call.cpu call.step step) × IsUnjudgedAfter l regions after (unjudged.After why)
+IsUnfoundFreely l regions before call after unjudged.Reply =
+    IsSome (step_said call.step) × (said_of call.reply ≡ None)
+IsUnfoundFreely l regions before call after (unjudged.After why) =
+    IsSome (said_of call.reply)
+    × ((step : Step) × CanCall l regions before call.cpu call.step step)
+    × IsUnjudgedAfter l regions after (unjudged.After why)
 IsUnfoundFreely l regions before call after unjudged.NoMemory = Unit {0}
-IsUnfoundFreely l regions before call after why = IsSome (said_of call.reply) × IsUntold l regions before call.cpu call.step why
+IsUnfoundFreely l regions before call after why =
+    IsSome (said_of call.reply) × IsUntold l regions before call.cpu call.step why
 
 -- judged by the layout's freedoms
-abbrev pub IsFoundBy : PlainLayout → List PlainRegion → Lists → PlainCall → Lists → Option Freedoms → Option Found → Type 0
+abbrev pub IsFoundBy : PlainLayout → List PlainRegion → Lists → PlainCall → Lists → Option Freedoms
+    → Option Found → Type 0
 IsFoundBy l regions before call after None found = IsFoundExactly l regions before call after found
-IsFoundBy l regions before call after (Some w) found = IsFoundFreely w l regions before call after found
+IsFoundBy l regions before call after (Some w) found =
+    IsFoundFreely w l regions before call after found
 
-pub record IsFound (l : PlainLayout) (regions : List PlainRegion) (before : Lists) (call : PlainCall) (after : Lists) (found : Option Found) : Type 0 where
+pub record IsFound (l : PlainLayout) (regions : List PlainRegion) (before : Lists)
+    (call : PlainCall) (after : Lists) (found : Option Found) : Type 0 where
   pub freedoms : Option Freedoms
   pub taken : IsTakenAs l.freedoms freedoms
   pub judged : IsFoundBy l regions before call after freedoms found
 
 -- why there is no judgement
-abbrev pub IsUnfoundBy : PlainLayout → List PlainRegion → Lists → PlainCall → Lists → Option Freedoms → Unjudged → Type 0
+abbrev pub IsUnfoundBy : PlainLayout → List PlainRegion → Lists → PlainCall → Lists
+    → Option Freedoms → Unjudged → Type 0
 IsUnfoundBy l regions before call after None why = IsUnfoundExactly l regions before call after why
-IsUnfoundBy l regions before call after (Some w) why = IsUnfoundFreely l regions before call after why
+IsUnfoundBy l regions before call after (Some w) why =
+    IsUnfoundFreely l regions before call after why
 
 abbrev pub IsUnfound : PlainLayout → List PlainRegion → Lists → PlainCall → Lists → Unfound → Type 0
 IsUnfound l regions before call after (BadFreedoms fault) = IsFreedomsFault l.freedoms fault
-IsUnfound l regions before call after (Call why) = (w : Option Freedoms) × IsTakenAs l.freedoms w × IsUnfoundBy l regions before call after w why
+IsUnfound l regions before call after (Call why) =
+    (w : Option Freedoms) × IsTakenAs l.freedoms w × IsUnfoundBy l regions before call after w why

@@ -6,7 +6,8 @@ use Rattle.c_judge.specs.declared.wanted.FreedomsFault.TheVariants.{Unknown, Wit
 
 -- those of the bits 1 to 3
 abbrev pub freedoms_said : ℕ → Freedoms
-freedoms_said n = record { lazy_host = n / 2 % 2 == 1; any_kind = n / 4 % 2 == 1; any_refusal = n / 8 % 2 == 1 }
+freedoms_said n =
+    record { lazy_host = n / 2 % 2 == 1; any_kind = n / 4 % 2 == 1; any_refusal = n / 8 % 2 == 1 }
 
 -- none at 0; else bit 0 is there, and none beyond bit 3
 abbrev pub IsTakenAs : ℕ → Option Freedoms → Type 0

@@ -12,7 +12,8 @@ use Rattle.c_states.specs.Layouts.{layout_said}
 use Rattle.c_states.specs.States.{Lists, state_said}
 
 -- the CPU can make the step of the lists' state, and that is the state
-pub record IsCallable (l : PlainLayout) (regions : List PlainRegion) (before : Lists) (cpu : ℕ) (plain : PlainStep) (step : Step) (pre : Ghost) : Type 0 where
+pub record IsCallable (l : PlainLayout) (regions : List PlainRegion) (before : Lists) (cpu : ℕ)
+    (plain : PlainStep) (step : Step) (pre : Ghost) : Type 0 where
   pub can : CanCall l regions before cpu plain step
   pub state : ghost_state pre ≡ state_said before
   pub layout : layout_of pre.layout ≡ layout_said l regions

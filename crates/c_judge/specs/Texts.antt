@@ -8,5 +8,6 @@ use Rattle.c_judge.specs.declared.found.Found.TheVariants.{Differs, Refusal, Sto
 
 abbrev pub text_of_found : Found → List ℕ
 text_of_found (Differs d) = text_of_judgement d
-text_of_found (Refusal number spec) = codes "disagree reply said " ++ decimal number ++ codes " spec " ++ text_of_reply spec
+text_of_found (Refusal number spec) =
+    codes "disagree reply said " ++ decimal number ++ codes " spec " ++ text_of_reply spec
 text_of_found (Stopped spec) = codes "disagree reply said stopped spec " ++ text_of_reply spec

@@ -42,8 +42,12 @@ pub(crate) fn found_exactly(
     call: &PlainCall,
     after: &PlainState<'_>,
 ) -> Result<Option<Found>, Unjudged>
-    ensures found { IfOk result (IsFoundExactly layout.now layout.now.regions.now (lists_told before.now) call.now (lists_told after.now)) }
-    ensures unfound { IfErr result (IsUnfoundExactly layout.now layout.now.regions.now (lists_told before.now) call.now (lists_told after.now)) }
+    ensures found { IfOk result
+        (IsFoundExactly layout.now layout.now.regions.now (lists_told before.now) call.now
+        (lists_told after.now)) }
+    ensures unfound { IfErr result
+        (IsUnfoundExactly layout.now layout.now.regions.now (lists_told before.now) call.now
+        (lists_told after.now)) }
 {
     if step_of(call.step).is_none() {
         return Err(Unjudged::Step);

@@ -35,7 +35,9 @@ fn compared(
 ) -> Result<Option<Disagreement>, Unjudged>
     requires cpu { cpu < pre.now.layout.config.cpus }
     requires generation { HasNextGeneration ((contents_in pre.now).cpu cpu).ticket step }
-    ensures judged { IfOk result (IsCompared freedoms (layout_of pre.now.layout) layout.now.cpus (contents_in pre.now) cpu step reply (lists_told after.now)) }
+    ensures judged { IfOk result
+        (IsCompared freedoms (layout_of pre.now.layout) layout.now.cpus
+        (contents_in pre.now) cpu step reply (lists_told after.now)) }
     ensures unjudged { IfErr result (IsUnjudgedAfter layout.now layout.now.regions.now (lists_told after.now)) }
 {
     match made(alloc, layout, after) {
@@ -93,7 +95,9 @@ fn found_from(
 ) -> Result<Option<Found>, Unjudged>
     requires cpu { cpu < pre.now.layout.config.cpus }
     requires generation { HasNextGeneration ((contents_in pre.now).cpu cpu).ticket step }
-    ensures found { IfOk result (IsFoundOf freedoms (layout_of pre.now.layout) layout.now.cpus (contents_in pre.now) cpu step said (lists_told after.now)) }
+    ensures found { IfOk result
+        (IsFoundOf freedoms (layout_of pre.now.layout) layout.now.cpus
+        (contents_in pre.now) cpu step said (lists_told after.now)) }
     ensures unfound { IfErr result (IsUnjudgedAfter layout.now layout.now.regions.now (lists_told after.now)) }
 {
     match said {
@@ -127,8 +131,12 @@ pub(crate) fn found_freely(
     call: &PlainCall,
     after: &PlainState<'_>,
 ) -> Result<Option<Found>, Unjudged>
-    ensures found { IfOk result (IsFoundFreely freedoms layout.now layout.now.regions.now (lists_told before.now) call.now (lists_told after.now)) }
-    ensures unfound { IfErr result (IsUnfoundFreely layout.now layout.now.regions.now (lists_told before.now) call.now (lists_told after.now)) }
+    ensures found { IfOk result
+        (IsFoundFreely freedoms layout.now layout.now.regions.now
+        (lists_told before.now) call.now (lists_told after.now)) }
+    ensures unfound { IfErr result
+        (IsUnfoundFreely layout.now layout.now.regions.now (lists_told before.now) call.now
+        (lists_told after.now)) }
 {
     if step_of(call.step).is_none() {
         return Err(Unjudged::Step);

@@ -19,8 +19,12 @@ pub fn judged_by(
     call: &PlainCall,
     after: &PlainState<'_>,
 ) -> Result<Option<Found>, Unfound>
-    ensures found { IfOk result (IsFound layout.now layout.now.regions.now (lists_told before.now) call.now (lists_told after.now)) }
-    ensures unfound { IfErr result (IsUnfound layout.now layout.now.regions.now (lists_told before.now) call.now (lists_told after.now)) }
+    ensures found { IfOk result
+        (IsFound layout.now layout.now.regions.now (lists_told before.now) call.now
+        (lists_told after.now)) }
+    ensures unfound { IfErr result
+        (IsUnfound layout.now layout.now.regions.now (lists_told before.now) call.now
+        (lists_told after.now)) }
 {
     let freedoms = match freedoms_of(layout.freedoms) {
         Ok(freedoms) => freedoms,

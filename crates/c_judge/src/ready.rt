@@ -18,7 +18,9 @@ pub(crate) fn ready(
     cpu: u64,
     step: PlainStep,
 ) -> Result<(Step, Ghost), Unjudged>
-    ensures ready { IfOk result (λ r. IsCallable layout.now layout.now.regions.now (lists_told before.now) cpu step r.0 r.1) }
+    ensures ready { IfOk result
+        (λ r. IsCallable layout.now layout.now.regions.now
+        (lists_told before.now) cpu step r.0 r.1) }
     ensures untold { IfErr result (IsUntold layout.now layout.now.regions.now (lists_told before.now) cpu step) }
 {
     let Some(step) = step_of(step) else {

@@ -19,7 +19,8 @@ use Rattle.c_states.specs.States.{Lists}
 use Rattle.c_states.proofs.Telling.{map_at}
 
 -- members that are seen as what is said of their numbers
-module _ {A B : Type 0} (see : A → B) (said : ℕ → B) (n : ℕ) (xs : List A) (is : map see xs ≡ map said (range_with_len 0 n)) where
+module _ {A B : Type 0} (see : A → B) (said : ℕ → B) (n : ℕ) (xs : List A)
+    (is : map see xs ≡ map said (range_with_len 0 n)) where
   count : length xs ≡ n
   count = sym (length-map xs see) ∙ (ap length is ∙ length-map-range_with_len said 0 n)
 
@@ -27,7 +28,8 @@ module _ {A B : Type 0} (see : A → B) (said : ℕ → B) (n : ℕ) (xs : List 
   at k d less =
       let here : 0 + k ≡ k = omega arith in
       let within : k < n = omega (arith, less, count) in
-      sym (get_or-map-range_with_len said 0 n k k (see d) within here) ∙ (ap (λ (ys : List B). get_or ys k (see d)) (sym is) ∙ map_at see xs k d (see d) less)
+      sym (get_or-map-range_with_len said 0 n k k (see d) within here)
+      ∙ (ap (λ (ys : List B). get_or ys k (see d)) (sym is) ∙ map_at see xs k d (see d) less)
 
   all_in : (Q : B → Type 0) → ((v : ℕ) → v < n → Q (said v)) → All (λ x. Q (see x)) xs
   all_in Q h = λ k d less. subst Q (at k d less) (h k (omega (arith, less, count)))
@@ -42,12 +44,14 @@ module _ {A B : Type 0} (see : A → B) (said : ℕ → B) (n : ℕ) (xs : List 
 by_tree : (P : ℕ → Type 0) → P 0 → P 1 → ((v : ℕ) → v < 64 → P (2 + v)) → (tree : ℕ) → tree < 66 → P tree
 by_tree P host hyp guests zero l = host
 by_tree P host hyp guests (suc zero) l = hyp
-by_tree P host hyp guests (suc (suc v)) l = let e : 2 + v ≡ suc (suc v) = omega arith in subst P e (guests v (omega (arith, l)))
+by_tree P host hyp guests (suc (suc v)) l = let e : 2 + v ≡ suc (suc v) = omega arith in
+    subst P e (guests v (omega (arith, l)))
 
 by_pool : (P : ℕ → Type 0) → P 1 → ((v : ℕ) → v < 64 → P (2 + v)) → (pool : ℕ) → 1 ≤ pool → pool < 66 → P pool
 by_pool P shared guests zero some l = absurd (omega (arith, some))
 by_pool P shared guests (suc zero) some l = shared
-by_pool P shared guests (suc (suc v)) some l = let e : 2 + v ≡ suc (suc v) = omega arith in subst P e (guests v (omega (arith, l)))
+by_pool P shared guests (suc (suc v)) some l = let e : 2 + v ≡ suc (suc v) = omega arith in
+    subst P e (guests v (omega (arith, l)))
 
 abbrev AreLowTables : List Table → Type 0
 AreLowTables ts = All (λ t. t.frame ≤ 2 ^ 62) ts
@@ -62,10 +66,16 @@ module _ (cpus : ℕ) (p : Lists) (l : GhostLists) (f : IsFilled cpus p l) where
   abbrev own_said : ℕ → Cpu
   own_said c = cpu_said (cpu_listed p.cpus c)
 
-  guests_in : (Q : GuestLists → Type 0) → ((v : ℕ) → v < 64 → Q (guest_said v)) → All (λ g. Q (lists_in g)) l.guests.items
+  guests_in : (Q : GuestLists → Type 0)
+      → ((v : ℕ) → v < 64 → Q (guest_said v))
+      → All (λ g. Q (lists_in g)) l.guests.items
   guests_in Q h = all_in lists_in guest_said 64 l.guests.items f.guests Q h
 
-  guests_out : (Q : GuestLists → Type 0) → All (λ g. Q (lists_in g)) l.guests.items → (v : ℕ) → v < 64 → Q (guest_said v)
+  guests_out : (Q : GuestLists → Type 0)
+      → All (λ g. Q (lists_in g)) l.guests.items
+      → (v : ℕ)
+      → v < 64
+      → Q (guest_said v)
   guests_out Q h = all_out lists_in guest_said 64 l.guests.items f.guests Q h
 
   pub runs_in : HaveRunsApart p → HasRunsApart l
@@ -76,7 +86,9 @@ module _ (cpus : ℕ) (p : Lists) (l : GhostLists) (f : IsFilled cpus p l) where
   }
 
   pub runs_out : HasRunsApart l → HaveRunsApart p
-  runs_out h = by_tree (λ n. AreRunsApart (runs_said p.runs n)) (subst AreRunsApart f.shared.host.runs h.host) (subst AreRunsApart f.shared.hyp.runs h.hyp) (guests_out (λ g. AreRunsApart g.runs) h.guests)
+  runs_out h =
+      by_tree (λ n. AreRunsApart (runs_said p.runs n)) (subst AreRunsApart f.shared.host.runs h.host)
+      (subst AreRunsApart f.shared.hyp.runs h.hyp) (guests_out (λ g. AreRunsApart g.runs) h.guests)
 
   pub tables_in : HaveTablesApart p → HasTablesApart l
   tables_in h = record {
@@ -86,7 +98,9 @@ module _ (cpus : ℕ) (p : Lists) (l : GhostLists) (f : IsFilled cpus p l) where
   }
 
   pub tables_out : HasTablesApart l → HaveTablesApart p
-  tables_out h = by_tree (λ n. AreTablesApart (tables_said p.tables n)) (subst AreTablesApart f.shared.host.tables h.host) (subst AreTablesApart f.shared.hyp.tables h.hyp) (guests_out (λ g. AreTablesApart g.tables) h.guests)
+  tables_out h =
+      by_tree (λ n. AreTablesApart (tables_said p.tables n)) (subst AreTablesApart f.shared.host.tables h.host)
+      (subst AreTablesApart f.shared.hyp.tables h.hyp) (guests_out (λ g. AreTablesApart g.tables) h.guests)
 
   pub frames_in : HaveFramesApart p → HasFramesApart l
   frames_in h = record {
@@ -95,7 +109,9 @@ module _ (cpus : ℕ) (p : Lists) (l : GhostLists) (f : IsFilled cpus p l) where
   }
 
   pub frames_out : HasFramesApart l → HaveFramesApart p
-  frames_out h = by_pool (λ n. AreFramesApart (frames_said p.frames n)) (subst AreFramesApart f.shared.free h.shared) (guests_out (λ g. AreFramesApart g.free) h.guests)
+  frames_out h =
+      by_pool (λ n. AreFramesApart (frames_said p.frames n)) (subst AreFramesApart f.shared.free h.shared)
+      (guests_out (λ g. AreFramesApart g.free) h.guests)
 
   pub low_in : HaveLowNumbers cpus p → HasLowNumbers l
   low_in h =
@@ -105,20 +121,42 @@ module _ (cpus : ℕ) (p : Lists) (l : GhostLists) (f : IsFilled cpus p l) where
       let own = all_in cpu_in own_said cpus l.cpus.items f.cpus IsLowCpu h.cpus_are in
       record {
         shared = record {
-          host = record { runs = subst AreSmall (sym f.shared.host.runs) (h.runs 0 (omega arith)); tables = subst AreLowTables (sym f.shared.host.tables) (h.tables 0 (omega arith)) };
-          hyp = record { runs = subst AreSmall (sym f.shared.hyp.runs) (h.runs 1 (omega arith)); tables = subst AreLowTables (sym f.shared.hyp.tables) (h.tables 1 (omega arith)) };
+          host =
+              record {
+                runs = subst AreSmall (sym f.shared.host.runs) (h.runs 0 (omega arith));
+                tables = subst AreLowTables (sym f.shared.host.tables) (h.tables 0 (omega arith));
+              };
+          hyp =
+              record {
+                runs = subst AreSmall (sym f.shared.hyp.runs) (h.runs 1 (omega arith));
+                tables = subst AreLowTables (sym f.shared.hyp.tables) (h.tables 1 (omega arith));
+              };
           free = subst AreLow (sym f.shared.free) (h.frames 1 (omega arith) (omega arith));
         };
-        guests = λ k d less. record { tree = record { runs = runs k d less; tables = tables k d less }; free = free k d less };
+        guests =
+            λ k
+            d less. record {
+              tree = record { runs = runs k d less; tables = tables k d less };
+              free = free k d less;
+            };
         cpus = λ k d less. let x = own k d less in record { hand = x.hand; loaded = x.loaded; ticket = x.ticket };
       }
 
   pub low_out : HasLowNumbers l → HaveLowNumbers cpus p
   low_out h = record {
-    runs = by_tree (λ n. AreSmall (runs_said p.runs n)) (subst AreSmall f.shared.host.runs h.shared.host.runs) (subst AreSmall f.shared.hyp.runs h.shared.hyp.runs)
+    runs =
+        by_tree (λ n. AreSmall (runs_said p.runs n)) (subst AreSmall f.shared.host.runs h.shared.host.runs)
+        (subst AreSmall f.shared.hyp.runs h.shared.hyp.runs)
         (guests_out (λ g. AreSmall g.runs) (λ k d less. (h.guests k d less).tree.runs));
-    tables = by_tree (λ n. AreLowTables (tables_said p.tables n)) (subst AreLowTables f.shared.host.tables h.shared.host.tables) (subst AreLowTables f.shared.hyp.tables h.shared.hyp.tables)
+    tables =
+        by_tree (λ n. AreLowTables (tables_said p.tables n))
+        (subst AreLowTables f.shared.host.tables h.shared.host.tables)
+        (subst AreLowTables f.shared.hyp.tables h.shared.hyp.tables)
         (guests_out (λ g. AreLowTables g.tables) (λ k d less. (h.guests k d less).tree.tables));
-    frames = by_pool (λ n. AreLow (frames_said p.frames n)) (subst AreLow f.shared.free h.shared.free) (guests_out (λ g. AreLow g.free) (λ k d less. (h.guests k d less).free));
-    cpus_are = all_out cpu_in own_said cpus l.cpus.items f.cpus IsLowCpu (λ k d less. let x = h.cpus k d less in record { hand = x.hand; loaded = x.loaded; ticket = x.ticket });
+    frames =
+        by_pool (λ n. AreLow (frames_said p.frames n)) (subst AreLow f.shared.free h.shared.free)
+        (guests_out (λ g. AreLow g.free) (λ k d less. (h.guests k d less).free));
+    cpus_are =
+        all_out cpu_in own_said cpus l.cpus.items f.cpus IsLowCpu
+        (λ k d less. let x = h.cpus k d less in record { hand = x.hand; loaded = x.loaded; ticket = x.ticket });
   }

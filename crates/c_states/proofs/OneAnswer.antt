@@ -31,7 +31,11 @@ use Rattle.c_states.proofs.NoRefusal.{one_step, twice_else, unknown_else}
 -- predictions
 
 pub foretold_once : ForetoldOnce
-foretold_once l regions before cpu step r s f g = f.reply_is ∙ (ap (λ x. reply_written (told_said l regions before cpu x).0) (one_step step f.step g.step f.can.step_is g.can.step_is) ∙ sym g.reply_is)
+foretold_once l regions before cpu step r s f g =
+    f.reply_is
+    ∙ (ap (λ x. reply_written (told_said l regions before cpu x).0)
+    (one_step step f.step g.step f.can.step_is g.can.step_is)
+    ∙ sym g.reply_is)
 
 pub state_once : ForetoldStateOnce
 state_once l regions before cpu step r s a b f g =
@@ -46,40 +50,67 @@ one_reply : (o : Option Reply) (a b : Reply) → o ≡ Some a → o ≡ Some b �
 one_reply o a b h k = let same = sym h ∙ k in cc
 
 abbrev AgreesOf : PlainLayout → List PlainRegion → Lists → PlainCall → Lists → Step → Reply → Type 0
-AgreesOf l regions before call after step reply = JudgeAgrees (contents_said before) step reply (contents_said after) (told_said l regions before call.cpu step)
+AgreesOf l regions before call after step reply =
+    JudgeAgrees (contents_said before) step reply (contents_said after) (told_said l regions before call.cpu step)
 
 abbrev IsFirstOf : PlainLayout → List PlainRegion → Lists → PlainCall → Lists → Step → Reply → Disagreement → Type 0
-IsFirstOf l regions before call after step reply d = IsFirstJudged (contents_said before) step reply (contents_said after) (told_said l regions before call.cpu step) d
+IsFirstOf l regions before call after step reply d =
+    IsFirstJudged (contents_said before) step reply (contents_said after) (told_said l regions before call.cpu step) d
 
-same_call : (l : PlainLayout) (regions : List PlainRegion) (before : Lists) (call : PlainCall) (after : Lists) (f g : Option Disagreement) (x : IsJudged l regions before call after f) (y : IsJudged l regions before call after g)
+same_call : (l : PlainLayout) (regions : List PlainRegion) (before : Lists) (call : PlainCall) (after : Lists)
+    (f g : Option Disagreement) (x : IsJudged l regions before call after f)
+    (y : IsJudged l regions before call after g)
     → (x.step ≡ y.step) × (x.reply ≡ y.reply)
-same_call l regions before call after f g x y = (one_step call.step x.step y.step x.can.step_is y.can.step_is, one_reply (reply_said call.reply) x.reply y.reply x.reply_is y.reply_is)
+same_call l regions before call after f g x y = (
+  one_step call.step x.step y.step x.can.step_is y.can.step_is,
+  one_reply (reply_said call.reply) x.reply y.reply x.reply_is y.reply_is,
+)
 
 pub judged_once : JudgedOnce
 judged_once l regions before call after None None x y = refl
 judged_once l regions before call after None (Some e) x y =
     let same = same_call l regions before call after None (Some e) x y in
-    absurd (judged_else (contents_said before) y.step y.reply (contents_said after) (told_said l regions before call.cpu y.step) e (subst (λ r. AgreesOf l regions before call after y.step r) same.1 (subst (λ s. AgreesOf l regions before call after s x.reply) same.0 (x.none.0 refl))) y.first)
+    absurd
+    (judged_else (contents_said before) y.step y.reply (contents_said after)
+    (told_said l regions before call.cpu y.step) e
+    (subst (λ r. AgreesOf l regions before call after y.step r) same.1
+    (subst (λ s. AgreesOf l regions before call after s x.reply) same.0 (x.none.0 refl))) y.first)
 judged_once l regions before call after (Some d) None x y =
     let same = same_call l regions before call after (Some d) None x y in
-    absurd (judged_else (contents_said before) x.step x.reply (contents_said after) (told_said l regions before call.cpu x.step) d (subst (λ r. AgreesOf l regions before call after x.step r) (sym same.1) (subst (λ s. AgreesOf l regions before call after s y.reply) (sym same.0) (y.none.0 refl))) x.first)
+    absurd
+    (judged_else (contents_said before) x.step x.reply (contents_said after)
+    (told_said l regions before call.cpu x.step) d
+    (subst (λ r. AgreesOf l regions before call after x.step r) (sym same.1)
+    (subst (λ s. AgreesOf l regions before call after s y.reply) (sym same.0) (y.none.0 refl))) x.first)
 judged_once l regions before call after (Some d) (Some e) x y =
     let same = same_call l regions before call after (Some d) (Some e) x y in
-    ap Some (difference_once (contents_said before) y.step y.reply (contents_said after) (told_said l regions before call.cpu y.step) d e
-    (subst (λ r. IsFirstOf l regions before call after y.step r d) same.1 (subst (λ s. IsFirstOf l regions before call after s x.reply d) same.0 x.first)) y.first)
+    ap Some
+    (difference_once (contents_said before) y.step y.reply (contents_said after)
+    (told_said l regions before call.cpu y.step) d e
+    (subst (λ r. IsFirstOf l regions before call after y.step r d) same.1
+    (subst (λ s. IsFirstOf l regions before call after s x.reply d) same.0 x.first)) y.first)
 
 -- faults of lists
 
-clash_once : {X : Type 0} (clash : X → X → Bool) (xs : List X) (i j : ℕ) → IsFirstClash clash xs i → IsFirstClash clash xs j → i ≡ j
-clash_once clash xs i j a b = by_lt i j (λ l. absurd (b.before i l a.clashes)) (λ l. by_lt j i (λ k. absurd (a.before j k b.clashes)) (λ k. omega (arith, l, k)))
+clash_once : {X : Type 0} (clash : X → X → Bool) (xs : List X) (i j : ℕ)
+    → IsFirstClash clash xs i
+    → IsFirstClash clash xs j
+    → i ≡ j
+clash_once clash xs i j a b =
+    by_lt i j (λ l. absurd (b.before i l a.clashes))
+    (λ l. by_lt j i (λ k. absurd (a.before j k b.clashes)) (λ k. omega (arith, l, k)))
 
-twice_once : (p : Lists) (list other : PlainList) (i j : ℕ) → IsTwice p list i → IsTwice p other j → faults.Twice list i ≡ faults.Twice other j
+twice_once : (p : Lists) (list other : PlainList) (i j : ℕ)
+    → IsTwice p list i
+    → IsTwice p other j
+    → faults.Twice list i ≡ faults.Twice other j
 twice_once p lists.Slots lists.Slots i j h k = ap (faults.Twice lists.Slots) (clash_once have_one_slot p.slots i j h k)
 twice_once p lists.Slots lists.Guests i j h k = absurd (k.0 i h.clashes)
 twice_once p lists.Slots lists.Cpus i j h k = absurd (k.0 i h.clashes)
 twice_once p lists.Slots other i j h k = absurd k
 twice_once p lists.Guests lists.Slots i j h k = absurd (h.0 j k.clashes)
-twice_once p lists.Guests lists.Guests i j h k = ap (faults.Twice lists.Guests) (clash_once have_one_guest p.guests i j h.1 k.1)
+twice_once p lists.Guests lists.Guests i j h k =
+    ap (faults.Twice lists.Guests) (clash_once have_one_guest p.guests i j h.1 k.1)
 twice_once p lists.Guests lists.Cpus i j h k = absurd (k.1 i h.1.clashes)
 twice_once p lists.Guests other i j h k = absurd k
 twice_once p lists.Cpus lists.Slots i j h k = absurd (h.0 j k.clashes)
@@ -97,7 +128,10 @@ row_once rows Overlap Overlap h k = refl
 row_once rows Overlap g h k = absurd k
 row_once rows f g h k = absurd h
 
-row_else : (p : Lists) (rows : List (RowRun Row)) (f : GhostFault) → AreLowRows rows × AreRowsApart rows → IsFirstRowFault f rows → ⊥
+row_else : (p : Lists) (rows : List (RowRun Row)) (f : GhostFault)
+    → AreLowRows rows × AreRowsApart rows
+    → IsFirstRowFault f rows
+    → ⊥
 row_else p rows TooLarge t h = h t.0
 row_else p rows Overlap t h = h.1 t.1
 row_else p rows f t h = h
@@ -126,8 +160,12 @@ lists_once cpus p FrameTwice g h k = absurd k
 lists_once cpus p f g h k = absurd h
 
 -- the member that is told is one
-member_once : {X : Type 0} (clash : X → X → Bool) (xs : List X) (list : PlainList) (a b : PlainList × ℕ) → (a.0 ≡ list) × IsFirstClash clash xs a.1 → (b.0 ≡ list) × IsFirstClash clash xs b.1 → Some a ≡ Some b
-member_once clash xs list a b h k = ap Some (same2 (λ (l : PlainList) (n : ℕ). (l, n)) (h.0 ∙ sym k.0) (clash_once clash xs a.1 b.1 h.1 k.1))
+member_once : {X : Type 0} (clash : X → X → Bool) (xs : List X) (list : PlainList) (a b : PlainList × ℕ)
+    → (a.0 ≡ list) × IsFirstClash clash xs a.1
+    → (b.0 ≡ list) × IsFirstClash clash xs b.1
+    → Some a ≡ Some b
+member_once clash xs list a b h k =
+    ap Some (same2 (λ (l : PlainList) (n : ℕ). (l, n)) (h.0 ∙ sym k.0) (clash_once clash xs a.1 b.1 h.1 k.1))
 
 culprit_once : (p : Lists) (f : GhostFault) (c d : Option (PlainList × ℕ)) → IsCulprit p f c → IsCulprit p f d → c ≡ d
 culprit_once p TooLarge None None h k = refl
@@ -154,24 +192,34 @@ pub fault_once : PlainFaultOnce
 fault_once cpus p faults.NoMemory g h k = inl refl
 fault_once cpus p (faults.Unknown list i) faults.NoMemory h k = inr (inl refl)
 fault_once cpus p (faults.Unknown list i) (faults.Unknown other j) h k =
-    let same = one_unknown (first_unknown_of cpus p) (list, i) (other, j) h k in inr (inr (ap (λ (t : PlainList × ℕ). faults.Unknown t.0 t.1) same))
-fault_once cpus p (faults.Unknown list i) (faults.Rows g) h k = absurd (unknown_else (first_unknown_of cpus p) (list, i) k.0 h)
-fault_once cpus p (faults.Unknown list i) (faults.Twice other j) h k = absurd (unknown_else (first_unknown_of cpus p) (list, i) k.0 h)
-fault_once cpus p (faults.Unknown list i) (faults.Lists g d) h k = absurd (unknown_else (first_unknown_of cpus p) (list, i) k.0.known h)
+    let same = one_unknown (first_unknown_of cpus p) (list, i) (other, j) h k in
+    inr (inr (ap (λ (t : PlainList × ℕ). faults.Unknown t.0 t.1) same))
+fault_once cpus p (faults.Unknown list i) (faults.Rows g) h k =
+    absurd (unknown_else (first_unknown_of cpus p) (list, i) k.0 h)
+fault_once cpus p (faults.Unknown list i) (faults.Twice other j) h k =
+    absurd (unknown_else (first_unknown_of cpus p) (list, i) k.0 h)
+fault_once cpus p (faults.Unknown list i) (faults.Lists g d) h k =
+    absurd (unknown_else (first_unknown_of cpus p) (list, i) k.0.known h)
 fault_once cpus p (faults.Rows f) faults.NoMemory h k = inr (inl refl)
-fault_once cpus p (faults.Rows f) (faults.Unknown other j) h k = absurd (unknown_else (first_unknown_of cpus p) (other, j) h.0 k)
+fault_once cpus p (faults.Rows f) (faults.Unknown other j) h k =
+    absurd (unknown_else (first_unknown_of cpus p) (other, j) h.0 k)
 fault_once cpus p (faults.Rows f) (faults.Rows g) h k = inr (inr (ap faults.Rows (row_once _ f g h.1 k.1)))
 fault_once cpus p (faults.Rows f) (faults.Twice other j) h k = absurd (row_else p _ f k.1 h.1)
 fault_once cpus p (faults.Rows f) (faults.Lists g d) h k = absurd (row_else p _ f k.0.rows h.1)
 fault_once cpus p (faults.Twice list i) faults.NoMemory h k = inr (inl refl)
-fault_once cpus p (faults.Twice list i) (faults.Unknown other j) h k = absurd (unknown_else (first_unknown_of cpus p) (other, j) h.0 k)
+fault_once cpus p (faults.Twice list i) (faults.Unknown other j) h k =
+    absurd (unknown_else (first_unknown_of cpus p) (other, j) h.0 k)
 fault_once cpus p (faults.Twice list i) (faults.Rows g) h k = absurd (row_else p _ g h.1 k.1)
 fault_once cpus p (faults.Twice list i) (faults.Twice other j) h k = inr (inr (twice_once p list other i j h.2 k.2))
 fault_once cpus p (faults.Twice list i) (faults.Lists g d) h k = absurd (twice_else p list i k.0.once h.2)
 fault_once cpus p (faults.Lists f c) faults.NoMemory h k = inr (inl refl)
-fault_once cpus p (faults.Lists f c) (faults.Unknown other j) h k = absurd (unknown_else (first_unknown_of cpus p) (other, j) h.0.known k)
+fault_once cpus p (faults.Lists f c) (faults.Unknown other j) h k =
+    absurd (unknown_else (first_unknown_of cpus p) (other, j) h.0.known k)
 fault_once cpus p (faults.Lists f c) (faults.Rows g) h k = absurd (row_else p _ g h.0.rows k.1)
 fault_once cpus p (faults.Lists f c) (faults.Twice other j) h k = absurd (twice_else p other j h.0.once k.2)
 fault_once cpus p (faults.Lists f c) (faults.Lists g d) h k =
     let same = lists_once cpus p f g h.1 k.1 in
-    inr (inr (same2 (λ (x : GhostFault) (y : Option (PlainList × ℕ)). faults.Lists x y) same (culprit_once p g c d (subst (λ x. IsCulprit p x c) same h.2) k.2)))
+    inr
+    (inr
+    (same2 (λ (x : GhostFault) (y : Option (PlainList × ℕ)). faults.Lists x y) same
+    (culprit_once p g c d (subst (λ x. IsCulprit p x c) same h.2) k.2)))

@@ -60,7 +60,8 @@ layout_once l regions layouts.Geometry layouts.Geometry h k = inr (inr refl)
 layout_once l regions layouts.Geometry (layouts.Memory g) h k = absurd (none_some (geometry_of l.address_bits) h k.0)
 layout_once l regions layouts.Geometry layouts.NoMemory h k = inr (inl refl)
 layout_once l regions (layouts.Memory f) layouts.Geometry h k = absurd (none_some (geometry_of l.address_bits) k h.0)
-layout_once l regions (layouts.Memory f) (layouts.Memory g) h k = inr (inr (ap layouts.Memory (region_once (memory_said l regions) f g h.1 k.1)))
+layout_once l regions (layouts.Memory f) (layouts.Memory g) h k =
+    inr (inr (ap layouts.Memory (region_once (memory_said l regions) f g h.1 k.1)))
 layout_once l regions (layouts.Memory f) layouts.NoMemory h k = inr (inl refl)
 
 -- layouts and lists
@@ -80,10 +81,13 @@ state_lacks : (f : PlainFault) → f ≡ faults.NoMemory → MadeLacksMemory (un
 state_lacks f e = subst (λ x. MadeLacksMemory (unmade.State x)) (sym e) tt
 
 pub unmade_once : UnmadeOnce
-unmade_once l regions p (unmade.Layout f) (unmade.Layout g) h k = either (layout_lacks f) (next (layout_lacks g) (ap unmade.Layout)) (layout_once l regions f g h k)
+unmade_once l regions p (unmade.Layout f) (unmade.Layout g) h k =
+    either (layout_lacks f) (next (layout_lacks g) (ap unmade.Layout)) (layout_once l regions f g h k)
 unmade_once l regions p (unmade.Layout f) (unmade.State g) h k = inl (layout_lacks f (layout_else l regions f k.0 h))
-unmade_once l regions p (unmade.State f) (unmade.Layout g) h k = inr (inl (layout_lacks g (layout_else l regions g h.0 k)))
-unmade_once l regions p (unmade.State f) (unmade.State g) h k = either (state_lacks f) (next (state_lacks g) (ap unmade.State)) (fault_once l.cpus p f g h.1 k.1)
+unmade_once l regions p (unmade.State f) (unmade.Layout g) h k =
+    inr (inl (layout_lacks g (layout_else l regions g h.0 k)))
+unmade_once l regions p (unmade.State f) (unmade.State g) h k =
+    either (state_lacks f) (next (state_lacks g) (ap unmade.State)) (fault_once l.cpus p f g h.1 k.1)
 
 -- calls
 
@@ -97,8 +101,10 @@ untold_once l regions before cpu step (unjudged.After why) g h k = absurd h
 untold_once l regions before cpu step unjudged.Step unjudged.Step h k = inr (inr refl)
 untold_once l regions before cpu step unjudged.Step unjudged.Reply h k = absurd k
 untold_once l regions before cpu step unjudged.Step unjudged.Cpu h k = absurd (none_some (step_said step) h k.0)
-untold_once l regions before cpu step unjudged.Step (unjudged.Before why) h k = absurd (none_some (step_said step) h k.0)
-untold_once l regions before cpu step unjudged.Step unjudged.Generation h k = absurd (unknown_else (step_said step) k.3.step h k.3.step_is)
+untold_once l regions before cpu step unjudged.Step (unjudged.Before why) h k =
+    absurd (none_some (step_said step) h k.0)
+untold_once l regions before cpu step unjudged.Step unjudged.Generation h k =
+    absurd (unknown_else (step_said step) k.3.step h k.3.step_is)
 untold_once l regions before cpu step unjudged.Step (unjudged.After why) h k = absurd k
 untold_once l regions before cpu step unjudged.Step unjudged.NoMemory h k = inr (inl tt)
 untold_once l regions before cpu step unjudged.Cpu unjudged.Step h k = absurd (none_some (step_said step) k h.0)
@@ -111,14 +117,18 @@ untold_once l regions before cpu step unjudged.Cpu unjudged.NoMemory h k = inr (
 untold_once l regions before cpu step (unjudged.Before f) unjudged.Step h k = absurd (none_some (step_said step) k h.0)
 untold_once l regions before cpu step (unjudged.Before f) unjudged.Reply h k = absurd k
 untold_once l regions before cpu step (unjudged.Before f) unjudged.Cpu h k = absurd (late l.cpus cpu k.1 h.1)
-untold_once l regions before cpu step (unjudged.Before f) (unjudged.Before g) h k = either (λ x. x) (next (λ x. x) (ap unjudged.Before)) (unmade_once l regions before f g h.2 k.2)
-untold_once l regions before cpu step (unjudged.Before f) unjudged.Generation h k = inl (made_else l regions before f k.1 k.2 h.2)
+untold_once l regions before cpu step (unjudged.Before f) (unjudged.Before g) h k =
+    either (λ x. x) (next (λ x. x) (ap unjudged.Before)) (unmade_once l regions before f g h.2 k.2)
+untold_once l regions before cpu step (unjudged.Before f) unjudged.Generation h k =
+    inl (made_else l regions before f k.1 k.2 h.2)
 untold_once l regions before cpu step (unjudged.Before f) (unjudged.After why) h k = absurd k
 untold_once l regions before cpu step (unjudged.Before f) unjudged.NoMemory h k = inr (inl tt)
-untold_once l regions before cpu step unjudged.Generation unjudged.Step h k = absurd (unknown_else (step_said step) h.3.step k h.3.step_is)
+untold_once l regions before cpu step unjudged.Generation unjudged.Step h k =
+    absurd (unknown_else (step_said step) h.3.step k h.3.step_is)
 untold_once l regions before cpu step unjudged.Generation unjudged.Reply h k = absurd k
 untold_once l regions before cpu step unjudged.Generation unjudged.Cpu h k = absurd (late l.cpus cpu k.1 h.0)
-untold_once l regions before cpu step unjudged.Generation (unjudged.Before g) h k = inr (inl (made_else l regions before g h.1 h.2 k.2))
+untold_once l regions before cpu step unjudged.Generation (unjudged.Before g) h k =
+    inr (inl (made_else l regions before g h.1 h.2 k.2))
 untold_once l regions before cpu step unjudged.Generation unjudged.Generation h k = inr (inr refl)
 untold_once l regions before cpu step unjudged.Generation (unjudged.After why) h k = absurd k
 untold_once l regions before cpu step unjudged.Generation unjudged.NoMemory h k = inr (inl tt)
@@ -126,44 +136,78 @@ untold_once l regions before cpu step unjudged.Generation unjudged.NoMemory h k 
 pub unjudged_once : UnjudgedOnce
 unjudged_once l regions before call after unjudged.NoMemory g h k = inl tt
 unjudged_once l regions before call after unjudged.Step unjudged.Step h k = inr (inr refl)
-unjudged_once l regions before call after unjudged.Step unjudged.Reply h k = absurd (none_some (step_said call.step) h k.0)
-unjudged_once l regions before call after unjudged.Step unjudged.Cpu h k = absurd (none_some (step_said call.step) h k.1.0)
-unjudged_once l regions before call after unjudged.Step (unjudged.Before g) h k = absurd (none_some (step_said call.step) h k.1.0)
-unjudged_once l regions before call after unjudged.Step unjudged.Generation h k = absurd (unknown_else (step_said call.step) k.1.3.step h k.1.3.step_is)
-unjudged_once l regions before call after unjudged.Step (unjudged.After g) h k = absurd (unknown_else (step_said call.step) k.1.0 h k.1.1.step_is)
+unjudged_once l regions before call after unjudged.Step unjudged.Reply h k =
+    absurd (none_some (step_said call.step) h k.0)
+unjudged_once l regions before call after unjudged.Step unjudged.Cpu h k =
+    absurd (none_some (step_said call.step) h k.1.0)
+unjudged_once l regions before call after unjudged.Step (unjudged.Before g) h k =
+    absurd (none_some (step_said call.step) h k.1.0)
+unjudged_once l regions before call after unjudged.Step unjudged.Generation h k =
+    absurd (unknown_else (step_said call.step) k.1.3.step h k.1.3.step_is)
+unjudged_once l regions before call after unjudged.Step (unjudged.After g) h k =
+    absurd (unknown_else (step_said call.step) k.1.0 h k.1.1.step_is)
 unjudged_once l regions before call after unjudged.Step unjudged.NoMemory h k = inr (inl tt)
-unjudged_once l regions before call after unjudged.Reply unjudged.Step h k = absurd (none_some (step_said call.step) k h.0)
+unjudged_once l regions before call after unjudged.Reply unjudged.Step h k =
+    absurd (none_some (step_said call.step) k h.0)
 unjudged_once l regions before call after unjudged.Reply unjudged.Reply h k = inr (inr refl)
-unjudged_once l regions before call after unjudged.Reply unjudged.Cpu h k = absurd (none_some (reply_said call.reply) h.1 k.0)
-unjudged_once l regions before call after unjudged.Reply (unjudged.Before g) h k = absurd (none_some (reply_said call.reply) h.1 k.0)
-unjudged_once l regions before call after unjudged.Reply unjudged.Generation h k = absurd (none_some (reply_said call.reply) h.1 k.0)
-unjudged_once l regions before call after unjudged.Reply (unjudged.After g) h k = absurd (none_some (reply_said call.reply) h.1 k.0)
+unjudged_once l regions before call after unjudged.Reply unjudged.Cpu h k =
+    absurd (none_some (reply_said call.reply) h.1 k.0)
+unjudged_once l regions before call after unjudged.Reply (unjudged.Before g) h k =
+    absurd (none_some (reply_said call.reply) h.1 k.0)
+unjudged_once l regions before call after unjudged.Reply unjudged.Generation h k =
+    absurd (none_some (reply_said call.reply) h.1 k.0)
+unjudged_once l regions before call after unjudged.Reply (unjudged.After g) h k =
+    absurd (none_some (reply_said call.reply) h.1 k.0)
 unjudged_once l regions before call after unjudged.Reply unjudged.NoMemory h k = inr (inl tt)
-unjudged_once l regions before call after (unjudged.After f) unjudged.Step h k = absurd (unknown_else (step_said call.step) h.1.0 k h.1.1.step_is)
-unjudged_once l regions before call after (unjudged.After f) unjudged.Reply h k = absurd (none_some (reply_said call.reply) k.1 h.0)
-unjudged_once l regions before call after (unjudged.After f) unjudged.Cpu h k = inr (inl (can_else l regions before call.cpu call.step h.1.0 unjudged.Cpu h.1.1 k.1))
-unjudged_once l regions before call after (unjudged.After f) (unjudged.Before g) h k = inr (inl (can_else l regions before call.cpu call.step h.1.0 (unjudged.Before g) h.1.1 k.1))
-unjudged_once l regions before call after (unjudged.After f) unjudged.Generation h k = inr (inl (can_else l regions before call.cpu call.step h.1.0 unjudged.Generation h.1.1 k.1))
-unjudged_once l regions before call after (unjudged.After f) (unjudged.After g) h k = either (λ x. x) (next (λ x. x) (ap unjudged.After)) (unmade_once l regions after f g h.2 k.2)
+unjudged_once l regions before call after (unjudged.After f) unjudged.Step h k =
+    absurd (unknown_else (step_said call.step) h.1.0 k h.1.1.step_is)
+unjudged_once l regions before call after (unjudged.After f) unjudged.Reply h k =
+    absurd (none_some (reply_said call.reply) k.1 h.0)
+unjudged_once l regions before call after (unjudged.After f) unjudged.Cpu h k =
+    inr (inl (can_else l regions before call.cpu call.step h.1.0 unjudged.Cpu h.1.1 k.1))
+unjudged_once l regions before call after (unjudged.After f) (unjudged.Before g) h k =
+    inr (inl (can_else l regions before call.cpu call.step h.1.0 (unjudged.Before g) h.1.1 k.1))
+unjudged_once l regions before call after (unjudged.After f) unjudged.Generation h k =
+    inr (inl (can_else l regions before call.cpu call.step h.1.0 unjudged.Generation h.1.1 k.1))
+unjudged_once l regions before call after (unjudged.After f) (unjudged.After g) h k =
+    either (λ x. x) (next (λ x. x) (ap unjudged.After)) (unmade_once l regions after f g h.2 k.2)
 unjudged_once l regions before call after (unjudged.After f) unjudged.NoMemory h k = inr (inl tt)
-unjudged_once l regions before call after unjudged.Cpu unjudged.Step h k = absurd (none_some (step_said call.step) k h.1.0)
-unjudged_once l regions before call after unjudged.Cpu unjudged.Reply h k = absurd (none_some (reply_said call.reply) k.1 h.0)
-unjudged_once l regions before call after unjudged.Cpu unjudged.Cpu h k = untold_once l regions before call.cpu call.step unjudged.Cpu unjudged.Cpu h.1 k.1
-unjudged_once l regions before call after unjudged.Cpu (unjudged.Before g) h k = untold_once l regions before call.cpu call.step unjudged.Cpu (unjudged.Before g) h.1 k.1
-unjudged_once l regions before call after unjudged.Cpu unjudged.Generation h k = untold_once l regions before call.cpu call.step unjudged.Cpu unjudged.Generation h.1 k.1
-unjudged_once l regions before call after unjudged.Cpu (unjudged.After g) h k = inl (can_else l regions before call.cpu call.step k.1.0 unjudged.Cpu k.1.1 h.1)
+unjudged_once l regions before call after unjudged.Cpu unjudged.Step h k =
+    absurd (none_some (step_said call.step) k h.1.0)
+unjudged_once l regions before call after unjudged.Cpu unjudged.Reply h k =
+    absurd (none_some (reply_said call.reply) k.1 h.0)
+unjudged_once l regions before call after unjudged.Cpu unjudged.Cpu h k =
+    untold_once l regions before call.cpu call.step unjudged.Cpu unjudged.Cpu h.1 k.1
+unjudged_once l regions before call after unjudged.Cpu (unjudged.Before g) h k =
+    untold_once l regions before call.cpu call.step unjudged.Cpu (unjudged.Before g) h.1 k.1
+unjudged_once l regions before call after unjudged.Cpu unjudged.Generation h k =
+    untold_once l regions before call.cpu call.step unjudged.Cpu unjudged.Generation h.1 k.1
+unjudged_once l regions before call after unjudged.Cpu (unjudged.After g) h k =
+    inl (can_else l regions before call.cpu call.step k.1.0 unjudged.Cpu k.1.1 h.1)
 unjudged_once l regions before call after unjudged.Cpu unjudged.NoMemory h k = inr (inl tt)
-unjudged_once l regions before call after (unjudged.Before f) unjudged.Step h k = absurd (none_some (step_said call.step) k h.1.0)
-unjudged_once l regions before call after (unjudged.Before f) unjudged.Reply h k = absurd (none_some (reply_said call.reply) k.1 h.0)
-unjudged_once l regions before call after (unjudged.Before f) unjudged.Cpu h k = untold_once l regions before call.cpu call.step (unjudged.Before f) unjudged.Cpu h.1 k.1
-unjudged_once l regions before call after (unjudged.Before f) (unjudged.Before g) h k = untold_once l regions before call.cpu call.step (unjudged.Before f) (unjudged.Before g) h.1 k.1
-unjudged_once l regions before call after (unjudged.Before f) unjudged.Generation h k = untold_once l regions before call.cpu call.step (unjudged.Before f) unjudged.Generation h.1 k.1
-unjudged_once l regions before call after (unjudged.Before f) (unjudged.After g) h k = inl (can_else l regions before call.cpu call.step k.1.0 (unjudged.Before f) k.1.1 h.1)
+unjudged_once l regions before call after (unjudged.Before f) unjudged.Step h k =
+    absurd (none_some (step_said call.step) k h.1.0)
+unjudged_once l regions before call after (unjudged.Before f) unjudged.Reply h k =
+    absurd (none_some (reply_said call.reply) k.1 h.0)
+unjudged_once l regions before call after (unjudged.Before f) unjudged.Cpu h k =
+    untold_once l regions before call.cpu call.step (unjudged.Before f) unjudged.Cpu h.1 k.1
+unjudged_once l regions before call after (unjudged.Before f) (unjudged.Before g) h k =
+    untold_once l regions before call.cpu call.step (unjudged.Before f) (unjudged.Before g) h.1 k.1
+unjudged_once l regions before call after (unjudged.Before f) unjudged.Generation h k =
+    untold_once l regions before call.cpu call.step (unjudged.Before f) unjudged.Generation h.1 k.1
+unjudged_once l regions before call after (unjudged.Before f) (unjudged.After g) h k =
+    inl (can_else l regions before call.cpu call.step k.1.0 (unjudged.Before f) k.1.1 h.1)
 unjudged_once l regions before call after (unjudged.Before f) unjudged.NoMemory h k = inr (inl tt)
-unjudged_once l regions before call after unjudged.Generation unjudged.Step h k = absurd (unknown_else (step_said call.step) h.1.3.step k h.1.3.step_is)
-unjudged_once l regions before call after unjudged.Generation unjudged.Reply h k = absurd (none_some (reply_said call.reply) k.1 h.0)
-unjudged_once l regions before call after unjudged.Generation unjudged.Cpu h k = untold_once l regions before call.cpu call.step unjudged.Generation unjudged.Cpu h.1 k.1
-unjudged_once l regions before call after unjudged.Generation (unjudged.Before g) h k = untold_once l regions before call.cpu call.step unjudged.Generation (unjudged.Before g) h.1 k.1
-unjudged_once l regions before call after unjudged.Generation unjudged.Generation h k = untold_once l regions before call.cpu call.step unjudged.Generation unjudged.Generation h.1 k.1
-unjudged_once l regions before call after unjudged.Generation (unjudged.After g) h k = inl (can_else l regions before call.cpu call.step k.1.0 unjudged.Generation k.1.1 h.1)
+unjudged_once l regions before call after unjudged.Generation unjudged.Step h k =
+    absurd (unknown_else (step_said call.step) h.1.3.step k h.1.3.step_is)
+unjudged_once l regions before call after unjudged.Generation unjudged.Reply h k =
+    absurd (none_some (reply_said call.reply) k.1 h.0)
+unjudged_once l regions before call after unjudged.Generation unjudged.Cpu h k =
+    untold_once l regions before call.cpu call.step unjudged.Generation unjudged.Cpu h.1 k.1
+unjudged_once l regions before call after unjudged.Generation (unjudged.Before g) h k =
+    untold_once l regions before call.cpu call.step unjudged.Generation (unjudged.Before g) h.1 k.1
+unjudged_once l regions before call after unjudged.Generation unjudged.Generation h k =
+    untold_once l regions before call.cpu call.step unjudged.Generation unjudged.Generation h.1 k.1
+unjudged_once l regions before call after unjudged.Generation (unjudged.After g) h k =
+    inl (can_else l regions before call.cpu call.step k.1.0 unjudged.Generation k.1.1 h.1)
 unjudged_once l regions before call after unjudged.Generation unjudged.NoMemory h k = inr (inl tt)

@@ -14,11 +14,13 @@ use Rattle.c_states.specs.Lists.{range_said}
 abbrev pub do_runs_clash : PlainRun → PlainRun → Bool
 do_runs_clash a b =
     a.tree == b.tree && (nat_lt 0 a.count && nat_lt 0 b.count)
-    && (is_in_range (range_said a.page a.count) b.page || is_in_range (range_said b.page b.count) a.page)
+    && (is_in_range (range_said a.page a.count) b.page
+    || is_in_range (range_said b.page b.count) a.page)
 
 -- two tables of one tree have one block or one frame
 abbrev pub do_tables_clash : PlainTable → PlainTable → Bool
-do_tables_clash a b = a.tree == b.tree && (a.height == b.height && a.index == b.index || a.frame == b.frame)
+do_tables_clash a b =
+    a.tree == b.tree && (a.height == b.height && a.index == b.index || a.frame == b.frame)
 
 -- two free frames of one pool are the same
 abbrev pub do_frames_clash : PlainFrame → PlainFrame → Bool

@@ -17,18 +17,29 @@ use Rattle.c_states.specs.Lists.{cpu_listed, cpu_said, frames_said, rows_said, r
 use Rattle.c_states.specs.States.{Lists}
 
 -- the first member of a list with an unknown number, and where there is none that of the others
-abbrev pub unknown_in : {X : Type 0} → (X → Bool) → List X → PlainList → Option (PlainList × ℕ) → Option (PlainList × ℕ)
-unknown_in known members list others = elim (position (λ x. not (known x)) members) [ None ↦ others | Some at ↦ Some (list, at) ]
+abbrev pub unknown_in : {X : Type 0}
+    → (X → Bool)
+    → List X
+    → PlainList
+    → Option (PlainList × ℕ)
+    → Option (PlainList × ℕ)
+unknown_in known members list others =
+    elim (position (λ x. not (known x)) members) [ None ↦ others | Some at ↦ Some (list, at) ]
 
 -- from the loads on, with so many CPUs
 abbrev pub first_unknown_later : ℕ → Lists → Option (PlainList × ℕ)
 first_unknown_later cpus p =
-    unknown_in is_load p.loads lists.Loads (unknown_in is_guest p.guests lists.Guests (unknown_in (is_cpu cpus) p.cpus lists.Cpus (unknown_in is_row p.rows lists.Rows None)))
+    unknown_in is_load p.loads lists.Loads
+    (unknown_in is_guest p.guests lists.Guests
+    (unknown_in (is_cpu cpus) p.cpus lists.Cpus (unknown_in is_row p.rows lists.Rows None)))
 
 -- of all lists
 abbrev pub first_unknown_of : ℕ → Lists → Option (PlainList × ℕ)
 first_unknown_of cpus p =
-    unknown_in is_run p.runs lists.Runs (unknown_in is_table p.tables lists.Tables (unknown_in is_frame p.frames lists.Frames (unknown_in is_slot p.slots lists.Slots (first_unknown_later cpus p))))
+    unknown_in is_run p.runs lists.Runs
+    (unknown_in is_table p.tables lists.Tables
+    (unknown_in is_frame p.frames lists.Frames
+    (unknown_in is_slot p.slots lists.Slots (first_unknown_later cpus p))))
 
 -- the rows' frames and lent pages are small, and no two runs of them share a frame
 abbrev pub AreTakenRows : Lists → Type 0
@@ -40,11 +51,16 @@ pub record AreOnce (p : Lists) : Type 0 where
   pub guests : HasNoClash have_one_guest p.guests
   pub cpus : HasNoClash have_one_cpu p.cpus
 
--- the member of a list is the first that has the number of an earlier one, and in the lists before none has
+-- the member of a list is the first that has the number of an earlier one, and in the lists before
+-- none has
 abbrev pub IsTwice : Lists → PlainList → ℕ → Type 0
 IsTwice p lists.Slots at = IsFirstClash have_one_slot p.slots at
-IsTwice p lists.Guests at = HasNoClash have_one_slot p.slots × IsFirstClash have_one_guest p.guests at
-IsTwice p lists.Cpus at = HasNoClash have_one_slot p.slots × HasNoClash have_one_guest p.guests × IsFirstClash have_one_cpu p.cpus at
+IsTwice p lists.Guests at =
+    HasNoClash have_one_slot p.slots × IsFirstClash have_one_guest p.guests at
+IsTwice p lists.Cpus at =
+    HasNoClash have_one_slot p.slots
+    × HasNoClash have_one_guest p.guests
+    × IsFirstClash have_one_cpu p.cpus at
 IsTwice p other at = ⊥
 
 -- all members have known numbers, the rows are well, and nothing is there twice
@@ -91,27 +107,35 @@ abbrev pub IsFirstOfLists : ℕ → Lists → GhostFault → Type 0
 IsFirstOfLists cpus p TooLarge = ¬ HaveLowNumbers cpus p
 IsFirstOfLists cpus p Overlap = HaveLowNumbers cpus p × ¬ HaveRunsApart p
 IsFirstOfLists cpus p TableTwice = HaveLowNumbers cpus p × HaveRunsApart p × ¬ HaveTablesApart p
-IsFirstOfLists cpus p FrameTwice = HaveLowNumbers cpus p × HaveRunsApart p × HaveTablesApart p × ¬ HaveFramesApart p
+IsFirstOfLists cpus p FrameTwice =
+    HaveLowNumbers cpus p × HaveRunsApart p × HaveTablesApart p × ¬ HaveFramesApart p
 IsFirstOfLists cpus p other = ⊥
 
--- the named member is the first of its list that can't be there with an earlier one. Of numbers that are too large none is named
+-- the named member is the first of its list that can't be there with an earlier one. Of numbers
+-- that are too large none is named
 abbrev pub IsCulprit : Lists → GhostFault → Option (PlainList × ℕ) → Type 0
 IsCulprit p TooLarge None = Unit {0}
 IsCulprit p Overlap (Some told) = (told.0 ≡ lists.Runs) × IsFirstClash do_runs_clash p.runs told.1
-IsCulprit p TableTwice (Some told) = (told.0 ≡ lists.Tables) × IsFirstClash do_tables_clash p.tables told.1
-IsCulprit p FrameTwice (Some told) = (told.0 ≡ lists.Frames) × IsFirstClash do_frames_clash p.frames told.1
+IsCulprit p TableTwice (Some told) =
+    (told.0 ≡ lists.Tables) × IsFirstClash do_tables_clash p.tables told.1
+IsCulprit p FrameTwice (Some told) =
+    (told.0 ≡ lists.Frames) × IsFirstClash do_frames_clash p.frames told.1
 IsCulprit p other culprit = ⊥
 
 -- a fault of lists that are read, with its place
 abbrev pub IsListsFault : ℕ → Lists → PlainFault → Type 0
-IsListsFault cpus p (ListsFault fault culprit) = IsFirstOfLists cpus p fault × IsCulprit p fault culprit
+IsListsFault cpus p (ListsFault fault culprit) =
+    IsFirstOfLists cpus p fault × IsCulprit p fault culprit
 IsListsFault cpus p NoMemory = Unit {0}
 IsListsFault cpus p other = ⊥
 
 -- the fault is true of the lists, and all that is tested before it is well
 abbrev pub IsPlainFault : ℕ → Lists → PlainFault → Type 0
 IsPlainFault cpus p (Unknown list at) = first_unknown_of cpus p ≡ Some (list, at)
-IsPlainFault cpus p (RowsFault fault) = (first_unknown_of cpus p ≡ None) × IsFirstRowFault fault (rows_said p.rows)
-IsPlainFault cpus p (Twice list at) = (first_unknown_of cpus p ≡ None) × AreTakenRows p × IsTwice p list at
-IsPlainFault cpus p (ListsFault fault culprit) = AreRead cpus p × IsFirstOfLists cpus p fault × IsCulprit p fault culprit
+IsPlainFault cpus p (RowsFault fault) =
+    (first_unknown_of cpus p ≡ None) × IsFirstRowFault fault (rows_said p.rows)
+IsPlainFault cpus p (Twice list at) =
+    (first_unknown_of cpus p ≡ None) × AreTakenRows p × IsTwice p list at
+IsPlainFault cpus p (ListsFault fault culprit) =
+    AreRead cpus p × IsFirstOfLists cpus p fault × IsCulprit p fault culprit
 IsPlainFault cpus p NoMemory = Unit {0}

@@ -42,7 +42,15 @@ pub record GuestLists : Type 0 where
   pub free : List ℕ
 
 abbrev pub lists_in : GhostGuest → GuestLists
-lists_in g = record { phase = phase_in g.phase; generation = g.generation; kind = g.kind; runs = g.tree.runs.items; tables = g.tree.tables.items; free = g.free.items }
+lists_in g =
+    record {
+      phase = phase_in g.phase;
+      generation = g.generation;
+      kind = g.kind;
+      runs = g.tree.runs.items;
+      tables = g.tree.tables.items;
+      free = g.free.items;
+    }
 
 -- and what those of a slot say
 abbrev pub guest_lists_said : Lists → ℕ → PlainGuest → GuestLists
@@ -57,7 +65,9 @@ guest_lists_said p slot g = record {
 
 -- the guests, by slot
 abbrev pub AreFilledGuests : Lists → List GhostGuest → Type 0
-AreFilledGuests p guests = map lists_in guests ≡ map (λ v. guest_lists_said p v (guest_listed p.guests v)) (range_with_len 0 64)
+AreFilledGuests p guests =
+    map lists_in guests
+    ≡ map (λ v. guest_lists_said p v (guest_listed p.guests v)) (range_with_len 0 64)
 
 -- each log has room for one call
 pub record IsRoomy (r : GhostRooms) : Type 0 where
@@ -68,13 +78,16 @@ pub record IsRoomy (r : GhostRooms) : Type 0 where
 
 -- a slot of 8 vCPUs
 abbrev pub slot_filled : List PlainLoad → ℕ → PlainSlot → Slot
-slot_filled loads v s = let said = slot_said loads v s in record said { loaded = λ vcpu. if nat_lt vcpu 8 then said.loaded vcpu else None }
+slot_filled loads v s = let said = slot_said loads v s in
+    record said { loaded = λ vcpu. if nat_lt vcpu 8 then said.loaded vcpu else None }
 
 -- all lists, for so many CPUs
 pub record IsFilled (count : ℕ) (p : Lists) (l : GhostLists) : Type 0 where
   pub shared : IsFilledShared p l.shared
-  pub slots : map slot_in l.vms.items ≡ map (λ v. slot_filled p.loads v (slot_listed p.slots v)) (range_with_len 0 64)
+  pub slots : map slot_in l.vms.items
+      ≡ map (λ v. slot_filled p.loads v (slot_listed p.slots v)) (range_with_len 0 64)
   pub guests : AreFilledGuests p l.guests.items
-  pub cpus : map cpu_in l.cpus.items ≡ map (λ c. cpu_said (cpu_listed p.cpus c)) (range_with_len 0 count)
+  pub cpus : map cpu_in l.cpus.items
+      ≡ map (λ c. cpu_said (cpu_listed p.cpus c)) (range_with_len 0 count)
   pub rooms : IsRoomy l.rooms
   pub log : l.layout.config.log ≡ 1

@@ -33,38 +33,49 @@ IsUnmade l regions p (unmade.State fault) = IsTakenLayout l regions × IsPlainFa
 abbrev pub told_said : PlainLayout → List PlainRegion → Lists → ℕ → Step → Reply × Reference
 told_said l regions p cpu step = foretell (layout_said l regions) (state_said p) cpu step
 
--- a CPU can make the step on the lists' state: layout and lists make one, the CPU is one of the layout's, and a generation that
--- rises is still a number of 64 bits
-pub record CanCall (l : PlainLayout) (regions : List PlainRegion) (before : Lists) (cpu : ℕ) (plain : PlainStep) (step : Step) : Type 0 where
+-- a CPU can make the step on the lists' state: layout and lists make one, the CPU is one of the
+-- layout's, and a generation that rises is still a number of 64 bits
+pub record CanCall (l : PlainLayout) (regions : List PlainRegion) (before : Lists) (cpu : ℕ)
+    (plain : PlainStep) (step : Step) : Type 0 where
   pub step_is : step_said plain ≡ Some step
   pub cpu_is : cpu < l.cpus
   pub layout : IsTakenLayout l regions
   pub taken : AreTaken l.cpus before
   pub generation : HasNextGeneration ((contents_said before).cpu cpu).ticket step
 
--- the call is judged: it could be made, and the state after it is one. Nothing is found just where the reply and the state after it are
--- the model's, or a step that wants memory changed nothing; else the first difference
-pub record IsJudged (l : PlainLayout) (regions : List PlainRegion) (before : Lists) (call : PlainCall) (after : Lists) (found : Option Disagreement) : Type 0 where
+-- the call is judged: it could be made, and the state after it is one. Nothing is found just where
+-- the reply and the state after it are the model's, or a step that wants memory changed nothing;
+-- else the first difference
+pub record IsJudged (l : PlainLayout) (regions : List PlainRegion) (before : Lists)
+    (call : PlainCall) (after : Lists) (found : Option Disagreement) : Type 0 where
   pub step : Step
   pub reply : Reply
   pub can : CanCall l regions before call.cpu call.step step
   pub reply_is : reply_said call.reply ≡ Some reply
   pub after_taken : AreTaken l.cpus after
-  pub none : (found ≡ None) ↔ JudgeAgrees (contents_said before) step reply (contents_said after) (told_said l regions before call.cpu step)
-  pub first : IfSome found (IsFirstJudged (contents_said before) step reply (contents_said after) (told_said l regions before call.cpu step))
+  pub none : (found ≡ None)
+      ↔ JudgeAgrees (contents_said before) step reply (contents_said after)
+      (told_said l regions before call.cpu step)
+  pub first : IfSome found
+      (IsFirstJudged (contents_said before) step reply (contents_said after)
+      (told_said l regions before call.cpu step))
 
--- the reply to a step on a state is the model's, with 0 in each field that isn't named for what it gives
-pub record IsForetold (l : PlainLayout) (regions : List PlainRegion) (before : Lists) (cpu : ℕ) (plain : PlainStep) (reply : PlainReply) : Type 0 where
+-- the reply to a step on a state is the model's, with 0 in each field that isn't named for what it
+-- gives
+pub record IsForetold (l : PlainLayout) (regions : List PlainRegion) (before : Lists) (cpu : ℕ)
+    (plain : PlainStep) (reply : PlainReply) : Type 0 where
   pub step : Step
   pub can : CanCall l regions before cpu plain step
   pub reply_is : reply ≡ reply_written (told_said l regions before cpu step).0
 
 -- and the lists say the state after it, with each pool in order, by members of known numbers
-pub record IsForetoldState (l : PlainLayout) (regions : List PlainRegion) (before : Lists) (cpu : ℕ) (plain : PlainStep) (reply : PlainReply) (after : Lists) : Type 0 where
+pub record IsForetoldState (l : PlainLayout) (regions : List PlainRegion) (before : Lists)
+    (cpu : ℕ) (plain : PlainStep) (reply : PlainReply) (after : Lists) : Type 0 where
   pub step : Step
   pub can : CanCall l regions before cpu plain step
   pub reply_is : reply ≡ reply_written (told_said l regions before cpu step).0
-  pub after_is : contents_said after ≡ in_pool_order (told_said l regions before cpu step).1.contents
+  pub after_is : contents_said after
+      ≡ in_pool_order (told_said l regions before cpu step).1.contents
   pub after_told : AreTold l.cpus after
 
 -- the step of a call releases a slot whose generation can't rise
@@ -78,19 +89,30 @@ abbrev pub IsUntold : PlainLayout → List PlainRegion → Lists → ℕ → Pla
 IsUntold l regions before cpu plain unjudged.Step = step_said plain ≡ None
 IsUntold l regions before cpu plain unjudged.Reply = ⊥
 IsUntold l regions before cpu plain unjudged.Cpu = IsSome (step_said plain) × (l.cpus ≤ cpu)
-IsUntold l regions before cpu plain (unjudged.Before why) = IsSome (step_said plain) × (cpu < l.cpus) × IsUnmade l regions before why
-IsUntold l regions before cpu plain unjudged.Generation = (cpu < l.cpus) × IsTakenLayout l regions × AreTaken l.cpus before × HasLastGeneration before cpu plain
+IsUntold l regions before cpu plain (unjudged.Before why) =
+    IsSome (step_said plain) × (cpu < l.cpus) × IsUnmade l regions before why
+IsUntold l regions before cpu plain unjudged.Generation =
+    (cpu < l.cpus)
+    × IsTakenLayout l regions
+    × AreTaken l.cpus before
+    × HasLastGeneration before cpu plain
 IsUntold l regions before cpu plain (unjudged.After why) = ⊥
 IsUntold l regions before cpu plain unjudged.NoMemory = Unit {0}
 
--- why a call isn't judged: the first that is true. The reply is tested after the step, and the state after it last
-abbrev pub IsUnjudged : PlainLayout → List PlainRegion → Lists → PlainCall → Lists → Unjudged → Type 0
+-- why a call isn't judged: the first that is true. The reply is tested after the step, and the
+-- state after it last
+abbrev pub IsUnjudged : PlainLayout → List PlainRegion → Lists → PlainCall → Lists → Unjudged
+    → Type 0
 IsUnjudged l regions before call after unjudged.Step = step_said call.step ≡ None
-IsUnjudged l regions before call after unjudged.Reply = IsSome (step_said call.step) × (reply_said call.reply ≡ None)
+IsUnjudged l regions before call after unjudged.Reply =
+    IsSome (step_said call.step) × (reply_said call.reply ≡ None)
 IsUnjudged l regions before call after (unjudged.After why) =
-    IsSome (reply_said call.reply) × ((step : Step) × CanCall l regions before call.cpu call.step step) × IsUnmade l regions after why
+    IsSome (reply_said call.reply)
+    × ((step : Step) × CanCall l regions before call.cpu call.step step)
+    × IsUnmade l regions after why
 IsUnjudged l regions before call after unjudged.NoMemory = Unit {0}
-IsUnjudged l regions before call after other = IsSome (reply_said call.reply) × IsUntold l regions before call.cpu call.step other
+IsUnjudged l regions before call after other =
+    IsSome (reply_said call.reply) × IsUntold l regions before call.cpu call.step other
 
 -- why it isn't, where it could be made
 abbrev pub IsUnjudgedAfter : PlainLayout → List PlainRegion → Lists → Unjudged → Type 0

@@ -1,4 +1,5 @@
--- A call that is judged or predicted isn't refused, and has one answer; a refused one has one reason.
+-- A call that is judged or predicted isn't refused, and has one answer; a refused one has one
+-- reason.
 use Rattle.std.specs.Prelude.{◌≡◌, ◌⊎◌, ℕ, ◌<◌, ◌==◌, ◌||◌, nat_lt, All, IsTrue, List, None, Option}
 use Rattle.ghost_judge.specs.declared.disagreement.Disagreement.{Disagreement}
 use Rattle.c_words.specs.declared.reply.PlainReply.{PlainReply}
@@ -34,64 +35,112 @@ LacksMemory other = ⊥
 
 -- a layout and lists that are taken are refused for want of memory alone
 abbrev pub MadeElse : Type 0
-MadeElse = (l : PlainLayout) (regions : List PlainRegion) (p : Lists) (why : Unmade) → IsTakenLayout l regions → AreTaken l.cpus p → IsUnmade l regions p why → MadeLacksMemory why
+MadeElse =
+    (l : PlainLayout) (regions : List PlainRegion) (p : Lists) (why : Unmade)
+    → IsTakenLayout l regions
+    → AreTaken l.cpus p
+    → IsUnmade l regions p why
+    → MadeLacksMemory why
 
 -- so is a call that is judged
 abbrev pub JudgedElse : Type 0
-JudgedElse = (l : PlainLayout) (regions : List PlainRegion) (before : Lists) (call : PlainCall) (after : Lists) (found : Option Disagreement) (why : Unjudged)
-    → IsJudged l regions before call after found → IsUnjudged l regions before call after why → LacksMemory why
+JudgedElse =
+    (l : PlainLayout) (regions : List PlainRegion) (before : Lists) (call : PlainCall)
+    (after : Lists) (found : Option Disagreement) (why : Unjudged)
+    → IsJudged l regions before call after found
+    → IsUnjudged l regions before call after why
+    → LacksMemory why
 
 -- one that is foretold
 abbrev pub ForetoldElse : Type 0
-ForetoldElse = (l : PlainLayout) (regions : List PlainRegion) (before : Lists) (cpu : ℕ) (step : PlainStep) (reply : PlainReply) (why : Unjudged)
-    → IsForetold l regions before cpu step reply → IsUntold l regions before cpu step why → LacksMemory why
+ForetoldElse =
+    (l : PlainLayout) (regions : List PlainRegion) (before : Lists) (cpu : ℕ) (step : PlainStep)
+    (reply : PlainReply) (why : Unjudged)
+    → IsForetold l regions before cpu step reply
+    → IsUntold l regions before cpu step why
+    → LacksMemory why
 
 -- and one whose state after it is
 abbrev pub ForetoldStateElse : Type 0
-ForetoldStateElse = (l : PlainLayout) (regions : List PlainRegion) (before : Lists) (cpu : ℕ) (step : PlainStep) (reply : PlainReply) (after : Lists) (why : Unjudged)
-    → IsForetoldState l regions before cpu step reply after → IsUntold l regions before cpu step why → LacksMemory why
+ForetoldStateElse =
+    (l : PlainLayout) (regions : List PlainRegion) (before : Lists) (cpu : ℕ) (step : PlainStep)
+    (reply : PlainReply) (after : Lists) (why : Unjudged)
+    → IsForetoldState l regions before cpu step reply after
+    → IsUntold l regions before cpu step why
+    → LacksMemory why
 
 -- a judgement has one answer
 abbrev pub JudgedOnce : Type 0
-JudgedOnce = (l : PlainLayout) (regions : List PlainRegion) (before : Lists) (call : PlainCall) (after : Lists) (f g : Option Disagreement)
+JudgedOnce =
+    (l : PlainLayout) (regions : List PlainRegion) (before : Lists) (call : PlainCall)
+    (after : Lists) (f g : Option Disagreement)
     → IsJudged l regions before call after f → IsJudged l regions before call after g → f ≡ g
 
 -- so has a prediction
 abbrev pub ForetoldOnce : Type 0
-ForetoldOnce = (l : PlainLayout) (regions : List PlainRegion) (before : Lists) (cpu : ℕ) (step : PlainStep) (r s : PlainReply)
+ForetoldOnce =
+    (l : PlainLayout) (regions : List PlainRegion) (before : Lists) (cpu : ℕ) (step : PlainStep)
+    (r s : PlainReply)
     → IsForetold l regions before cpu step r → IsForetold l regions before cpu step s → r ≡ s
 
 -- and the state after a call
 abbrev pub ForetoldStateOnce : Type 0
-ForetoldStateOnce = (l : PlainLayout) (regions : List PlainRegion) (before : Lists) (cpu : ℕ) (step : PlainStep) (r s : PlainReply) (a b : Lists)
-    → IsForetoldState l regions before cpu step r a → IsForetoldState l regions before cpu step s b → (r ≡ s) × (contents_said a ≡ contents_said b)
+ForetoldStateOnce =
+    (l : PlainLayout) (regions : List PlainRegion) (before : Lists) (cpu : ℕ) (step : PlainStep)
+    (r s : PlainReply) (a b : Lists)
+    → IsForetoldState l regions before cpu step r a
+    → IsForetoldState l regions before cpu step s b
+    → (r ≡ s) × (contents_said a ≡ contents_said b)
 
 -- a layout has one fault but want of memory
 abbrev pub LayoutFaultOnce : Type 0
-LayoutFaultOnce = (l : PlainLayout) (regions : List PlainRegion) (f g : PlainLayoutFault) → IsLayoutFault l regions f → IsLayoutFault l regions g
+LayoutFaultOnce =
+    (l : PlainLayout) (regions : List PlainRegion) (f g : PlainLayoutFault)
+    → IsLayoutFault l regions f
+    → IsLayoutFault l regions g
     → (f ≡ layouts.NoMemory) ⊎ ((g ≡ layouts.NoMemory) ⊎ (f ≡ g))
 
 -- so have lists, with one member that is named
 abbrev pub PlainFaultOnce : Type 0
-PlainFaultOnce = (cpus : ℕ) (p : Lists) (f g : PlainFault) → IsPlainFault cpus p f → IsPlainFault cpus p g → (f ≡ faults.NoMemory) ⊎ ((g ≡ faults.NoMemory) ⊎ (f ≡ g))
+PlainFaultOnce =
+    (cpus : ℕ) (p : Lists) (f g : PlainFault)
+    → IsPlainFault cpus p f
+    → IsPlainFault cpus p g
+    → (f ≡ faults.NoMemory) ⊎ ((g ≡ faults.NoMemory) ⊎ (f ≡ g))
 
 -- a layout and lists that make no state have one reason
 abbrev pub UnmadeOnce : Type 0
-UnmadeOnce = (l : PlainLayout) (regions : List PlainRegion) (p : Lists) (f g : Unmade) → IsUnmade l regions p f → IsUnmade l regions p g
+UnmadeOnce =
+    (l : PlainLayout) (regions : List PlainRegion) (p : Lists) (f g : Unmade)
+    → IsUnmade l regions p f
+    → IsUnmade l regions p g
     → MadeLacksMemory f ⊎ (MadeLacksMemory g ⊎ (f ≡ g))
 
 -- so has a call that isn't foretold
 abbrev pub UntoldOnce : Type 0
-UntoldOnce = (l : PlainLayout) (regions : List PlainRegion) (before : Lists) (cpu : ℕ) (step : PlainStep) (f g : Unjudged)
-    → IsUntold l regions before cpu step f → IsUntold l regions before cpu step g → LacksMemory f ⊎ (LacksMemory g ⊎ (f ≡ g))
+UntoldOnce =
+    (l : PlainLayout) (regions : List PlainRegion) (before : Lists) (cpu : ℕ) (step : PlainStep)
+    (f g : Unjudged)
+    → IsUntold l regions before cpu step f
+    → IsUntold l regions before cpu step g
+    → LacksMemory f ⊎ (LacksMemory g ⊎ (f ≡ g))
 
 -- and one that isn't judged
 abbrev pub UnjudgedOnce : Type 0
-UnjudgedOnce = (l : PlainLayout) (regions : List PlainRegion) (before : Lists) (call : PlainCall) (after : Lists) (f g : Unjudged)
-    → IsUnjudged l regions before call after f → IsUnjudged l regions before call after g → LacksMemory f ⊎ (LacksMemory g ⊎ (f ≡ g))
+UnjudgedOnce =
+    (l : PlainLayout) (regions : List PlainRegion) (before : Lists) (call : PlainCall)
+    (after : Lists) (f g : Unjudged)
+    → IsUnjudged l regions before call after f
+    → IsUnjudged l regions before call after g
+    → LacksMemory f ⊎ (LacksMemory g ⊎ (f ≡ g))
 
--- no member of a state that is foretold has an unknown number, or is there twice, where no vCPU past the eighth is loaded
+-- no member of a state that is foretold has an unknown number, or is there twice, where no vCPU
+-- past the eighth is loaded
 abbrev pub ForetoldKnown : Type 0
-ForetoldKnown = (l : PlainLayout) (regions : List PlainRegion) (before : Lists) (cpu : ℕ) (step : PlainStep) (reply : PlainReply) (after : Lists)
-    → IsForetoldState l regions before cpu step reply after → All (λ x. x.vcpu < 8) after.loads → All (λ k. IsTrue (k.has_vcpu == 0 || nat_lt k.vcpu 8)) after.cpus
+ForetoldKnown =
+    (l : PlainLayout) (regions : List PlainRegion) (before : Lists) (cpu : ℕ) (step : PlainStep)
+    (reply : PlainReply) (after : Lists)
+    → IsForetoldState l regions before cpu step reply after
+    → All (λ x. x.vcpu < 8) after.loads
+    → All (λ k. IsTrue (k.has_vcpu == 0 || nat_lt k.vcpu 8)) after.cpus
     → (first_unknown_of l.cpus after ≡ None) × AreOnce after

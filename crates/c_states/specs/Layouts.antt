@@ -1,4 +1,5 @@
--- The reference layout that a plain layout says, and why there is none. Each log has room for one call.
+-- The reference layout that a plain layout says, and why there is none. Each log has room for one
+-- call.
 use Rattle.std.specs.Prelude.{◌≡◌, ◌==◌, IsSome, List, None, map, if◌then◌else◌}
 use Rattle.page_state.specs.Geometries.{geometry_of}
 use Rattle.page_state.specs.LayoutFaults.{IsAccepted, IsFirstFault}
@@ -14,7 +15,8 @@ use Rattle.c_states.specs.Lists.{range_said}
 
 -- a region: 0 is memory, and each other number a device
 abbrev pub region_said : PlainRegion → Region
-region_said r = record { kind = if r.kind == 0 then Memory else Device; pages = range_said r.first r.count }
+region_said r =
+    record { kind = if r.kind == 0 then Memory else Device; pages = range_said r.first r.count }
 
 -- the memory
 abbrev pub memory_said : PlainLayout → List PlainRegion → MemoryOfRegions
@@ -36,5 +38,6 @@ pub record IsTakenLayout (l : PlainLayout) (regions : List PlainRegion) : Type 0
 -- why they are none: the first that is true
 abbrev pub IsLayoutFault : PlainLayout → List PlainRegion → PlainLayoutFault → Type 0
 IsLayoutFault l regions Geometry = geometry_of l.address_bits ≡ None
-IsLayoutFault l regions (MemoryFault fault) = IsSome (geometry_of l.address_bits) × IsFirstFault fault (memory_said l regions)
+IsLayoutFault l regions (MemoryFault fault) =
+    IsSome (geometry_of l.address_bits) × IsFirstFault fault (memory_said l regions)
 IsLayoutFault l regions NoMemory = Unit {0}

@@ -26,7 +26,8 @@ use Rattle.c_states.specs.declared.members.PlainRow.{PlainRow}
 abbrev pub listed : {X : Type 0} → (X → ℕ) → X → List X → ℕ → X
 listed number none xs n = unwrap_or (find (λ x. number x == n) xs) none
 
--- slots, guests and CPUs that aren't listed: a slot as at boot, an empty guest, and a CPU with nothing
+-- slots, guests and CPUs that aren't listed: a slot as at boot, an empty guest, and a CPU with
+-- nothing
 abbrev pub no_plain_slot : PlainSlot
 no_plain_slot = record { slot = 0; stand = 0; generation = 1; kind = 0; vcpus = 0 }
 
@@ -34,7 +35,25 @@ abbrev pub no_plain_guest : PlainGuest
 no_plain_guest = record { slot = 0; phase = 0; generation = 0; kind = 0 }
 
 abbrev pub no_plain_cpu : PlainCpu
-no_plain_cpu = record { cpu = 0; has_vcpu = 0; vcpu_slot = 0; vcpu_generation = 0; vcpu = 0; has_hand = 0; hand_first = 0; hand_count = 0; has_ticket = 0; ticket_slot = 0; ticket_generation = 0; ticket_kind = 0; ticket_stage = 0 }
+no_plain_cpu =
+    record {
+      cpu = 0;
+      has_vcpu = 0;
+      vcpu_slot = 0;
+      vcpu_generation = 0;
+      vcpu = 0;
+      has_hand = 0;
+      hand_first =
+          0;
+      hand_count =
+          0;
+      has_ticket =
+          0;
+      ticket_slot = 0;
+      ticket_generation = 0;
+      ticket_kind = 0;
+      ticket_stage = 0;
+    }
 
 -- and those of a number
 abbrev pub slot_listed : List PlainSlot → ℕ → PlainSlot
@@ -52,14 +71,19 @@ range_said first count = record { first = record { 0 = first }; count = count }
 
 -- the run that a plain run says of a tree, and those of a list
 abbrev pub run_said : ℕ → PlainRun → Option Run
-run_said tree r = if r.tree == tree then option_map (λ target. record { pages = range_said r.page r.count; target = target }) (target_said r.word) else None
+run_said tree r =
+    if r.tree == tree
+    then option_map (λ target. record { pages = range_said r.page r.count; target = target })
+    (target_said r.word)
+    else None
 
 abbrev pub runs_said : List PlainRun → ℕ → List Run
 runs_said runs tree = filter_map (run_said tree) runs
 
 -- the table of a tree: its block is the one of 512 ^ height pages at the index
 abbrev pub table_said : ℕ → PlainTable → Option Table
-table_said tree t = if t.tree == tree then Some (record { block = (t.height, t.index); frame = t.frame }) else None
+table_said tree t =
+    if t.tree == tree then Some (record { block = (t.height, t.index); frame = t.frame }) else None
 
 abbrev pub tables_said : List PlainTable → ℕ → List Table
 tables_said tables tree = filter_map (table_said tree) tables
@@ -73,7 +97,9 @@ frames_said frames pool = filter_map (frame_said pool) frames
 
 -- the run of owner rows
 abbrev pub row_said : PlainRow → Option (RowRun Row)
-row_said r = option_map (λ row. record { pages = range_said r.frame r.count; value = row }) (owner_said r.owner)
+row_said r =
+    option_map (λ row. record { pages = range_said r.frame r.count; value = row })
+    (owner_said r.owner)
 
 abbrev pub rows_said : List PlainRow → List (RowRun Row)
 rows_said rows = filter_map row_said rows
@@ -86,9 +112,11 @@ is_load slot vcpu l = l.slot == slot && l.vcpu == vcpu
 abbrev pub loader_said : List PlainLoad → ℕ → ℕ → Option ℕ
 loader_said loads slot vcpu = option_map (λ l. l.cpu) (find (is_load slot vcpu) loads)
 
--- the stage of a slot, the phase of a guest, the kind of a VM, and the stage of a ticket: the last for each number that isn't known
+-- the stage of a slot, the phase of a guest, the kind of a VM, and the stage of a ticket: the last
+-- for each number that isn't known
 abbrev pub stand_said : ℕ → Stand
-stand_said n = if n == 1 then reserved else if n == 2 then opened else if n == 3 then closing else vacant
+stand_said n =
+    if n == 1 then reserved else if n == 2 then opened else if n == 3 then closing else vacant
 
 abbrev pub phase_said : ℕ → Phase
 phase_said n = if n == 1 then live else if n == 2 then dying else empty
@@ -97,7 +125,12 @@ abbrev pub kind_said : ℕ → VmKind
 kind_said n = if n == 1 then Protected else Plain
 
 abbrev pub stage_said : ℕ → Stage
-stage_said n = if n == 0 then Booked else if n == 1 then Installed else if n == 2 then Closing else if n == 3 then Dying else Finished
+stage_said n =
+    if n == 0 then Booked
+    else if n == 1 then Installed
+    else if n == 2 then Closing
+    else if n == 3 then Dying
+    else Finished
 
 -- a slot, by its number
 abbrev pub slot_said : List PlainLoad → ℕ → PlainSlot → Slot
@@ -111,7 +144,13 @@ slot_said loads slot s = record {
 
 -- what a CPU has loaded, its hand and its ticket
 abbrev pub loaded_said : PlainCpu → Option Loaded
-loaded_said k = if k.has_vcpu == 0 then None else Some (record { vm = record { slot = k.vcpu_slot; generation = k.vcpu_generation }; vcpu = k.vcpu })
+loaded_said k =
+    if k.has_vcpu == 0 then None
+    else Some
+    (record {
+      vm = record { slot = k.vcpu_slot; generation = k.vcpu_generation };
+      vcpu = k.vcpu;
+    })
 
 abbrev pub hand_said : PlainCpu → Option PageRange
 hand_said k = if k.has_hand == 0 then None else Some (range_said k.hand_first k.hand_count)
@@ -119,7 +158,12 @@ hand_said k = if k.has_hand == 0 then None else Some (range_said k.hand_first k.
 abbrev pub ticket_said : PlainCpu → Option Ticket
 ticket_said k =
     if k.has_ticket == 0 then None
-    else Some (record { vm = record { slot = k.ticket_slot; generation = k.ticket_generation }; kind = kind_said k.ticket_kind; stage = stage_said k.ticket_stage })
+    else Some
+    (record {
+      vm = record { slot = k.ticket_slot; generation = k.ticket_generation };
+      kind = kind_said k.ticket_kind;
+      stage = stage_said k.ticket_stage;
+    })
 
 abbrev pub cpu_said : PlainCpu → Cpu
 cpu_said k = record { loaded = loaded_said k; hand = hand_said k; ticket = ticket_said k }

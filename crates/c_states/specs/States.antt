@@ -29,7 +29,8 @@ pub record Lists : Type 0 where
 
 -- the tree of a number: 0 the host's, 1 the hypervisor's, 2 + v the guest's in slot v
 abbrev pub tree_said : Lists → ℕ → Tree
-tree_said p tree = record { map = map_of (runs_said p.runs tree); table = table_of (tables_said p.tables tree) }
+tree_said p tree =
+    record { map = map_of (runs_said p.runs tree); table = table_of (tables_said p.tables tree) }
 
 -- a guest, by its slot
 abbrev pub guest_said : Lists → ℕ → PlainGuest → Guest
@@ -44,8 +45,18 @@ guest_said p slot g = record {
 -- all contents: 64 slots and guests, and pool 1, which is the shared one
 abbrev pub contents_said : Lists → Contents
 contents_said p = record {
-  vms = record { slot = λ v. if nat_lt v 64 then slot_said p.loads v (slot_listed p.slots v) else no_slot 1 };
-  shared = record { host = tree_said p 0; hyp = tree_said p 1; free = in_order (frames_said p.frames 1); row = row_in (rows_said p.rows) };
+  vms =
+      record {
+        slot = λ v. if nat_lt v 64 then slot_said p.loads v (slot_listed p.slots v)
+            else no_slot 1;
+      };
+  shared =
+      record {
+        host = tree_said p 0;
+        hyp = tree_said p 1;
+        free = in_order (frames_said p.frames 1);
+        row = row_in (rows_said p.rows);
+      };
   guest = λ v. if nat_lt v 64 then guest_said p v (guest_listed p.guests v) else no_guest;
   cpu = λ c. cpu_said (cpu_listed p.cpus c);
 }

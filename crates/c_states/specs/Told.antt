@@ -20,19 +20,37 @@ use Rattle.c_states.specs.States.{Lists}
 
 -- the lists
 abbrev pub lists_owned : PlainLists → Lists
-lists_owned p = record { runs = p.runs.items; tables = p.tables.items; frames = p.frames.items; slots = p.slots.items; loads = p.loads.items; guests = p.guests.items; cpus = p.cpus.items; rows = p.rows.items }
+lists_owned p =
+    record {
+      runs = p.runs.items;
+      tables = p.tables.items;
+      frames = p.frames.items;
+      slots =
+          p.slots.items;
+      loads =
+          p.loads.items;
+      guests = p.guests.items;
+      cpus = p.cpus.items;
+      rows = p.rows.items;
+    }
 
 -- members whose numbers are all known
 abbrev pub AreKnown : {X : Type 0} → (X → Bool) → List X → Type 0
 AreKnown known xs = All (λ x. IsTrue (known x)) xs
 
 -- each guest is given by the number of its tree, with what it has
-abbrev pub TellsGuests : {X : Type 0} → (ℕ → List X) → (GhostGuest → List X) → List GhostGuest → Type 0
+abbrev pub TellsGuests : {X : Type 0}
+    → (ℕ → List X)
+    → (GhostGuest → List X)
+    → List GhostGuest
+    → Type 0
 TellsGuests told has guests = (v : ℕ) → told (2 + v) ≡ get_or (map has guests) v []
 
 -- these loads are added: a vCPU's loader is the first that is given for it
 abbrev pub AreLoadsAdded : List PlainLoad → List PlainLoad → (ℕ → ℕ → Option ℕ) → Type 0
-AreLoadsAdded old new loader = (slot vcpu : ℕ) → loader_said new slot vcpu ≡ option_or (loader_said old slot vcpu) (loader slot vcpu)
+AreLoadsAdded old new loader =
+    (slot vcpu : ℕ)
+    → loader_said new slot vcpu ≡ option_or (loader_said old slot vcpu) (loader slot vcpu)
 
 -- loads, whatever the numbers of their vCPUs
 abbrev pub AreLoads : List PlainLoad → Type 0
@@ -42,8 +60,8 @@ AreLoads xs = All (λ l. l.slot < 64) xs
 abbrev pub is_cpu_told : ℕ → PlainCpu → Bool
 is_cpu_told cpus k = nat_lt k.cpu cpus && has_known_ticket k
 
--- given lists have known numbers, but for those of vCPUs, and no slot, guest or CPU is there twice. A vCPU may be past the
--- eighth where its slot has more than 8
+-- given lists have known numbers, but for those of vCPUs, and no slot, guest or CPU is there twice.
+-- A vCPU may be past the eighth where its slot has more than 8
 pub record AreTold (cpus : ℕ) (p : Lists) : Type 0 where
   pub runs : AreKnown is_run p.runs
   pub tables : AreKnown is_table p.tables
@@ -57,7 +75,11 @@ pub record AreTold (cpus : ℕ) (p : Lists) : Type 0 where
 
 -- contents whose pools are in order, as those are that lists say
 abbrev pub in_pool_order : Contents → Contents
-in_pool_order x = record x { shared = record x.shared { free = in_order x.shared.free }; guest = λ v. ordered (x.guest v) }
+in_pool_order x =
+    record x {
+      shared = record x.shared { free = in_order x.shared.free };
+      guest = λ v. ordered (x.guest v);
+    }
 
 -- a slot but for its loaded vCPUs
 pub record SlotHead : Type 0 where
@@ -67,10 +89,17 @@ pub record SlotHead : Type 0 where
   pub vcpus : ℕ
 
 abbrev pub slot_head_in : GhostSlot → SlotHead
-slot_head_in s = record { stand = stand_in s.stand; generation = s.generation; kind = s.kind; vcpus = s.vcpus }
+slot_head_in s =
+    record { stand = stand_in s.stand; generation = s.generation; kind = s.kind; vcpus = s.vcpus }
 
 abbrev pub slot_head_said : PlainSlot → SlotHead
-slot_head_said s = record { stand = stand_said s.stand; generation = s.generation; kind = kind_said s.kind; vcpus = s.vcpus }
+slot_head_said s =
+    record {
+      stand = stand_said s.stand;
+      generation = s.generation;
+      kind = kind_said s.kind;
+      vcpus = s.vcpus;
+    }
 
 -- a guest but for its tree and its pool
 pub record GuestHead : Type 0 where
@@ -82,4 +111,5 @@ abbrev pub guest_head_in : GhostGuest → GuestHead
 guest_head_in g = record { phase = phase_in g.phase; generation = g.generation; kind = g.kind }
 
 abbrev pub guest_head_said : PlainGuest → GuestHead
-guest_head_said g = record { phase = phase_said g.phase; generation = g.generation; kind = kind_said g.kind }
+guest_head_said g =
+    record { phase = phase_said g.phase; generation = g.generation; kind = kind_said g.kind }

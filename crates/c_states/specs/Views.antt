@@ -3,4 +3,14 @@ use Rattle.c_states.specs.declared.state.PlainState.{PlainState}
 use Rattle.c_states.specs.States.{Lists}
 
 abbrev pub lists_told : PlainState → Lists
-lists_told s = record { runs = s.runs.now; tables = s.tables.now; frames = s.frames.now; slots = s.slots.now; loads = s.loads.now; guests = s.guests.now; cpus = s.cpus.now; rows = s.rows.now }
+lists_told s =
+    record {
+      runs = s.runs.now;
+      tables = s.tables.now;
+      frames = s.frames.now;
+      slots = s.slots.now;
+      loads = s.loads.now;
+      guests = s.guests.now;
+      cpus = s.cpus.now;
+      rows = s.rows.now;
+    }

@@ -92,8 +92,12 @@ pub fn judged(
     call: &PlainCall,
     after: &PlainState<'_>,
 ) -> Result<Option<Disagreement>, Unjudged>
-    ensures judged { IfOk result (IsJudged layout.now layout.now.regions.now (lists_told before.now) call.now (lists_told after.now)) }
-    ensures unjudged { IfErr result (IsUnjudged layout.now layout.now.regions.now (lists_told before.now) call.now (lists_told after.now)) }
+    ensures judged { IfOk result
+        (IsJudged layout.now layout.now.regions.now (lists_told before.now) call.now
+        (lists_told after.now)) }
+    ensures unjudged { IfErr result
+        (IsUnjudged layout.now layout.now.regions.now (lists_told before.now) call.now
+        (lists_told after.now)) }
 {
     let Some(step) = step_of(call.step) else {
         return Err(Unjudged::Step);
@@ -128,8 +132,14 @@ fn judged_from(
 ) -> Result<Option<Disagreement>, Unjudged>
     requires cpu { cpu < pre.layout.config.cpus }
     requires generation { HasNextGeneration ((contents_in pre).cpu cpu).ticket step }
-    ensures none { IfOk result (λ o. (o ≡ None) ↔ JudgeAgrees (contents_in pre) step reply (contents_said (lists_told after.now)) (told_of pre cpu step)) }
-    ensures first { IfOk result (λ o. IfSome o (IsFirstJudged (contents_in pre) step reply (contents_said (lists_told after.now)) (told_of pre cpu step))) }
+    ensures none { IfOk result
+        (λ o. (o ≡ None)
+        ↔ JudgeAgrees (contents_in pre) step reply (contents_said (lists_told after.now))
+        (told_of pre cpu step)) }
+    ensures first { IfOk result
+        (λ o. IfSome o
+        (IsFirstJudged (contents_in pre) step reply (contents_said (lists_told after.now))
+        (told_of pre cpu step))) }
     ensures taken { OnOk result (AreTaken layout.now.cpus (lists_told after.now)) }
     ensures unjudged { IfErr result (IsUnjudgedAfter layout.now layout.now.regions.now (lists_told after.now)) }
 {
@@ -189,7 +199,9 @@ pub fn foretold_state(
     cpu: u64,
     step: PlainStep,
 ) -> Result<Predicted, Unjudged>
-    ensures told { IfOk result (λ f. IsForetoldState layout.now layout.now.regions.now (lists_told before.now) cpu step f.reply (lists_owned f.after)) }
+    ensures told { IfOk result
+        (λ f. IsForetoldState layout.now layout.now.regions.now
+        (lists_told before.now) cpu step f.reply (lists_owned f.after)) }
     ensures untold { IfErr result (IsUntold layout.now layout.now.regions.now (lists_told before.now) cpu step) }
 {
     let Some(step) = step_of(step) else {
@@ -215,7 +227,9 @@ fn state_after(alloc: Global, pre: Ghost, cpu: u64, step: Step) -> Result<Predic
     requires cpu { cpu < pre.layout.config.cpus }
     requires generation { HasNextGeneration ((contents_in pre).cpu cpu).ticket step }
     ensures reply { IfOk result (λ f. f.reply ≡ reply_written (told_of pre cpu step).0) }
-    ensures after { IfOk result (λ f. contents_said (lists_owned f.after) ≡ in_pool_order (told_of pre cpu step).1.contents) }
+    ensures after { IfOk result
+        (λ f. contents_said (lists_owned f.after)
+        ≡ in_pool_order (told_of pre cpu step).1.contents) }
     ensures lists { IfOk result (λ f. AreTold pre.layout.config.cpus (lists_owned f.after)) }
     ensures untold { IfErr result (λ why. why ≡ Unjudged.NoMemory) }
 {

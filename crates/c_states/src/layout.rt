@@ -84,7 +84,9 @@ fn regions_of(alloc: Global, regions: &[PlainRegion]) -> Result<Vec<Region>, All
 /// The memory of these numbers.
 fn memory_of(alloc: Global, layout: &PlainLayout<'_>) -> Result<MemoryMap, PlainLayoutFault>
     ensures memory { IfOk result (λ m. m ≡ memory_said layout.now layout.now.regions.now) }
-    ensures fault { (f : LayoutFault) → result ≡ Err (PlainLayoutFault.Memory f) → IsFirstFault f (memory_said layout.now layout.now.regions.now) }
+    ensures fault { (f : LayoutFault)
+        → result ≡ Err (PlainLayoutFault.Memory f)
+        → IsFirstFault f (memory_said layout.now layout.now.regions.now) }
     ensures accepted { OnOk result (IsAccepted (memory_said layout.now layout.now.regions.now)) }
     ensures geometry { result ≢ Err PlainLayoutFault.Geometry }
 {
@@ -102,7 +104,9 @@ fn memory_of(alloc: Global, layout: &PlainLayout<'_>) -> Result<MemoryMap, Plain
 /// The layout of these numbers, where its memory is accepted. Each log has room for one call.
 pub fn layout_of(alloc: Global, layout: &PlainLayout<'_>) -> Result<Layout, PlainLayoutFault>
     ensures layout { IfOk result (λ l. layout_of_code l ≡ layout_said layout.now layout.now.regions.now) }
-    ensures config { IfOk result (λ l. l.config ≡ record { cpus = layout.now.cpus; log = 1; geometry = layout.now.address_bits }) }
+    ensures config { IfOk result
+        (λ l. l.config
+        ≡ record { cpus = layout.now.cpus; log = 1; geometry = layout.now.address_bits }) }
     ensures geometry { (result ≡ Err PlainLayoutFault.Geometry) ↔ (geometry_of layout.now.address_bits ≡ None) }
     ensures taken { OnOk result (IsTakenLayout layout.now layout.now.regions.now) }
     ensures fault { IfErr result (IsLayoutFault layout.now layout.now.regions.now) }

@@ -204,7 +204,10 @@ fn loader_of(loads: &[PlainLoad], slot: u64, vcpu: u64) -> Option<u64>
 
 /// The CPUs that have the vCPUs of a slot loaded, by vCPU.
 fn loaders_of(alloc: Global, loads: &[PlainLoad], slot: u64) -> Result<Vec<Option<u64>>, AllocError>
-    ensures { IfOk result (λ v. (i : ℕ) → get_or v.items i None ≡ (if nat_lt i 8 then loader_said loads.now slot i else None)) }
+    ensures { IfOk result
+        (λ v. (i : ℕ)
+        → get_or v.items i None
+        ≡ (if nat_lt i 8 then loader_said loads.now slot i else None)) }
 {
     let mut loaders = Vec::new(alloc);
     for vcpu in 0..VCPUS {
@@ -359,7 +362,9 @@ pub(crate) fn cpus_of(
     cpus: &[PlainCpu],
     count: u64,
 ) -> Result<Vec<GhostCpu>, AllocError>
-    ensures { IfOk result (λ v. map cpu_in v.items ≡ map (λ c. cpu_said (cpu_listed cpus.now c)) (range_with_len 0 count)) }
+    ensures { IfOk result
+        (λ v. map cpu_in v.items
+        ≡ map (λ c. cpu_said (cpu_listed cpus.now c)) (range_with_len 0 count)) }
 {
     let mut made = Vec::new(alloc);
     for number in 0..count {

@@ -112,7 +112,10 @@ fn slots_of(
     loads: &[PlainLoad],
     slots: &[PlainSlot],
 ) -> Result<Vec<GhostSlot>, AllocError>
-    ensures { IfOk result (λ v. map slot_in v.items ≡ map (λ n. slot_filled loads.now n (slot_listed slots.now n)) (range_with_len 0 64)) }
+    ensures { IfOk result
+        (λ v. map slot_in v.items
+        ≡ map (λ n. slot_filled loads.now n (slot_listed slots.now n))
+        (range_with_len 0 64)) }
 {
     let mut made = Vec::new(alloc);
     for number in 0..SLOTS {
@@ -285,7 +288,8 @@ fn unknown_later(state: &PlainState<'_>, cpus: u64) -> Option<(PlainList, usize)
 
 /// The first of two slots, guests or CPUs that have one number, in the order of the lists: the later one.
 fn twice(state: &PlainState<'_>) -> Option<(PlainList, usize)>
-    ensures { MatchOption result (AreOnce (lists_told state.now)) (λ t. IsTwice (lists_told state.now) t.0 t.1) }
+    ensures { MatchOption result (AreOnce (lists_told state.now))
+        (λ t. IsTwice (lists_told state.now) t.0 t.1) }
 {
     if let Some(at) = first_clash(state.slots) {
         return Some((PlainList::Slots, at));
@@ -324,7 +328,9 @@ fn tested(alloc: Global, lists: &GhostLists) -> Result<Ghost, GhostFault>
 
 /// The member that makes lists have a fault, where it is one of two that can't be there both.
 fn culprit(state: &PlainState<'_>, fault: GhostFault) -> Option<(PlainList, usize)>
-    ensures { (cpus : ℕ) → IsFirstOfLists cpus (lists_told state.now) fault → IsCulprit (lists_told state.now) fault result }
+    ensures { (cpus : ℕ)
+        → IsFirstOfLists cpus (lists_told state.now) fault
+        → IsCulprit (lists_told state.now) fault result }
 {
     match fault {
         GhostFault::Overlap => {
@@ -346,7 +352,9 @@ fn culprit(state: &PlainState<'_>, fault: GhostFault) -> Option<(PlainList, usiz
 /// A fault of lists, with the member that makes them have it.
 fn with_culprit(state: &PlainState<'_>, fault: GhostFault) -> PlainFault
     ensures memory { fault ≡ GhostFault.NoMemory → result ≡ PlainFault.NoMemory }
-    ensures fault { (cpus : ℕ) → IsFirstOfLists cpus (lists_told state.now) fault → IsListsFault cpus (lists_told state.now) result }
+    ensures fault { (cpus : ℕ)
+        → IsFirstOfLists cpus (lists_told state.now) fault
+        → IsListsFault cpus (lists_told state.now) result }
 {
     match fault {
         GhostFault::NoMemory => PlainFault::NoMemory,

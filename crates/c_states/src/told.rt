@@ -69,7 +69,10 @@ fn run_told(tree: u64, run: Run) -> PlainRun
 
 /// Adds the runs of a tree.
 fn tell_runs(told: &mut Vec<PlainRun>, tree: u64, runs: &[Run]) -> Result<(), AllocError>
-    ensures said { OnOk result ((t : ℕ) → runs_said told.new.items t ≡ runs_said told.old.items t ++ (if tree == t then runs.now else [])) }
+    ensures said { OnOk result
+        ((t : ℕ)
+        → runs_said told.new.items t
+        ≡ runs_said told.old.items t ++ (if tree == t then runs.now else [])) }
     ensures known { OnOk result (tree < 66 → AreKnown is_run told.old.items → AreKnown is_run told.new.items) }
 {
     for i in 0..runs.len() {
@@ -92,8 +95,12 @@ fn table_told(tree: u64, table: Table) -> PlainTable
 
 /// Adds the tables of a tree.
 fn tell_tables(told: &mut Vec<PlainTable>, tree: u64, tables: &[Table]) -> Result<(), AllocError>
-    ensures said { OnOk result ((t : ℕ) → tables_said told.new.items t ≡ tables_said told.old.items t ++ (if tree == t then tables.now else [])) }
-    ensures known { OnOk result (tree < 66 → AreKnown is_table told.old.items → AreKnown is_table told.new.items) }
+    ensures said { OnOk result
+        ((t : ℕ)
+        → tables_said told.new.items t
+        ≡ tables_said told.old.items t ++ (if tree == t then tables.now else [])) }
+    ensures known { OnOk result
+        (tree < 66 → AreKnown is_table told.old.items → AreKnown is_table told.new.items) }
 {
     for i in 0..tables.len() {
         told.push(table_told(tree, tables[i]))?;
@@ -110,8 +117,15 @@ fn frame_told(pool: u64, frame: u64) -> PlainFrame
 
 /// Adds the free frames of a pool.
 fn tell_frames(told: &mut Vec<PlainFrame>, pool: u64, frames: &[u64]) -> Result<(), AllocError>
-    ensures said { OnOk result ((t : ℕ) → frames_said told.new.items t ≡ frames_said told.old.items t ++ (if pool == t then frames.now else [])) }
-    ensures known { OnOk result (1 ≤ pool → pool < 66 → AreKnown is_frame told.old.items → AreKnown is_frame told.new.items) }
+    ensures said { OnOk result
+        ((t : ℕ)
+        → frames_said told.new.items t
+        ≡ frames_said told.old.items t ++ (if pool == t then frames.now else [])) }
+    ensures known { OnOk result
+        (1 ≤ pool
+        → pool < 66
+        → AreKnown is_frame told.old.items
+        → AreKnown is_frame told.new.items) }
 {
     for i in 0..frames.len() {
         told.push(frame_told(pool, frames[i]))?;
@@ -124,7 +138,9 @@ fn runs_told(alloc: Global, lists: &GhostLists) -> Result<Vec<PlainRun>, AllocEr
     requires { length lists.now.guests.items ≡ 64 }
     ensures host { IfOk result (λ v. runs_said v.items 0 ≡ lists.now.shared.host.runs.items) }
     ensures hyp { IfOk result (λ v. runs_said v.items 1 ≡ lists.now.shared.hyp.runs.items) }
-    ensures guests { IfOk result (λ v. TellsGuests (runs_said v.items) (λ (g : GhostGuest). g.tree.runs.items) lists.now.guests.items) }
+    ensures guests { IfOk result
+        (λ v. TellsGuests (runs_said v.items)
+        (λ (g : GhostGuest). g.tree.runs.items) lists.now.guests.items) }
     ensures known { IfOk result (λ v. AreKnown is_run v.items) }
 {
     let mut told = Vec::new(alloc);
@@ -145,7 +161,9 @@ fn tables_told(alloc: Global, lists: &GhostLists) -> Result<Vec<PlainTable>, All
     requires { length lists.now.guests.items ≡ 64 }
     ensures host { IfOk result (λ v. tables_said v.items 0 ≡ lists.now.shared.host.tables.items) }
     ensures hyp { IfOk result (λ v. tables_said v.items 1 ≡ lists.now.shared.hyp.tables.items) }
-    ensures guests { IfOk result (λ v. TellsGuests (tables_said v.items) (λ (g : GhostGuest). g.tree.tables.items) lists.now.guests.items) }
+    ensures guests { IfOk result
+        (λ v. TellsGuests (tables_said v.items)
+        (λ (g : GhostGuest). g.tree.tables.items) lists.now.guests.items) }
     ensures known { IfOk result (λ v. AreKnown is_table v.items) }
 {
     let mut told = Vec::new(alloc);
@@ -165,7 +183,9 @@ fn tables_told(alloc: Global, lists: &GhostLists) -> Result<Vec<PlainTable>, All
 fn frames_told(alloc: Global, lists: &GhostLists) -> Result<Vec<PlainFrame>, AllocError>
     requires { length lists.now.guests.items ≡ 64 }
     ensures shared { IfOk result (λ v. frames_said v.items 1 ≡ lists.now.shared.free.items) }
-    ensures guests { IfOk result (λ v. TellsGuests (frames_said v.items) (λ (g : GhostGuest). g.free.items) lists.now.guests.items) }
+    ensures guests { IfOk result
+        (λ v. TellsGuests (frames_said v.items)
+        (λ (g : GhostGuest). g.free.items) lists.now.guests.items) }
     ensures known { IfOk result (λ v. AreKnown is_frame v.items) }
 {
     let mut told = Vec::new(alloc);
@@ -247,7 +267,9 @@ fn slot_told(number: u64, slot: &GhostSlot) -> PlainSlot
 
 /// All slots, but for their loaded vCPUs.
 fn slots_told(alloc: Global, slots: &[GhostSlot]) -> Result<Vec<PlainSlot>, AllocError>
-    ensures numbers { IfOk result (λ v. map (λ (s : PlainSlot). s.slot) v.items ≡ map (λ n. n) (range_with_len 0 (length slots.now))) }
+    ensures numbers { IfOk result
+        (λ v. map (λ (s : PlainSlot). s.slot) v.items
+        ≡ map (λ n. n) (range_with_len 0 (length slots.now))) }
     ensures heads { IfOk result (λ v. map slot_head_said v.items ≡ map slot_head_in slots.now) }
     ensures known { IfOk result (λ v. length slots.now ≤ 64 → AreKnown is_slot v.items) }
 {
@@ -265,7 +287,9 @@ fn tell_load(
     vcpu: u64,
     cpu: Option<u64>,
 ) -> Result<(), AllocError>
-    ensures said { OnOk result (AreLoadsAdded told.old.items told.new.items (λ s k. if slot == s && vcpu == k then cpu else None)) }
+    ensures said { OnOk result
+        (AreLoadsAdded told.old.items told.new.items
+        (λ s k. if slot == s && vcpu == k then cpu else None)) }
     ensures known { OnOk result (slot < 64 → AreLoads told.old.items → AreLoads told.new.items) }
 {
     if let Some(cpu) = cpu {
@@ -280,7 +304,9 @@ fn tell_loads(
     slot: u64,
     loaded: &[Option<u64>],
 ) -> Result<(), AllocError>
-    ensures said { OnOk result (AreLoadsAdded told.old.items told.new.items (λ s k. if slot == s then get_or loaded.now k None else None)) }
+    ensures said { OnOk result
+        (AreLoadsAdded told.old.items told.new.items
+        (λ s k. if slot == s then get_or loaded.now k None else None)) }
     ensures known { OnOk result (slot < 64 → AreLoads told.old.items → AreLoads told.new.items) }
 {
     for i in 0..loaded.len() {
@@ -291,7 +317,11 @@ fn tell_loads(
 
 /// The loads of all slots.
 fn loads_told(alloc: Global, slots: &[GhostSlot]) -> Result<Vec<PlainLoad>, AllocError>
-    ensures said { IfOk result (λ v. (s k : ℕ) → loader_said v.items s k ≡ get_or (get_or (map (λ (x : GhostSlot). x.loaded.items) slots.now) s []) k None) }
+    ensures said { IfOk result
+        (λ v. (s k : ℕ)
+        → loader_said v.items s k
+        ≡ get_or
+        (get_or (map (λ (x : GhostSlot). x.loaded.items) slots.now) s []) k None) }
     ensures known { IfOk result (λ v. length slots.now ≤ 64 → AreLoads v.items) }
 {
     let mut told = Vec::new(alloc);
@@ -317,7 +347,9 @@ fn guest_told(slot: u64, guest: &GhostGuest) -> PlainGuest
 
 /// All guests, but for their trees and pools.
 fn guests_told(alloc: Global, guests: &[GhostGuest]) -> Result<Vec<PlainGuest>, AllocError>
-    ensures numbers { IfOk result (λ v. map (λ (g : PlainGuest). g.slot) v.items ≡ map (λ n. n) (range_with_len 0 (length guests.now))) }
+    ensures numbers { IfOk result
+        (λ v. map (λ (g : PlainGuest). g.slot) v.items
+        ≡ map (λ n. n) (range_with_len 0 (length guests.now))) }
     ensures heads { IfOk result (λ v. map guest_head_said v.items ≡ map guest_head_in guests.now) }
     ensures known { IfOk result (λ v. length guests.now ≤ 64 → AreKnown is_guest v.items) }
 {
@@ -428,7 +460,9 @@ fn cpu_told(number: u64, cpu: GhostCpu) -> PlainCpu
 
 /// All CPUs' own states.
 fn cpus_told(alloc: Global, cpus: &[GhostCpu]) -> Result<Vec<PlainCpu>, AllocError>
-    ensures numbers { IfOk result (λ v. map (λ (k : PlainCpu). k.cpu) v.items ≡ map (λ n. n) (range_with_len 0 (length cpus.now))) }
+    ensures numbers { IfOk result
+        (λ v. map (λ (k : PlainCpu). k.cpu) v.items
+        ≡ map (λ n. n) (range_with_len 0 (length cpus.now))) }
     ensures said { IfOk result (λ v. map cpu_said v.items ≡ map cpu_in cpus.now) }
     ensures known { IfOk result (λ v. AreKnown (is_cpu_told (length cpus.now)) v.items) }
 {

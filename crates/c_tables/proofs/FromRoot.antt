@@ -48,9 +48,14 @@ low_frames (Annotated owner) n h = tt
 low_frames (Leaf frame prot kind state) n h = h
 
 small_runs : (rs : List (Run Target)) → IsKept advance_target HasFrameBelow rs → AreSmall (target_runs rs)
-small_runs rs k = All-weaker IsInReach IsSmall (λ r h. (h.0, low_frames r.target r.pages.count h.1)) (target_runs rs) (reach_targets rs k.in_reach)
+small_runs rs k =
+    All-weaker IsInReach IsSmall (λ r h. (h.0, low_frames r.target r.pages.count h.1)) (target_runs rs)
+    (reach_targets rs k.in_reach)
 
-pub kept_tree : (t : Tree) (rs : List (Run Target)) → t.runs.items ≡ target_runs rs → IsKept advance_target HasFrameBelow rs → IsKeptTree t
+pub kept_tree : (t : Tree) (rs : List (Run Target))
+    → t.runs.items ≡ target_runs rs
+    → IsKept advance_target HasFrameBelow rs
+    → IsKeptTree t
 kept_tree t rs e k = record {
   small = subst AreSmall (sym e) (small_runs rs k);
   coarsest = subst IsCoarsest (sym e) (coarsest_targets rs k.coarsest);
@@ -60,32 +65,62 @@ abbrev tree_with : Map → (Block → Option ℕ) → ReferenceTree
 tree_with m f = record { map = m; table = f }
 
 module _ (g : Geometry) (pages : List PlainPage) (root : PlainPage) where
-  from_page : (m old : Map) → m ≡ laid 0 (input_pages g) (entry_by pages (levels_below g) root) old → old ≡ (λ p. Unmapped) → (p : ℕ) → m p ≡ map_by_frames g pages root p
+  from_page : (m old : Map)
+      → m ≡ laid 0 (input_pages g) (entry_by pages (levels_below g) root) old
+      → old ≡ (λ p. Unmapped)
+      → (p : ℕ)
+      → m p ≡ map_by_frames g pages root p
   unfolding map_by_frames
   from_page m old e none p =
       let at : m p ≡ laid 0 (input_pages g) (entry_by pages (levels_below g) root) old p = ap (λ n. n p) e in
       by_lt p (input_pages g)
-      (λ l. at ∙ if-true (is_within 0 (input_pages g) p) (entry_by pages (levels_below g) root p) (old p) (inside (input_pages g) p l)
-      ∙ sym (if-true (nat_lt p (input_pages g)) (entry_by pages (levels_below g) root p) Unmapped (less_test p (input_pages g) l)))
-      (λ l. at ∙ if-false (is_within 0 (input_pages g) p) (entry_by pages (levels_below g) root p) (old p) (outside (input_pages g) p l) ∙ ap (λ n. n p) none
-      ∙ sym (if-false (nat_lt p (input_pages g)) (entry_by pages (levels_below g) root p) Unmapped (more_test p (input_pages g) l)))
+      (λ l. at
+      ∙ if-true (is_within 0 (input_pages g) p) (entry_by pages (levels_below g) root p) (old p)
+      (inside (input_pages g) p l)
+      ∙ sym
+      (if-true (nat_lt p (input_pages g)) (entry_by pages (levels_below g) root p) Unmapped
+      (less_test p (input_pages g) l)))
+      (λ l. at
+      ∙ if-false (is_within 0 (input_pages g) p) (entry_by pages (levels_below g) root p) (old p)
+      (outside (input_pages g) p l)
+      ∙ ap (λ n. n p) none
+      ∙ sym
+      (if-false (nat_lt p (input_pages g)) (entry_by pages (levels_below g) root p) Unmapped
+      (more_test p (input_pages g) l)))
 
-  from_root : (m : Map) (d : ℕ) (old : List (Run Target)) → d ≡ levels_below g → old ≡ [] → m ≡ laid (0 * block_pages (d + 1)) (block_pages (d + 1)) (entry_by pages d root) (target_map old) → m ≡ map_by_frames g pages root
+  from_root : (m : Map) (d : ℕ) (old : List (Run Target))
+      → d ≡ levels_below g
+      → old ≡ []
+      → m ≡ laid (0 * block_pages (d + 1)) (block_pages (d + 1)) (entry_by pages d root) (target_map old)
+      → m ≡ map_by_frames g pages root
   from_root m d old e none h =
       let start : 0 * block_pages (levels_below g + 1) ≡ 0 = omega arith in
-      let so : m ≡ laid (0 * block_pages (levels_below g + 1)) (input_pages g) (entry_by pages (levels_below g) root) (target_map old) = subst (λ x. m ≡ laid (0 * block_pages (x + 1)) (block_pages (x + 1)) (entry_by pages x root) (target_map old)) e h in
-      fun_ext (from_page m (target_map old) (so ∙ ap (λ k. laid k (input_pages g) (entry_by pages (levels_below g) root) (target_map old)) start) (ap target_map none))
+      let so : m ≡ laid (0 * block_pages (levels_below g + 1)) (input_pages g) (entry_by pages (levels_below g) root) (target_map old) =
+      subst
+      (λ x. m
+      ≡ laid (0 * block_pages (x + 1)) (block_pages (x + 1)) (entry_by pages x root) (target_map old)) e h
+      in
+      fun_ext
+      (from_page m (target_map old)
+      (so ∙ ap (λ k. laid k (input_pages g) (entry_by pages (levels_below g) root) (target_map old)) start)
+      (ap target_map none))
 
   same_tree : (m n : Map) (f h : Block → Option ℕ) → m ≡ n → f ≡ h → tree_with m f ≡ tree_with n h
   same_tree m n f h e k = rw (e, k) refl
 
-  pub found_tree : (tree d : ℕ) (t : Tree) (old rs : List (Run Target)) (met₀ met : List Reached) (start : ℕ) → d ≡ levels_below g → old ≡ [] → start ≡ length met₀
+  pub found_tree : (tree d : ℕ) (t : Tree) (old rs : List (Run Target)) (met₀ met : List Reached) (start : ℕ)
+      → d ≡ levels_below g
+      → old ≡ []
+      → start ≡ length met₀
       → target_map rs ≡ laid (0 * block_pages (d + 1)) (block_pages (d + 1)) (entry_by pages d root) (target_map old)
       → met ≡ met₀ ++ tables_under pages tree d 0 root
       → t.runs.items ≡ target_runs rs → t.tables.items ≡ map (λ r. r.table) (drop start met)
       → tree_in_lists t ≡ tree_by_frames g pages tree root
   found_tree tree d t old rs met₀ met start e none at m f r s =
-      let rest : drop start met ≡ tables_under pages tree (levels_below g) 0 root = ap (λ k. drop k met) at ∙ front_rest met met₀ (tables_under pages tree d 0 root) f ∙ ap (λ k. tables_under pages tree k 0 root) e in
-      same_tree (map_of t.runs.items) (map_by_frames g pages root) (table_of t.tables.items) (table_of (map (λ r. r.table) (tables_under pages tree (levels_below g) 0 root)))
+      let rest : drop start met ≡ tables_under pages tree (levels_below g) 0 root =
+      ap (λ k. drop k met) at ∙ front_rest met met₀ (tables_under pages tree d 0 root) f
+      ∙ ap (λ k. tables_under pages tree k 0 root) e in
+      same_tree (map_of t.runs.items) (map_by_frames g pages root) (table_of t.tables.items)
+      (table_of (map (λ r. r.table) (tables_under pages tree (levels_below g) 0 root)))
       (ap map_of r ∙ from_root (target_map rs) d old e none m)
       (ap table_of (s ∙ ap (map (λ x. x.table)) rest))

@@ -21,7 +21,8 @@ pub none_met : (met : List Reached) (f : ℕ) → reached_of met f ≡ None → 
 none_met [] f e = All-nil (λ r. IsOfFrame f r → ⊥)
 none_met (r ∷ rs) f e = by_test (r.table.frame == f)
     (λ t. let no : Some r ≡ None = sym (ap (λ b. cond b (Some r) (reached_of rs f)) t) ∙ e in absurd (cc))
-    (λ t. All-cons (λ r. IsOfFrame f r → ⊥) r rs (other r.table.frame f t) (none_met rs f (sym (ap (λ b. cond b (Some r) (reached_of rs f)) t) ∙ e)))
+    (λ t. All-cons (λ r. IsOfFrame f r → ⊥) r rs (other r.table.frame f t)
+    (none_met rs f (sym (ap (λ b. cond b (Some r) (reached_of rs f)) t) ∙ e)))
 
 pub some_met : (met : List Reached) (f : ℕ) (x : Reached) → reached_of met f ≡ Some x → Contains met x × IsOfFrame f x
 some_met [] f x e = absurd (cc)
@@ -36,7 +37,11 @@ some_met (r ∷ rs) f x e = by_test (r.table.frame == f)
     ((suc more.0.0, omega (arith, less), more.0.2), more.1))
 
 -- one more of another frame
-pub apart_more : (met new : List Reached) (r : Reached) → AllPairs AreOtherFrames met → All (λ x. IsOfFrame r.table.frame x → ⊥) met → new ≡ met ++ r ∷ [] → AllPairs AreOtherFrames new
+pub apart_more : (met new : List Reached) (r : Reached)
+    → AllPairs AreOtherFrames met
+    → All (λ x. IsOfFrame r.table.frame x → ⊥) met
+    → new ≡ met ++ r ∷ []
+    → AllPairs AreOtherFrames new
 apart_more met new r h a e = rw e (all_pairs_push AreOtherFrames met r h (λ k d l. a k d l))
 
 -- a walk that goes on has the reason of its beginning
@@ -51,7 +56,10 @@ stopped_on xs ys zs (Again first second) e h = record {
 }
 stopped_on xs ys zs NoMemory e h = tt
 
-pub again : (met : List Reached) (next first : Reached) → AllPairs AreOtherFrames met → reached_of met next.table.frame ≡ Some first → IsAgain (met ++ next ∷ []) first next
+pub again : (met : List Reached) (next first : Reached)
+    → AllPairs AreOtherFrames met
+    → reached_of met next.table.frame ≡ Some first
+    → IsAgain (met ++ next ∷ []) first next
 again met next first apart e = let found = some_met met next.table.frame first e in record {
   front = met;
   back = [];

@@ -26,18 +26,30 @@ pub record IsPushed (range : PageRange) (value : Option Target) (old new : List 
   pub kept : IsKept advance_target HasFrameBelow new
   pub behind : EndBefore (range.first.0 + range.count + 1) new
 
-module _ (range : PageRange) (value : Option Target) (old new : List (Run Target)) (low : range.first.0 + range.count ≤ 2 ^ 63) (some : 0 < range.count) (small : ForSome value (λ v. HasFrameBelow v range.count)) (kept : IsKept advance_target HasFrameBelow old) (behind : EndBefore (range.first.0 + 1) old) where
+module _ (range : PageRange) (value : Option Target) (old new : List (Run Target))
+    (low : range.first.0 + range.count ≤ 2 ^ 63) (some : 0 < range.count)
+    (small : ForSome value (λ v. HasFrameBelow v range.count)) (kept : IsKept advance_target HasFrameBelow old)
+    (behind : EndBefore (range.first.0 + 1) old) where
   pub pushed : new ≡ glue advance_target target_eq old (one_run (run_of range value)) → IsPushed range value old new
   pushed same =
       let end = range.first.0 + range.count + 1 in
-      let edited = same ∙ behind_edited advance_target HasFrameBelow target_eq target_laws range value old kept.coarsest behind in
+      let edited =
+      same
+      ∙ behind_edited advance_target HasFrameBelow target_eq target_laws range value old kept.coarsest behind in
       record {
-        map = update_targets old new range.first.0 range.count value (ap (run_map advance_target) edited ∙ changed_map advance_target HasFrameBelow target_eq target_laws range value old kept some);
+        map =
+            update_targets old new range.first.0 range.count value
+            (ap (run_map advance_target) edited
+            ∙ changed_map advance_target HasFrameBelow target_eq target_laws range value old kept some);
         kept = rw edited (record {
           coarsest = changed_coarsest advance_target HasFrameBelow target_eq target_laws range value old kept some;
-          in_reach = changed_reach advance_target HasFrameBelow target_eq target_laws range value old kept some low small;
+          in_reach =
+              changed_reach advance_target HasFrameBelow target_eq target_laws range value old kept some low small;
         });
-        behind = rw same (glue_ends advance_target HasFrameBelow target_eq target_laws end old _ (ends_later (range.first.0 + 1) end old (omega arith) behind) (run_of_ends range value));
+        behind =
+            rw same
+            (glue_ends advance_target HasFrameBelow target_eq target_laws end old _
+            (ends_later (range.first.0 + 1) end old (omega arith) behind) (run_of_ends range value));
       }
 
 by_entry : (e : Entry) (n : ℕ) → HasSmallFrame e → n ≤ 2 ^ 36 → IfSome (target_of e) (λ v. HasFrameBelow v n)

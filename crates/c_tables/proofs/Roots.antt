@@ -20,20 +20,30 @@ use Rattle.c_tables.specs.Reached.{AreOtherFrames, IsStopped}
 use Rattle.c_tables.proofs.MetTables.{stopped_on}
 use Rattle.c_tables.proofs.Slots.{found_in}
 
-pub root_whole : (pages : List PlainPage) (roots : List PlainRoot) (tree : ℕ) (root : PlainPage) → root_of pages roots tree ≡ Some root → All IsWhole pages → IsWhole root
+pub root_whole : (pages : List PlainPage) (roots : List PlainRoot) (tree : ℕ) (root : PlainPage)
+    → root_of pages roots tree ≡ Some root
+    → All IsWhole pages
+    → IsWhole root
 root_whole pages roots tree root e h = by_root (root_in roots tree) e
   where
     by_root : (o : Option PlainRoot) → option_and_then (λ r. page_of pages r.frame) o ≡ Some root → IsWhole root
     by_root None e = absurd (cc)
     by_root (Some r) e = found_in IsWhole _ pages root e h
 
-more_trees : {A B : Type 0} (f : A → B) (P : ℕ → B) (xs : List A) (x : A) (d : B) (t : ℕ) → length xs ≡ t → ((k : ℕ) → k < t → get_or (map f xs) k d ≡ P k) → f x ≡ P t → (k : ℕ) → k < t + 1 → get_or (map f (xs ++ x ∷ [])) k d ≡ P k
+more_trees : {A B : Type 0} (f : A → B) (P : ℕ → B) (xs : List A) (x : A) (d : B) (t : ℕ)
+    → length xs ≡ t
+    → ((k : ℕ) → k < t → get_or (map f xs) k d ≡ P k)
+    → f x ≡ P t
+    → (k : ℕ)
+    → k < t + 1
+    → get_or (map f (xs ++ x ∷ [])) k d ≡ P k
 more_trees f P [] x d t n h e zero l = let at : t ≡ 0 = omega (arith, n) in e ∙ ap P at
 more_trees f P [] x d t n h e (suc k) l = absurd (omega (arith, n, l))
 more_trees f P (y ∷ ys) x d t n h e zero l = h 0 (omega (arith, n))
 more_trees f P (y ∷ ys) x d t n h e (suc k) l =
     let back : suc (t - 1) ≡ t = omega (arith, n) in
-    more_trees f (λ j. P (suc j)) ys x d (t - 1) (omega (arith, n)) (λ j less. h (suc j) (omega (arith, less))) (e ∙ ap P (sym back)) k (omega (arith, l, back))
+    more_trees f (λ j. P (suc j)) ys x d (t - 1) (omega (arith, n)) (λ j less. h (suc j) (omega (arith, less)))
+    (e ∙ ap P (sym back)) k (omega (arith, l, back))
 
 module _ (g : Geometry) (pages : List PlainPage) (roots : List PlainRoot) where
   -- the trees below a number were walked
@@ -45,7 +55,10 @@ module _ (g : Geometry) (pages : List PlainPage) (roots : List PlainRoot) where
     pub kept : All IsKeptTree trees
     pub trees_are : (k : ℕ) → k < t → get_or (map tree_in_lists trees) k no_tree ≡ tree_of g pages roots k
 
-  next_tables : (t : ℕ) → t < 66 → tables_from g pages roots (66 - t) t ≡ tables_of g pages roots t ++ tables_from g pages roots (66 - (t + 1)) (t + 1)
+  next_tables : (t : ℕ)
+      → t < 66
+      → tables_from g pages roots (66 - t) t
+      ≡ tables_of g pages roots t ++ tables_from g pages roots (66 - (t + 1)) (t + 1)
   unfolding tables_from
   next_tables t l = let e : 66 - t ≡ suc (66 - (t + 1)) = omega (arith, l) in ap (λ k. tables_from g pages roots k t) e
 
@@ -54,10 +67,21 @@ module _ (g : Geometry) (pages : List PlainPage) (roots : List PlainRoot) where
   no_tables t = refl
 
   module _ (t : ℕ) (met : List Reached) (trees : List Tree) (x : AreFound t met trees) where
-    more_met : t < 66 → all_tables g pages roots ≡ (met ++ tables_of g pages roots t) ++ tables_from g pages roots (66 - (t + 1)) (t + 1)
-    more_met l = x.met_is ∙ ap (λ us. met ++ us) (next_tables t l) ∙ sym (append_assoc met (tables_of g pages roots t) (tables_from g pages roots (66 - (t + 1)) (t + 1)))
+    more_met : t < 66
+        → all_tables g pages roots
+        ≡ (met ++ tables_of g pages roots t) ++ tables_from g pages roots (66 - (t + 1)) (t + 1)
+    more_met l =
+        x.met_is ∙ ap (λ us. met ++ us) (next_tables t l)
+        ∙ sym (append_assoc met (tables_of g pages roots t) (tables_from g pages roots (66 - (t + 1)) (t + 1)))
 
-    pub more_found : (met' : List Reached) (trees' : List Tree) (found : Tree) → t < 66 → met' ≡ met ++ tables_of g pages roots t → AllPairs AreOtherFrames met' → trees' ≡ trees ++ found ∷ [] → tree_in_lists found ≡ tree_of g pages roots t → IsKeptTree found → AreFound (t + 1) met' trees'
+    pub more_found : (met' : List Reached) (trees' : List Tree) (found : Tree)
+        → t < 66
+        → met' ≡ met ++ tables_of g pages roots t
+        → AllPairs AreOtherFrames met'
+        → trees' ≡ trees ++ found ∷ []
+        → tree_in_lists found ≡ tree_of g pages roots t
+        → IsKeptTree found
+        → AreFound (t + 1) met' trees'
     more_found met' trees' found l e apart f is kept = record {
       within = omega (arith, l);
       met_is = more_met l ∙ ap (λ us. us ++ tables_from g pages roots (66 - (t + 1)) (t + 1)) (sym e);
@@ -67,19 +91,28 @@ module _ (g : Geometry) (pages : List PlainPage) (roots : List PlainRoot) where
       trees_are = rw f (more_trees tree_in_lists (tree_of g pages roots) trees found no_tree t x.count x.trees_are is);
     }
 
-    pub stopped_found : (s : Stopped) → t < 66 → AreGiven pages roots → IsStopped (met ++ tables_of g pages roots t) s → IsTreeFault g pages roots (fault_of s)
-    stopped_found s l given h = as_fault s (stopped_on (met ++ tables_of g pages roots t) _ (all_tables g pages roots) s (more_met l) h)
+    pub stopped_found : (s : Stopped)
+        → t < 66
+        → AreGiven pages roots
+        → IsStopped (met ++ tables_of g pages roots t) s
+        → IsTreeFault g pages roots (fault_of s)
+    stopped_found s l given h =
+        as_fault s (stopped_on (met ++ tables_of g pages roots t) _ (all_tables g pages roots) s (more_met l) h)
       where
         as_fault : (s : Stopped) → IsStopped (all_tables g pages roots) s → IsTreeFault g pages roots (fault_of s)
         as_fault (Again first second) h = (given, h)
         as_fault NoMemory h = tt
 
-    pub all_found : 66 ≤ t → AreGiven pages roots → AreTrees g pages roots (λ k. get_or (map tree_in_lists trees) k no_tree)
+    pub all_found : 66 ≤ t
+        → AreGiven pages roots
+        → AreTrees g pages roots (λ k. get_or (map tree_in_lists trees) k no_tree)
     all_found l given =
         let low = x.within in
         let last : t ≡ 66 = omega (arith, l, low) in
         let none : 66 - t ≡ 0 = omega (arith, l) in
-        let all : all_tables g pages roots ≡ met = x.met_is ∙ ap (λ us. met ++ us) (ap (λ k. tables_from g pages roots k t) none ∙ no_tables t) ∙ append-nil met in
+        let all : all_tables g pages roots ≡ met =
+        x.met_is ∙ ap (λ us. met ++ us) (ap (λ k. tables_from g pages roots k t) none ∙ no_tables t)
+        ∙ append-nil met in
         record {
           given = given;
           once = rw all x.apart;

@@ -1,5 +1,5 @@
--- What a tree says whose tables lie in pages: a table word leads on to the page of its frame, where there is one. Depths count
--- the levels below.
+-- What a tree says whose tables lie in pages: a table word leads on to the page of its frame, where
+-- there is one. Depths count the levels below.
 use Rattle.std.specs.Prelude.{◌≡◌, ℕ, zero, suc, ◌+◌, ◌*◌, ◌/◌, ◌%◌, ◌^◌, ◌<◌, ◌==◌, nat_lt, List, [], ◌∷◌, ◌++◌, map, get_or, length, find, Option, Some, None, if◌then◌else◌}
 use Rattle.descriptor.specs.declared.Desc.{Desc}
 use Rattle.descriptor.specs.declared.Desc.TheVariants.{Table}
@@ -56,7 +56,8 @@ index_at depth page = page / block_pages depth % 512
 
 -- what a word that doesn't lead on gives a page: a table word is malformed there
 abbrev pub word_gives : ℕ → ℕ → ℕ → Entry
-word_gives depth word page = advance (entry_of_word (desc_of (level_at depth) word)) (page % block_pages depth)
+word_gives depth word page =
+    advance (entry_of_word (desc_of (level_at depth) word)) (page % block_pages depth)
 
 -- the word of a table on a page's path
 abbrev pub word_on : ℕ → PlainPage → ℕ → ℕ
@@ -65,7 +66,10 @@ word_on depth table page = get_or (words_of table) (index_at depth page) 0
 -- what a table gives a page
 unfoldable pub entry_by : List PlainPage → ℕ → PlainPage → ℕ → Entry
 entry_by pages zero table page = word_gives zero (word_on zero table page) page
-entry_by pages (suc depth) table page = led_case (word_gives (suc depth) (word_on (suc depth) table page) page) (λ next. entry_by pages depth next page) (led_at pages (suc depth) (word_on (suc depth) table page))
+entry_by pages (suc depth) table page =
+    led_case (word_gives (suc depth) (word_on (suc depth) table page) page)
+    (λ next. entry_by pages depth next page)
+    (led_at pages (suc depth) (word_on (suc depth) table page))
 
 -- what the words of a list give, each by its number
 abbrev pub along : {X : Type 0} → (ℕ → ℕ → List X) → ℕ → List ℕ → List X
@@ -74,17 +78,25 @@ along f number (word ∷ words) = f number word ++ along f (number + 1) words
 
 -- a table of a tree, at block `number` of those of its level
 abbrev pub reached_at : ℕ → ℕ → ℕ → PlainPage → Reached
-reached_at tree depth number page = record { tree = tree; table = record { block = (depth + 1, number); frame = page.frame } }
+reached_at tree depth number page =
+    record { tree = tree; table = record { block = (depth + 1, number); frame = page.frame } }
 
--- a table at block `number`, and the tables that its words lead on to, by page, each before those below it
+-- a table at block `number`, and the tables that its words lead on to, by page, each before those
+-- below it
 unfoldable pub tables_under : List PlainPage → ℕ → ℕ → ℕ → PlainPage → List Reached
 tables_under pages tree zero number page = reached_at tree zero number page ∷ []
 tables_under pages tree (suc depth) number page =
-    reached_at tree (suc depth) number page ∷ along (λ part word. led_case [] (λ next. tables_under pages tree depth part next) (led_at pages (suc depth) word)) (number * 512) (words_of page)
+    reached_at tree (suc depth) number page
+    ∷ along
+    (λ part word. led_case [] (λ next. tables_under pages tree depth part next)
+    (led_at pages (suc depth) word))
+    (number * 512) (words_of page)
 
 -- the map of the tree of a root
 unfoldable pub map_by_frames : Geometry → List PlainPage → PlainPage → Map
-map_by_frames geometry pages root page = if nat_lt page (input_pages geometry) then entry_by pages (levels_below geometry) root page else Unmapped
+map_by_frames geometry pages root page =
+    if nat_lt page (input_pages geometry) then entry_by pages (levels_below geometry) root page
+    else Unmapped
 
 -- the tables of the tree of a root
 abbrev pub tables_by_frames : Geometry → List PlainPage → ℕ → PlainPage → List Reached
@@ -92,7 +104,11 @@ tables_by_frames geometry pages tree root = tables_under pages tree (levels_belo
 
 -- both
 abbrev pub tree_by_frames : Geometry → List PlainPage → ℕ → PlainPage → Tree
-tree_by_frames geometry pages tree root = record { map = map_by_frames geometry pages root; table = table_of (map (λ r. r.table) (tables_by_frames geometry pages tree root)) }
+tree_by_frames geometry pages tree root =
+    record {
+      map = map_by_frames geometry pages root;
+      table = table_of (map (λ r. r.table) (tables_by_frames geometry pages tree root));
+    }
 
 -- the frame of a leaf is one that a word can say
 abbrev pub HasSmallFrame : Entry → Type 0

@@ -91,14 +91,24 @@ module _ (geometry : Geometry) (pages : List PlainPage) (roots : List PlainRoot)
   abbrev pub all_tables : List Reached
   all_tables = tables_from 66 0
 
-  -- pages and roots make no trees: the fault is true of them, and all that is tested before it is well
+  -- pages and roots make no trees: the fault is true of them, and all that is tested before it is
+  -- well
   abbrev pub IsTreeFault : TreeFault → Type 0
   IsTreeFault (Short i) = IsShort pages i
   IsTreeFault (PageTwice i) = All IsWhole pages × IsRepeated (λ p. p.frame) pages i
-  IsTreeFault (NoTree i) = All IsWhole pages × AreNumberedApart (λ p. p.frame) pages × IsStrange roots i
-  IsTreeFault (RootTwice i) = All IsWhole pages × AreNumberedApart (λ p. p.frame) pages × All IsKnown roots × IsRepeated (λ r. r.tree) roots i
+  IsTreeFault (NoTree i) =
+      All IsWhole pages × AreNumberedApart (λ p. p.frame) pages × IsStrange roots i
+  IsTreeFault (RootTwice i) =
+      All IsWhole pages
+      × AreNumberedApart (λ p. p.frame) pages
+      × All IsKnown roots
+      × IsRepeated (λ r. r.tree) roots i
   IsTreeFault (NoPage i) =
-      All IsWhole pages × AreNumberedApart (λ p. p.frame) pages × All IsKnown roots × AreNumberedApart (λ r. r.tree) roots × IsRootless pages roots i
+      All IsWhole pages
+      × AreNumberedApart (λ p. p.frame) pages
+      × All IsKnown roots
+      × AreNumberedApart (λ r. r.tree) roots
+      × IsRootless pages roots i
   IsTreeFault (Again first second) = AreGiven pages roots × IsAgain all_tables first second
   IsTreeFault NoMemory = Unit {0}
 

@@ -10,8 +10,17 @@ use Rattle.c_tables.specs.Given.{AreTrees, IsTreeFault}
 
 -- those that make trees have no fault but want of memory
 abbrev pub TreesElse : Type 0
-TreesElse = (g : Geometry) (pages : List PlainPage) (roots : List PlainRoot) (trees : ℕ → Tree) (f : TreeFault) → AreTrees g pages roots trees → IsTreeFault g pages roots f → f ≡ NoMemory
+TreesElse =
+    (g : Geometry) (pages : List PlainPage) (roots : List PlainRoot) (trees : ℕ → Tree)
+    (f : TreeFault)
+    → AreTrees g pages roots trees
+    → IsTreeFault g pages roots f
+    → f ≡ NoMemory
 
 -- no two others are both the first
 abbrev pub TreeFaultOnce : Type 0
-TreeFaultOnce = (g : Geometry) (pages : List PlainPage) (roots : List PlainRoot) (f h : TreeFault) → IsTreeFault g pages roots f → IsTreeFault g pages roots h → (f ≡ NoMemory) ⊎ ((h ≡ NoMemory) ⊎ (f ≡ h))
+TreeFaultOnce =
+    (g : Geometry) (pages : List PlainPage) (roots : List PlainRoot) (f h : TreeFault)
+    → IsTreeFault g pages roots f
+    → IsTreeFault g pages roots h
+    → (f ≡ NoMemory) ⊎ ((h ≡ NoMemory) ⊎ (f ≡ h))

@@ -16,7 +16,8 @@ reached_of met frame = find (λ r. r.table.frame == frame) met
 abbrev pub AreOtherFrames : Reached → Reached → Type 0
 AreOtherFrames r s = r.table.frame ≡ s.table.frame → ⊥
 
--- of the tables in the order in which they are reached, one is the first that has the frame of an earlier one
+-- of the tables in the order in which they are reached, one is the first that has the frame of an
+-- earlier one
 pub record IsAgain (tables : List Reached) (first second : Reached) : Type 0 where
   pub front : List Reached
   pub back : List Reached

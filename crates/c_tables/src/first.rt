@@ -36,7 +36,10 @@ impl Numbered for PlainRoot {
 /// The index of the first member that has the number of an earlier one.
 pub(crate) fn first_again<T: Numbered>(members: &[T]) -> Option<usize>
     ensures some { IfSome result (IsRepeated T.number_of members.now) }
-    ensures none { result ≡ None → (i : ℕ) → i < length members.now → is_again T.number_of members.now i ≡ false }
+    ensures none { result ≡ None
+        → (i : ℕ)
+        → i < length members.now
+        → is_again T.number_of members.now i ≡ false }
 {
     for i in 0..members.len() {
         if has_number(&members[..i], members[i].number()) {

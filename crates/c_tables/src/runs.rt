@@ -25,7 +25,8 @@ pub(crate) fn put(
     requires small { HasSmallFrame entry }
     requires kept { IsKept advance_target HasFrameBelow runs.old.items }
     requires behind { EndBefore (first + 1) runs.old.items }
-    ensures map { OnOk result (target_map runs.new.items ≡ update (target_map runs.old.items) first count entry) }
+    ensures map { OnOk result
+        (target_map runs.new.items ≡ update (target_map runs.old.items) first count entry) }
     ensures kept { OnOk result (IsKept advance_target HasFrameBelow runs.new.items) }
     ensures behind { OnOk result (EndBefore (first + count + 1) runs.new.items) }
 {

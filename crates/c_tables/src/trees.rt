@@ -128,7 +128,9 @@ pub fn trees_of(
     pages: &[PlainPage<'_>],
     roots: &[PlainRoot],
 ) -> Result<Vec<Tree>, TreeFault>
-    ensures trees { IfOk result (λ v. AreTrees geometry pages.now roots.now (λ tree. get_or (map tree_in_lists v.items) tree no_tree)) }
+    ensures trees { IfOk result
+        (λ v. AreTrees geometry pages.now roots.now
+        (λ tree. get_or (map tree_in_lists v.items) tree no_tree)) }
     ensures kept { IfOk result (λ v. All IsKeptTree v.items) }
     ensures count { IfOk result (λ v. length v.items ≡ 66) }
     ensures fault { IfErr result (IsTreeFault geometry pages.now roots.now) }

@@ -31,10 +31,13 @@ fn walk_table(
     requires page { IsWhole page }
     requires place { (number + 1) * block_pages (depth + 1) ≤ 2 ^ 36 }
     requires before { HasComeTo (number * block_pages (depth + 1)) met.old.items runs.old.items }
-    ensures met { OnOk result (met.new.items ≡ met.old.items ++ tables_under pages.now tree depth number page.entry) }
+    ensures met { OnOk result
+        (met.new.items ≡ met.old.items ++ tables_under pages.now tree depth number page.entry) }
     ensures map { OnOk result (IsTableLaid pages.now depth number page.entry runs.old.items runs.new.items) }
-    ensures after { OnOk result (HasComeTo ((number + 1) * block_pages (depth + 1)) met.new.items runs.new.items) }
-    ensures stopped { IfErr result (IsStopped (met.old.items ++ tables_under pages.now tree depth number page.entry)) }
+    ensures after { OnOk result
+        (HasComeTo ((number + 1) * block_pages (depth + 1)) met.new.items runs.new.items) }
+    ensures stopped { IfErr result
+        (IsStopped (met.old.items ++ tables_under pages.now tree depth number page.entry)) }
 {
     let table = Table {
         block: (depth as u64 + 1, number),
@@ -74,9 +77,13 @@ pub fn walked(
     requires apart { AllPairs AreOtherFrames met.old.items }
     ensures tree { IfOk result (λ t. tree_in_lists t ≡ tree_by_frames geometry pages.now tree root.entry) }
     ensures kept { IfOk result IsKeptTree }
-    ensures met { OnOk result (met.new.items ≡ met.old.items ++ tables_under pages.now tree (levels_below geometry) 0 root.entry) }
+    ensures met { OnOk result
+        (met.new.items
+        ≡ met.old.items ++ tables_under pages.now tree (levels_below geometry) 0 root.entry) }
     ensures apart { OnOk result (AllPairs AreOtherFrames met.new.items) }
-    ensures stopped { IfErr result (IsStopped (met.old.items ++ tables_under pages.now tree (levels_below geometry) 0 root.entry)) }
+    ensures stopped { IfErr result
+        (IsStopped
+        (met.old.items ++ tables_under pages.now tree (levels_below geometry) 0 root.entry)) }
 {
     let start = met.len();
     let mut runs = Vec::new(alloc);

@@ -40,7 +40,8 @@ state_says Owned = refl
 state_says SharedOwned = refl
 state_says SharedBorrowed = refl
 
-leaf_says : (frame : Frame) (prot : Prot) (kind : Kind) (state : State) → leaf_said (leaf_written frame prot kind state) ≡ Some (Leaf frame prot kind state)
+leaf_says : (frame : Frame) (prot : Prot) (kind : Kind) (state : State)
+    → leaf_said (leaf_written frame prot kind state) ≡ Some (Leaf frame prot kind state)
 leaf_says frame prot kind state = rw (rights_says prot) (rw (kind_says kind) (rw (state_says state) refl))
 
 pub entries_said : EntriesSaid
@@ -61,7 +62,9 @@ descs_said (descs.Annotated owner) = refl
 descs_said (descs.Leaf frame prot kind state) = ap (option_map desc_of_entry) (leaf_says frame prot kind state)
 descs_said (descs.Table frame) = refl
 
-row_says : (owner : Owner) (lent : Option Lent) (usage : Usage) → row_said (row_written (record { owner = owner; lent = lent; usage = usage })) ≡ Some (record { owner = owner; lent = lent; usage = usage })
+row_says : (owner : Owner) (lent : Option Lent) (usage : Usage)
+    → row_said (row_written (record { owner = owner; lent = lent; usage = usage }))
+    ≡ Some (record { owner = owner; lent = lent; usage = usage })
 row_says owner None Plain = refl
 row_says owner None SharedPool = refl
 row_says owner None (VmPool slot) = refl

@@ -15,11 +15,21 @@ use Rattle.call_table.specs.declared.step.VmKind.TheVariants.{Protected, Plain}
 
 -- levels, by the architecture's numbers
 abbrev pub level_said : ℕ → Option Level
-level_said n = if n == 0 then Some Zero else if n == 1 then Some One else if n == 2 then Some Two else if n == 3 then Some Three else None
+level_said n =
+    if n == 0 then Some Zero
+    else if n == 1 then Some One
+    else if n == 2 then Some Two
+    else if n == 3 then Some Three
+    else None
 
 -- rights: the sum of 4 for read, 2 for write and 1 for execute
 abbrev pub rights_said : ℕ → Option Prot
-rights_said n = if n == 4 then Some R else if n == 5 then Some RX else if n == 6 then Some RW else if n == 7 then Some RWX else None
+rights_said n =
+    if n == 4 then Some R
+    else if n == 5 then Some RX
+    else if n == 6 then Some RW
+    else if n == 7 then Some RWX
+    else None
 
 abbrev pub rights_written : Prot → ℕ
 rights_written R = 4
@@ -37,7 +47,11 @@ kind_written Device = 1
 
 -- states of a page, as in bits 56:55 of a word
 abbrev pub state_said : ℕ → Option State
-state_said n = if n == 0 then Some Owned else if n == 1 then Some SharedOwned else if n == 2 then Some SharedBorrowed else None
+state_said n =
+    if n == 0 then Some Owned
+    else if n == 1 then Some SharedOwned
+    else if n == 2 then Some SharedBorrowed
+    else None
 
 abbrev pub state_written : State → ℕ
 state_written Owned = 0
@@ -51,8 +65,15 @@ vm_kind_said n = if n == 0 then Some Plain else if n == 1 then Some Protected el
 -- refusals, by their numbers without the sign
 abbrev pub refusal_said : ℕ → Option Refusal
 refusal_said n =
-    if n == 1 then Some Perm else if n == 2 then Some NoVm else if n == 11 then Some Contended else if n == 12 then Some NoMemory
-    else if n == 16 then Some Busy else if n == 22 then Some Invalid else if n == 28 then Some NoPool else if n == 75 then Some LogFull else None
+    if n == 1 then Some Perm
+    else if n == 2 then Some NoVm
+    else if n == 11 then Some Contended
+    else if n == 12 then Some NoMemory
+    else if n == 16 then Some Busy
+    else if n == 22 then Some Invalid
+    else if n == 28 then Some NoPool
+    else if n == 75 then Some LogFull
+    else None
 
 abbrev pub refusal_written : Refusal → ℕ
 refusal_written Perm = 1

@@ -22,13 +22,20 @@ use Rattle.c_words.specs.Numbers.{rights_said, kind_said, state_said, refusal_sa
 -- a leaf
 abbrev pub leaf_said : PlainWord → Option Entry
 leaf_said w =
-    option_and_then (λ prot. option_and_then (λ kind. option_map (λ state. Leaf (record { 0 = w.frame }) prot kind state) (state_said w.state)) (kind_said w.kind)) (rights_said w.rights)
+    option_and_then
+    (λ prot. option_and_then
+    (λ kind. option_map (λ state. Leaf (record { 0 = w.frame }) prot kind state)
+    (state_said w.state))
+    (kind_said w.kind))
+    (rights_said w.rights)
 
 -- an entry of a map
 abbrev pub entry_said : PlainWord → Option Entry
 entry_said w =
     if w.says == 0 then Some Malformed else if w.says == 1 then Some Unmapped
-    else if w.says == 2 then Some (Annotated (record { 0 = w.owner })) else if w.says == 3 then leaf_said w else None
+    else if w.says == 2 then Some (Annotated (record { 0 = w.owner }))
+    else if w.says == 3 then leaf_said w
+    else None
 
 -- the target of a run
 abbrev pub target_said : PlainWord → Option Target
@@ -43,21 +50,30 @@ desc_of_entry (Leaf frame prot kind state) = descs.Leaf frame prot kind state
 
 -- a descriptor
 abbrev pub desc_said : PlainWord → Option Desc
-desc_said w = if w.says == 4 then Some (descs.Table (record { 0 = w.frame })) else option_map desc_of_entry (entry_said w)
+desc_said w =
+    if w.says == 4 then Some (descs.Table (record { 0 = w.frame }))
+    else option_map desc_of_entry (entry_said w)
 
 -- to whom a frame is lent
 abbrev pub lent_said : PlainOwner → Option Lent
-lent_said o = if o.is_lent == 0 then None else Some (record { owner = record { 0 = o.borrower }; page = o.borrower_page })
+lent_said o =
+    if o.is_lent == 0 then None
+    else Some (record { owner = record { 0 = o.borrower }; page = o.borrower_page })
 
 -- what holds it beside the maps
 abbrev pub usage_said : PlainOwner → Option Usage
 usage_said o =
     if o.usage == 0 then Some Plain else if o.usage == 1 then Some SharedPool
-    else if o.usage == 2 then Some (VmPool o.user) else if o.usage == 3 then Some (InHand o.user) else None
+    else if o.usage == 2 then Some (VmPool o.user)
+    else if o.usage == 3 then Some (InHand o.user)
+    else None
 
 -- an owner row
 abbrev pub row_said : PlainOwner → Option Row
-row_said o = option_map (λ usage. record { owner = record { 0 = o.owner }; lent = lent_said o; usage = usage }) (usage_said o)
+row_said o =
+    option_map
+    (λ usage. record { owner = record { 0 = o.owner }; lent = lent_said o; usage = usage })
+    (usage_said o)
 
 -- what a call gives on Ok
 abbrev pub value_said : PlainReply → Option Value
@@ -70,4 +86,6 @@ value_said r =
 
 -- a reply
 abbrev pub reply_said : PlainReply → Option Reply
-reply_said r = if r.refusal == 0 then option_map Done (value_said r) else option_map Refused (refusal_said r.refusal)
+reply_said r =
+    if r.refusal == 0 then option_map Done (value_said r)
+    else option_map Refused (refusal_said r.refusal)

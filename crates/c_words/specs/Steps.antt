@@ -1,4 +1,5 @@
--- Which steps plain steps say: a call's number and its arguments, in the order of the call's forms. A VM is two numbers, its slot and its generation.
+-- Which steps plain steps say: a call's number and its arguments, in the order of the call's forms.
+-- A VM is two numbers, its slot and its generation.
 use Rattle.std.specs.Prelude.{List, [], ◌∷◌, Option, Some, option_map, option_and_then}
 use Rattle.call_table.specs.declared.argument.Arguments.{Arguments}
 use Rattle.call_table.specs.declared.argument.Form.{Form}
@@ -25,13 +26,17 @@ argument_said Rights s a = option_map (λ r. record a { rights = r }) (rights_sa
 -- the numbers behind those of such an argument
 abbrev pub numbers_behind : Form → PlainStep → PlainStep
 numbers_behind Vm s = record s { first = s.third; second = s.fourth; third = 0; fourth = 0 }
-numbers_behind other s = record s { first = s.second; second = s.third; third = s.fourth; fourth = 0 }
+numbers_behind other s =
+    record s { first = s.second; second = s.third; third = s.fourth; fourth = 0 }
 
 -- arguments, of which those of these forms are what the numbers say in order
 abbrev pub arguments_said : List Form → PlainStep → Arguments → Option Arguments
 arguments_said [] s a = Some a
-arguments_said (form ∷ more) s a = option_and_then (arguments_said more (numbers_behind form s)) (argument_said form s a)
+arguments_said (form ∷ more) s a =
+    option_and_then (arguments_said more (numbers_behind form s)) (argument_said form s a)
 
 -- the step of the call of a number
 unfoldable pub step_said : PlainStep → Option Step
-step_said s = option_and_then (λ call. option_map (step_by call) (arguments_said (row call).forms s blank)) (numbered s.call)
+step_said s =
+    option_and_then (λ call. option_map (step_by call) (arguments_said (row call).forms s blank))
+    (numbered s.call)

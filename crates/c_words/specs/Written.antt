@@ -1,4 +1,5 @@
--- How words, owners and replies are written in numbers: fields that aren't named for what they say are 0.
+-- How words, owners and replies are written in numbers: fields that aren't named for what they say
+-- are 0.
 use Rattle.std.specs.Prelude.{Option, Some, None}
 use Rattle.descriptor.specs.declared.Desc.{Desc}
 use Rattle.descriptor.specs.declared.Desc.TheVariants as descs
@@ -29,7 +30,14 @@ blank = record { says = 0; frame = 0; owner = 0; rights = 0; kind = 0; state = 0
 
 -- a leaf
 abbrev pub leaf_written : Frame → Prot → Kind → State → PlainWord
-leaf_written frame prot kind state = record blank { says = 3; frame = frame.0; rights = rights_written prot; kind = kind_written kind; state = state_written state }
+leaf_written frame prot kind state =
+    record blank {
+      says = 3;
+      frame = frame.0;
+      rights = rights_written prot;
+      kind = kind_written kind;
+      state = state_written state;
+    }
 
 -- an entry of a map
 abbrev pub entry_written : Entry → PlainWord
@@ -54,7 +62,8 @@ desc_written (descs.Table frame) = record blank { says = 4; frame = frame.0 }
 
 -- an owner of zeros: the host's, lent to nobody, in no use
 abbrev pub plain_owner : PlainOwner
-plain_owner = record { owner = 0; is_lent = 0; borrower = 0; borrower_page = 0; usage = 0; user = 0 }
+plain_owner =
+    record { owner = 0; is_lent = 0; borrower = 0; borrower_page = 0; usage = 0; user = 0 }
 
 -- what holds a frame beside the maps
 abbrev pub usage_written : Usage → PlainOwner
@@ -66,7 +75,8 @@ usage_written (InHand cpu) = record plain_owner { usage = 3; user = cpu }
 -- to whom it is lent
 abbrev pub lent_written : Option Lent → PlainOwner → PlainOwner
 lent_written None o = o
-lent_written (Some lent) o = record o { is_lent = 1; borrower = lent.owner.0; borrower_page = lent.page }
+lent_written (Some lent) o =
+    record o { is_lent = 1; borrower = lent.owner.0; borrower_page = lent.page }
 
 -- an owner row
 abbrev pub row_written : Row → PlainOwner
@@ -74,7 +84,16 @@ row_written r = record (lent_written r.lent (usage_written r.usage)) { owner = r
 
 -- a reply of zeros
 abbrev pub done : PlainReply
-done = record { refusal = 0; gives = 0; slot = 0; generation = 0; frame = 0; entry = blank; row = plain_owner }
+done =
+    record {
+      refusal = 0;
+      gives = 0;
+      slot = 0;
+      generation = 0;
+      frame = 0;
+      entry = blank;
+      row = plain_owner;
+    }
 
 -- what a call gives on Ok
 abbrev pub value_written : Value → PlainReply

@@ -20,7 +20,8 @@ use Rattle.call_table.specs.contracts.step.VmKindPartialEq.TheImpl as kinds
 
 pub vms_tell : Tells vms.ghosts.eq
 vms_tell x y =
-    Decides-like (vms.ghosts.eq x y) (λ p i. record { slot = p.0 i; generation = p.1 i }) (λ e. ((λ i. (e i).slot), (λ i. (e i).generation)))
+    Decides-like (vms.ghosts.eq x y) (λ p i. record { slot = p.0 i; generation = p.1 i })
+    (λ e. ((λ i. (e i).slot), (λ i. (e i).generation)))
     (both_tell numbers.ghosts.eq numbers.ghosts.eq numbers_tell numbers_tell x.slot y.slot x.generation y.generation)
 
 pub kinds_tell : Tells kinds.ghosts.eq
@@ -38,23 +39,118 @@ steps_tell =
     let kind = more kinds.ghosts.eq kinds_tell _ n1 in
     enum_tells step_type.enum _ (
       n1,
-      (n1, (n2, (n2, (n1, (n1, (n1, (n1, (n2, (none, (lend, (vm2, (n3, (n1, (n1, (none, (vm1, (vm2, (vm1, (none, (right, (vm2, (none, (kind, (none, (vm2, (none, (vm1, (none, tt)))))))))))))))))))))))))))),
+      (
+        n1,
+        (
+          n2,
+          (
+            n2,
+            (
+              n1,
+              (
+                n1,
+                (
+                  n1,
+                  (
+                    n1,
+                    (
+                      n2,
+                      (
+                        none,
+                        (
+                          lend,
+                          (
+                            vm2,
+                            (
+                              n3,
+                              (
+                                n1,
+                                (
+                                  n1,
+                                  (
+                                    none,
+                                    (
+                                      vm1,
+                                      (
+                                        vm2,
+                                        (
+                                          vm1,
+                                          (
+                                            none,
+                                            (
+                                              right,
+                                              (
+                                                vm2,
+                                                (
+                                                  none,
+                                                  (
+                                                    kind,
+                                                    (
+                                                      none,
+                                                      (
+                                                        vm2,
+                                                        (
+                                                          none,
+                                                          (
+                                                            vm1,
+                                                            (
+                                                              none,
+                                                              tt,
+                                                            ),
+                                                          ),
+                                                        ),
+                                                      ),
+                                                    ),
+                                                  ),
+                                                ),
+                                              ),
+                                            ),
+                                          ),
+                                        ),
+                                      ),
+                                    ),
+                                  ),
+                                ),
+                              ),
+                            ),
+                          ),
+                        ),
+                      ),
+                    ),
+                  ),
+                ),
+              ),
+            ),
+          ),
+        ),
+      ),
     )
 
 pub values_tell : Tells values.ghosts.eq
-values_tell = enum_tells value_type.enum _ (none, (one vms.ghosts.eq vms_tell, (one _ frames_tell, (one entries.ghosts.eq entries_tell, (one rows.ghosts.eq rows_tell, tt)))))
+values_tell =
+    enum_tells value_type.enum _ (
+      none,
+      (
+        one vms.ghosts.eq vms_tell,
+        (one _ frames_tell, (one entries.ghosts.eq entries_tell, (one rows.ghosts.eq rows_tell, tt))),
+      ),
+    )
 
 pub refusals_tell : Tells refusals.ghosts.eq
 refusals_tell = bare_tells refusal_type.the_type tt
 
 pub replies_tell : Tells replies.ghosts.eq
-replies_tell = enum_tells reply_type.enum _ (one values.ghosts.eq values_tell, (one refusals.ghosts.eq refusals_tell, tt))
+replies_tell =
+    enum_tells reply_type.enum _ (one values.ghosts.eq values_tell, (one refusals.ghosts.eq refusals_tell, tt))
 
 pub calls_tell : Tells calls.ghosts.eq
 calls_tell x y =
     let slot = options_tell u64 numbers.ghosts numbers.dict numbers_tell in
-    let rest = more numbers.ghosts.eq numbers_tell _ (more steps.ghosts.eq steps_tell _ (more replies.ghosts.eq replies_tell _ slot)) in
+    let rest =
+    more numbers.ghosts.eq numbers_tell _
+    (more steps.ghosts.eq steps_tell _ (more replies.ghosts.eq replies_tell _ slot)) in
     Decides-like (calls.ghosts.eq x y)
     (λ p i. record { cpu = p.0 i; number = (p.1 i).0; step = (p.1 i).1.0; reply = (p.1 i).1.1.0; slot = (p.1 i).1.1.1 })
     (λ e. ((λ i. (e i).cpu), (λ i. ((e i).number, ((e i).step, ((e i).reply, (e i).slot))))))
-    (both_tell numbers.ghosts.eq _ numbers_tell rest x.cpu y.cpu (x.number, (x.step, (x.reply, x.slot))) (y.number, (y.step, (y.reply, y.slot))))
+    (both_tell numbers.ghosts.eq _ numbers_tell rest x.cpu y.cpu (x.number, (x.step, (x.reply, x.slot)))
+    (y.number, (y.step, (y.reply, y.slot))))

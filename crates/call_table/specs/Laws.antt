@@ -17,12 +17,20 @@ StepsAreMade = (step : Step) → step_by (named_by step).call (named_by step).ar
 
 -- and what a call makes of arguments is a step of that call with those that it has
 abbrev pub CallsAreNamed : Type 0
-CallsAreNamed = (call : CallName) (a : Arguments) → named_by (step_by call a) ≡ record { call = call; arguments = kept (row call).forms a blank }
+CallsAreNamed =
+    (call : CallName) (a : Arguments)
+    → named_by (step_by call a) ≡ record { call = call; arguments = kept (row call).forms a blank }
 
 -- each call has a name and a number of its own, and four arguments at most
 abbrev pub RowsDiffer : Type 0
-RowsDiffer = (call : CallName) → named (row call).word ≡ Some call × numbered (row call).number ≡ Some call × length (row call).forms ≤ 4
+RowsDiffer =
+    (call : CallName)
+    → named (row call).word ≡ Some call
+    × numbered (row call).number ≡ Some call
+    × length (row call).forms ≤ 4
 
 -- the word of a kind of VMs is read as that kind, and that of rights as those
 abbrev pub WordsAreRead : Type 0
-WordsAreRead = ((kind : VmKind) → vm_kind_named (text_of_vm_kind kind) ≡ Some kind) × ((rights : Prot) → rights_named (text_of_prot rights) ≡ Some rights)
+WordsAreRead =
+    ((kind : VmKind) → vm_kind_named (text_of_vm_kind kind) ≡ Some kind)
+    × ((rights : Prot) → rights_named (text_of_prot rights) ≡ Some rights)

@@ -16,16 +16,24 @@ abbrev pub row : CallName → RowOf
 row ShareHyp = record { word = codes "share_hyp"; number = 1; forms = Frame ∷ [] }
 row UnshareHyp = record { word = codes "unshare_hyp"; number = 2; forms = Frame ∷ [] }
 row DonateHyp = record { word = codes "donate_hyp"; number = 3; forms = Frame ∷ Count ∷ [] }
-row HypDonateHost = record { word = codes "hyp_donate_host"; number = 4; forms = Frame ∷ Count ∷ [] }
+row HypDonateHost =
+    record { word = codes "hyp_donate_host"; number = 4; forms = Frame ∷ Count ∷ [] }
 row HostAbort = record { word = codes "host_abort"; number = 5; forms = Page ∷ [] }
 row HostTranslate = record { word = codes "host_translate"; number = 6; forms = Page ∷ [] }
 row HypTranslate = record { word = codes "hyp_translate"; number = 7; forms = Page ∷ [] }
 row OwnerOf = record { word = codes "owner_of"; number = 8; forms = Frame ∷ [] }
 row Fund = record { word = codes "fund"; number = 9; forms = Frame ∷ Count ∷ [] }
 row Unfund = record { word = codes "unfund"; number = 10; forms = [] }
-row ShareGuest = record { word = codes "share_guest"; number = 11; forms = Frame ∷ Page ∷ Rights ∷ LastCount ∷ [] }
+row ShareGuest =
+    record {
+      word = codes "share_guest";
+      number = 11;
+      forms = Frame ∷ Page ∷ Rights ∷ LastCount
+          ∷ [];
+    }
 row UnshareGuest = record { word = codes "unshare_guest"; number = 12; forms = Vm ∷ Page ∷ [] }
-row DonateGuest = record { word = codes "donate_guest"; number = 13; forms = Frame ∷ Page ∷ LastCount ∷ [] }
+row DonateGuest =
+    record { word = codes "donate_guest"; number = 13; forms = Frame ∷ Page ∷ LastCount ∷ [] }
 row GuestShareHost = record { word = codes "guest_share_host"; number = 14; forms = Page ∷ [] }
 row GuestUnshareHost = record { word = codes "guest_unshare_host"; number = 15; forms = Page ∷ [] }
 row Install = record { word = codes "install"; number = 16; forms = [] }
@@ -46,9 +54,12 @@ row VmRelease = record { word = codes "vm_release"; number = 29; forms = [] }
 -- all calls, in the order of the table
 abbrev pub calls : List CallName
 calls =
-    ShareHyp ∷ UnshareHyp ∷ DonateHyp ∷ HypDonateHost ∷ HostAbort ∷ HostTranslate ∷ HypTranslate ∷ OwnerOf
-    ∷ Fund ∷ Unfund ∷ ShareGuest ∷ UnshareGuest ∷ DonateGuest ∷ GuestShareHost ∷ GuestUnshareHost ∷ Install
-    ∷ Topup ∷ ReclaimPage ∷ ReclaimPool ∷ FinishGuest ∷ GuestRelax ∷ GuestTranslate ∷ MarkDying ∷ VmReserve
+    ShareHyp ∷ UnshareHyp ∷ DonateHyp ∷ HypDonateHost ∷ HostAbort ∷ HostTranslate ∷ HypTranslate
+    ∷ OwnerOf
+    ∷ Fund ∷ Unfund ∷ ShareGuest ∷ UnshareGuest ∷ DonateGuest ∷ GuestShareHost ∷ GuestUnshareHost
+    ∷ Install
+    ∷ Topup ∷ ReclaimPage ∷ ReclaimPool ∷ FinishGuest ∷ GuestRelax ∷ GuestTranslate ∷ MarkDying
+    ∷ VmReserve
     ∷ VmOpen ∷ VcpuLoad ∷ VcpuPut ∷ Teardown ∷ VmRelease ∷ []
 
 -- the first of some calls with a name, and with a number

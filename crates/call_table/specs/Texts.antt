@@ -1,4 +1,5 @@
--- How VMs, values, refusals and replies are written (profile): frames in hexadecimal, all else in decimal.
+-- How VMs, values, refusals and replies are written (profile): frames in hexadecimal, all else in
+-- decimal.
 use Rattle.std.specs.Prelude.{ℕ, List, [], ◌++◌, codes}
 use Rattle.std.specs.Fmt.{decimal}
 use Rattle.page_state.specs.Texts.{text_of_page, text_of_entry, text_of_row}

@@ -13,17 +13,30 @@ use Rattle.coarse_trees.specs.Laws.{CoarsestIsCanonical, CoarsestIsTree, FullIsT
 use Rattle.coarse_trees.proofs.Lists.{some-of, some-made, filter-fewer}
 use Rattle.coarse_trees.proofs.OneWord.{parts_are_one_word}
 
-one_coarsest : (depth : ℕ) (t u : Tree) → IsCoarsest depth t → IsCoarsest depth u → u.map ≡ t.map → (b : Block) → IsInTree depth b → b.0 ≤ depth → is_some (u.table b) ≡ is_some (t.table b)
+one_coarsest : (depth : ℕ) (t u : Tree)
+    → IsCoarsest depth t
+    → IsCoarsest depth u
+    → u.map ≡ t.map
+    → (b : Block)
+    → IsInTree depth b
+    → b.0 ≤ depth
+    → is_some (u.table b) ≡ is_some (t.table b)
 one_coarsest depth t u p q e b i l = q.below b i l ∙ ap (λ (m : Map). wants_table m b) e ∙ sym (p.below b i l)
 
 -- the block above one of a tree is one of it
 above-index : (n k j : ℕ) → n ≡ suc k → j < block_pages n → j / 512 < block_pages k
-above-index n k j e h = let x = size_step k in let y : j < block_pages (suc k) = subst (λ z. j < block_pages z) e h in omega arith
+above-index n k j e h = let x = size_step k in
+    let y : j < block_pages (suc k) = subst (λ z. j < block_pages z) e h in
+    omega arith
 
 above-in : (depth : ℕ) (b : Block) → IsInTree depth b → b.0 ≤ depth → IsInTree depth (block_above b)
 above-in depth b h l =
     let i = h.index in
-    record { some = omega arith; top = omega arith; index = above-index (depth + 1 - b.0) (depth + 1 - (b.0 + 1)) b.1 (omega arith) i }
+    record {
+      some = omega arith;
+      top = omega arith;
+      index = above-index (depth + 1 - b.0) (depth + 1 - (b.0 + 1)) b.1 (omega arith) i;
+    }
 
 -- no word can say it where none can say its part
 above-not : (m : Map) (d j : ℕ) → is_one_word m (d, j) ≡ false → is_one_word m (d + 1, j / 512) ≡ false
@@ -46,8 +59,13 @@ root-only depth b h e =
 
 module _ (depth : ℕ) (u : Tree) (tree : IsTreeOf depth u) where
   -- a tree has a table at each block that no word can say: from the root down
-  stands : (k : ℕ) (b : Block) → IsInTree depth b → b.0 + k ≡ depth + 1 → is_one_word u.map b ≡ false → is_some (u.table b) ≡ true
-  stands zero b i e n = let r = root-only depth b i (omega arith) in ap (λ (a : Block). is_some (u.table a)) r ∙ tree.root
+  stands : (k : ℕ) (b : Block)
+      → IsInTree depth b
+      → b.0 + k ≡ depth + 1
+      → is_one_word u.map b ≡ false
+      → is_some (u.table b) ≡ true
+  stands zero b i e n = let r = root-only depth b i (omega arith) in
+      ap (λ (a : Block). is_some (u.table a)) r ∙ tree.root
   stands (suc k) b i e n =
       let l : b.0 ≤ depth = omega arith in
       let up = stands k (block_above b) (above-in depth b i l) (omega arith) (above-not u.map b.0 b.1 n) in
@@ -56,7 +74,13 @@ module _ (depth : ℕ) (u : Tree) (tree : IsTreeOf depth u) where
       (λ y. let bad : true ≡ false = sym (tree.words b i l up y) ∙ n in cc)
 
 -- where the coarsest tree of a map has a table, each tree of the map has one
-fewest_tables : (depth : ℕ) (t u : Tree) → IsCoarsest depth t → IsTreeOf depth u → u.map ≡ t.map → (b : Block) (f : ℕ) → t.table b ≡ Some f → is_some (u.table b) ≡ true
+fewest_tables : (depth : ℕ) (t u : Tree)
+    → IsCoarsest depth t
+    → IsTreeOf depth u
+    → u.map ≡ t.map
+    → (b : Block) (f : ℕ)
+    → t.table b ≡ Some f
+    → is_some (u.table b) ≡ true
 fewest_tables depth t u p tree e b f h =
     let i = p.inside b f h in
     let top = i.top in
@@ -72,9 +96,15 @@ fewest_tables depth t u p tree e b f h =
     not-said false h = refl
 
 -- so no tree of the map has fewer
-fewest_counted : (depth : ℕ) (t u : Tree) → IsCoarsest depth t → IsTreeOf depth u → u.map ≡ t.map → (bs : List Block) → table_number t bs ≤ table_number u bs
+fewest_counted : (depth : ℕ) (t u : Tree)
+    → IsCoarsest depth t
+    → IsTreeOf depth u
+    → u.map ≡ t.map
+    → (bs : List Block)
+    → table_number t bs ≤ table_number u bs
 fewest_counted depth t u p tree e bs =
-    filter-fewer (λ b. is_some (t.table b)) (λ b. is_some (u.table b)) bs (λ b h. let x = some-of (t.table b) h in fewest_tables depth t u p tree e b x.0 x.1)
+    filter-fewer (λ b. is_some (t.table b)) (λ b. is_some (u.table b)) bs
+    (λ b h. let x = some-of (t.table b) h in fewest_tables depth t u p tree e b x.0 x.1)
 
 pub coarsest_is_canonical : CoarsestIsCanonical
 coarsest_is_canonical depth t p = record {

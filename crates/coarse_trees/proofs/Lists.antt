@@ -40,7 +40,8 @@ has-contains (a ∷ bs) b h = by_test (block_eq a b)
     (λ e. let h' : has b bs ≡ true = rw e at h in contains-later a bs b (has-contains bs b h'))
 
 -- the blocks that pass lose their table
-pub cleared-has : (pass : Block → Bool) (bs : List Block) (old : Block → Option ℕ) (b : Block) → cleared (filter pass bs) old b ≡ cond (pass b && has b bs) None (old b)
+pub cleared-has : (pass : Block → Bool) (bs : List Block) (old : Block → Option ℕ) (b : Block)
+    → cleared (filter pass bs) old b ≡ cond (pass b && has b bs) None (old b)
 cleared-has pass [] old b = by_test (pass b) (λ t. rw t refl) (λ t. rw t refl)
 cleared-has pass (a ∷ bs) old b =
     let more = cleared-has pass bs old b in
@@ -49,32 +50,52 @@ cleared-has pass (a ∷ bs) old b =
     let s : pass a ≡ pass b = ap pass (block_eq-same a b e) in
     by_test (pass b)
     (λ t. let u : pass a ≡ true = s ∙ t in rw (u, t, e) refl)
-    (λ t. let u : pass a ≡ false = s ∙ t in let m : cleared (filter pass bs) old b ≡ old b = more ∙ ap (λ z. cond (z && has b bs) None (old b)) t in rw (u, t) m))
+    (λ t. let u : pass a ≡ false = s ∙ t in
+    let m : cleared (filter pass bs) old b ≡ old b = more ∙ ap (λ z. cond (z && has b bs) None (old b)) t in
+    rw (u, t) m))
     (λ e. by_test (pass a) (λ t. rw (t, e) more) (λ t. rw (t, e) more))
 
 -- one block more
-module _ (pass : Block → Bool) (a : Block) (bs : List Block) (old : Block → Option ℕ) (b : Block) (more : (gs : List ℕ) → length (filter pass bs) ≤ length gs → is_some (placed (filter pass bs) gs old b) ≡ ((pass b && has b bs) || is_some (old b))) where
-  skipped : (fs : List ℕ) → pass a ≡ false → length (filter pass bs) ≤ length fs → is_some (placed (filter pass (a ∷ bs)) fs old b) ≡ ((pass b && has b (a ∷ bs)) || is_some (old b))
+module _ (pass : Block → Bool) (a : Block) (bs : List Block) (old : Block → Option ℕ) (b : Block)
+    (more : (gs : List ℕ)
+    → length (filter pass bs) ≤ length gs
+    → is_some (placed (filter pass bs) gs old b) ≡ ((pass b && has b bs) || is_some (old b))) where
+  skipped : (fs : List ℕ)
+      → pass a ≡ false
+      → length (filter pass bs) ≤ length fs
+      → is_some (placed (filter pass (a ∷ bs)) fs old b) ≡ ((pass b && has b (a ∷ bs)) || is_some (old b))
   skipped fs t k = by_test (block_eq a b)
-      (λ e. let s : pass b ≡ false = sym (ap pass (block_eq-same a b e)) ∙ t in let m : is_some (placed (filter pass bs) fs old b) ≡ is_some (old b) = more fs k ∙ ap (λ z. (z && has b bs) || is_some (old b)) s in rw (t, s) m)
+      (λ e. let s : pass b ≡ false = sym (ap pass (block_eq-same a b e)) ∙ t in
+      let m : is_some (placed (filter pass bs) fs old b) ≡ is_some (old b) =
+      more fs k ∙ ap (λ z. (z && has b bs) || is_some (old b)) s in
+      rw (t, s) m)
       (λ e. rw (t, e) (more fs k))
 
-  taken : (gs : List ℕ) → pass a ≡ true → length (a ∷ filter pass bs) ≤ length gs → is_some (placed (filter pass (a ∷ bs)) gs old b) ≡ ((pass b && has b (a ∷ bs)) || is_some (old b))
+  taken : (gs : List ℕ)
+      → pass a ≡ true
+      → length (a ∷ filter pass bs) ≤ length gs
+      → is_some (placed (filter pass (a ∷ bs)) gs old b) ≡ ((pass b && has b (a ∷ bs)) || is_some (old b))
   taken [] t k = absurd (omega arith)
   taken (g ∷ gs) t k = by_test (block_eq a b)
       (λ e. let s : pass b ≡ true = sym (ap pass (block_eq-same a b e)) ∙ t in rw (t, s, e) refl)
       (λ e. rw (t, e) (more gs (omega arith)))
 
-  placed-step : (fs : List ℕ) → length (filter pass (a ∷ bs)) ≤ length fs → is_some (placed (filter pass (a ∷ bs)) fs old b) ≡ ((pass b && has b (a ∷ bs)) || is_some (old b))
+  placed-step : (fs : List ℕ)
+      → length (filter pass (a ∷ bs)) ≤ length fs
+      → is_some (placed (filter pass (a ∷ bs)) fs old b) ≡ ((pass b && has b (a ∷ bs)) || is_some (old b))
   placed-step fs h = by_test (pass a) (λ t. taken fs t (rw t at h)) (λ t. skipped fs t (rw t at h))
 
 -- and those that pass get one, where there are frames enough
-pub placed-has : (pass : Block → Bool) (bs : List Block) (fs : List ℕ) (old : Block → Option ℕ) (b : Block) → length (filter pass bs) ≤ length fs → is_some (placed (filter pass bs) fs old b) ≡ ((pass b && has b bs) || is_some (old b))
+pub placed-has : (pass : Block → Bool) (bs : List Block) (fs : List ℕ) (old : Block → Option ℕ) (b : Block)
+    → length (filter pass bs) ≤ length fs
+    → is_some (placed (filter pass bs) fs old b) ≡ ((pass b && has b bs) || is_some (old b))
 placed-has pass [] fs old b h = by_test (pass b) (λ t. rw t refl) (λ t. rw t refl)
 placed-has pass (a ∷ bs) fs old b h = placed-step pass a bs old b (λ gs k. placed-has pass bs gs old b k) fs h
 
 -- lists of blocks that pass one of two tests that agree on them
-pub filter-same : (p q : Block → Bool) (bs : List Block) → ((b : Block) → has b bs ≡ true → p b ≡ q b) → filter p bs ≡ filter q bs
+pub filter-same : (p q : Block → Bool) (bs : List Block)
+    → ((b : Block) → has b bs ≡ true → p b ≡ q b)
+    → filter p bs ≡ filter q bs
 filter-same p q [] h = refl
 filter-same p q (a ∷ bs) h =
     let here : p a ≡ q a = h a (same-has a a bs refl) in
@@ -84,7 +105,9 @@ filter-same p q (a ∷ bs) h =
     (λ t. let u : p a ≡ false = here ∙ t in rw (t, u) more)
 
 -- fewer pass a test that leads to the other
-pub filter-fewer : (p q : Block → Bool) (bs : List Block) → ((b : Block) → p b ≡ true → q b ≡ true) → length (filter p bs) ≤ length (filter q bs)
+pub filter-fewer : (p q : Block → Bool) (bs : List Block)
+    → ((b : Block) → p b ≡ true → q b ≡ true)
+    → length (filter p bs) ≤ length (filter q bs)
 filter-fewer p q [] h = omega arith
 filter-fewer p q (a ∷ bs) h =
     let more = filter-fewer p q bs h in

@@ -24,14 +24,21 @@ Along n s d b = (fits_word d (n (b * s)) ≡ true) × ((i : ℕ) → i < s → n
 one-word-says : (n : Map) (d b : ℕ) → is_one_word n (d, b) ≡ true → Along n (block_pages d) d b
 one-word-says n d b h = (one_word_means n (d, b)).0 h
 
-pub one-word-made : (n : Map) (d b : ℕ) (y : Entry) → fits_word d y ≡ true → ((i : ℕ) → i < block_pages d → n (b * block_pages d + i) ≡ advance y i) → is_one_word n (d, b) ≡ true
+pub one-word-made : (n : Map) (d b : ℕ) (y : Entry)
+    → fits_word d y ≡ true
+    → ((i : ℕ) → i < block_pages d → n (b * block_pages d + i) ≡ advance y i)
+    → is_one_word n (d, b) ≡ true
 one-word-made n d b y f h =
     let z : b * block_pages d + 0 ≡ b * block_pages d = omega arith in
     let e : n (b * block_pages d) ≡ y = ap n (sym z) ∙ h 0 (size_some d) ∙ advance-none y in
     let along : Along n (block_pages d) d b = (ap (fits_word d) e ∙ f, λ i p. h i p ∙ ap (λ x. advance x i) (sym e)) in
     (one_word_means n (d, b)).1 along
 
-places : (s z b i j : ℕ) → z ≡ 512 * s → i < 512 → j < s → ((512 * b + i) * s + j ≡ b * z + (i * s + j)) × (i * s + j < z)
+places : (s z b i j : ℕ)
+    → z ≡ 512 * s
+    → i < 512
+    → j < s
+    → ((512 * b + i) * s + j ≡ b * z + (i * s + j)) × (i * s + j < z)
 places s z b i j e p q =
     let k : i + 1 ≤ 512 = omega arith in
     let y = mul-le-mul_right s k in
@@ -47,7 +54,11 @@ parts_are_one_word n d b i q h =
     ap n at.0 ∙ x.1 (i * block_pages d + j) at.1 ∙ sym (advance-more y (i * block_pages d) j))
 
 -- the part that a page of a block lies in
-cut : (s z b j : ℕ) → 1 ≤ s → z ≡ 512 * s → j < z → (j / s < 512) × (j % s < s) × ((512 * b + j / s) * s + j % s ≡ b * z + j) × (j / s * s + j % s ≡ j)
+cut : (s z b j : ℕ)
+    → 1 ≤ s
+    → z ≡ 512 * s
+    → j < z
+    → (j / s < 512) × (j % s < s) × ((512 * b + j / s) * s + j % s ≡ b * z + j) × (j / s * s + j % s ≡ j)
 cut s z b j p e l =
     let l' : j < 512 * s = rw e at l in
     let x = div-mul-le_self j s in
@@ -73,12 +84,18 @@ one_word_of_parts m d b x f h =
     ap m (sym c.2) ∙ along.1 r c.1 ∙ ap (λ e. advance e r) first ∙ advance-more x (i * s) r ∙ ap (λ k. advance x k) c.3)
 
 -- maps that agree on a block
-pub one-word-same : (m n : Map) (b : Block) → ((i : ℕ) → i < span b → m (first_page b + i) ≡ n (first_page b + i)) → is_one_word m b ≡ is_one_word n b
+pub one-word-same : (m n : Map) (b : Block)
+    → ((i : ℕ) → i < span b → m (first_page b + i) ≡ n (first_page b + i))
+    → is_one_word m b ≡ is_one_word n b
 one-word-same m n b h = same-tests (is_one_word m b) (is_one_word n b) (goes m n h) (goes n m (λ i l. sym (h i l)))
   where
-    goes : (m n : Map) → ((i : ℕ) → i < span b → m (first_page b + i) ≡ n (first_page b + i)) → is_one_word m b ≡ true → is_one_word n b ≡ true
+    goes : (m n : Map)
+        → ((i : ℕ) → i < span b → m (first_page b + i) ≡ n (first_page b + i))
+        → is_one_word m b ≡ true
+        → is_one_word n b ≡ true
     goes m n h t =
         let x = (one_word_means m b).0 t in
         let z : first_page b + 0 ≡ first_page b = omega arith in
         let e : m (first_page b) ≡ n (first_page b) = ap m (sym z) ∙ h 0 (size_some b.0) ∙ ap n z in
-        (one_word_means n b).1 (ap (fits_word b.0) (sym e) ∙ x.0, λ i l. sym (h i l) ∙ x.1 i l ∙ ap (λ y. advance y i) e)
+        (one_word_means n b).1
+        (ap (fits_word b.0) (sym e) ∙ x.0, λ i l. sym (h i l) ∙ x.1 i l ∙ ap (λ y. advance y i) e)

@@ -48,7 +48,9 @@ root_is_coarsest depth root = record {
 }
 
 -- what a test of tables gives, from what it asks
-settle : (h s w : Bool) → (not ((elim s [ true ↦ w | false ↦ false ]) && h) && (((elim s [ true ↦ false | false ↦ not w ]) && h) || s)) ≡ cond h (not w) s
+settle : (h s w : Bool)
+    → (not ((elim s [ true ↦ w | false ↦ false ]) && h) && (((elim s [ true ↦ false | false ↦ not w ]) && h) || s))
+    ≡ cond h (not w) s
 settle true true true = refl
 settle true true false = refl
 settle true false true = refl
@@ -62,10 +64,19 @@ settle false false false = refl
 less-scaled : (a b s : ℕ) → a * s < b * s → a < b
 less-scaled a b s h = by_lt a b (λ l. l) (λ l. absurd (let e = mul-le-mul_right s l in omega arith))
 
-in-tree : (depth first count : ℕ) (b : Block) → first + count ≤ block_pages (depth + 1) → 1 ≤ b.0 → b.0 ≤ depth → first_page b < first + count → IsInTree depth b
+in-tree : (depth first count : ℕ) (b : Block)
+    → first + count ≤ block_pages (depth + 1)
+    → 1 ≤ b.0
+    → b.0 ≤ depth
+    → first_page b < first + count
+    → IsInTree depth b
 in-tree depth first count b r low high begins =
     let e = size_split (depth + 1) b.0 (omega arith) in
-    record { some = low; top = omega arith; index = less-scaled b.1 (block_pages (depth + 1 - b.0)) (block_pages b.0) (omega arith) }
+    record {
+      some = low;
+      top = omega arith;
+      index = less-scaled b.1 (block_pages (depth + 1 - b.0)) (block_pages b.0) (omega arith);
+    }
 
 outside-none : (first count p : ℕ) → count ≤ 0 → (p < first) ⊎ (first + count ≤ p)
 outside-none first count p none = by_lt p first (λ l. inl l) (λ l. inr (omega arith))
@@ -74,7 +85,10 @@ module _ (depth : ℕ) (e : Edit) where
   abbrev on : Block → Bool
   on b = has b (edit_blocks depth e)
 
-nowhere : (depth first count : ℕ) (entry : Entry) (b : Block) → count ≤ 0 → Contains (edit_blocks depth (put first count entry)) b → ⊥
+nowhere : (depth first count : ℕ) (entry : Entry) (b : Block)
+    → count ≤ 0
+    → Contains (edit_blocks depth (put first count entry)) b
+    → ⊥
 unfolding blocks_on
 nowhere depth first zero entry b l k = let less = k.1 in absurd (omega arith)
 nowhere depth first (suc n) entry b l k = absurd (omega arith)
@@ -88,18 +102,32 @@ on-in depth (put first count entry) b r h =
     (λ none. absurd (nowhere depth first count entry b none k))
 
 -- the map of a block off the range is as before
-off-same : (depth : ℕ) (e : Edit) (m : Map) (b : Block) → 1 ≤ b.0 → b.0 ≤ depth → on depth e b ≡ false → (i : ℕ) → i < span b → edited_map m e (first_page b + i) ≡ m (first_page b + i)
+off-same : (depth : ℕ) (e : Edit) (m : Map) (b : Block)
+    → 1 ≤ b.0
+    → b.0 ≤ depth
+    → on depth e b ≡ false
+    → (i : ℕ)
+    → i < span b
+    → edited_map m e (first_page b + i) ≡ m (first_page b + i)
 off-same depth keep m b low high h i l = refl
 off-same depth (put first count entry) m b low high h i l = update_outside m first count entry (first_page b + i)
     (by_lt 0 count
     (λ some. by_lt (first_page b) (first + count)
     (λ below. by_lt first (first_page b + span b)
-    (λ above. let t = contains-has (edit_blocks depth (put first count entry)) b ((blocks_meet depth first count b some).1 (low, high, below, above)) in let bad : true ≡ false = sym t ∙ h in absurd (cc))
+    (λ above. let t =
+    contains-has (edit_blocks depth (put first count entry)) b
+    ((blocks_meet depth first count b some).1 (low, high, below, above)) in
+    let bad : true ≡ false = sym t ∙ h in
+    absurd (cc))
     (λ past. inl (omega arith)))
     (λ past. inr (omega arith)))
     (λ none. outside-none first count (first_page b + i) none))
 
-off-word : (depth : ℕ) (e : Edit) (m : Map) (b : Block) → 1 ≤ b.0 → b.0 ≤ depth → on depth e b ≡ false → is_one_word (edited_map m e) b ≡ is_one_word m b
+off-word : (depth : ℕ) (e : Edit) (m : Map) (b : Block)
+    → 1 ≤ b.0
+    → b.0 ≤ depth
+    → on depth e b ≡ false
+    → is_one_word (edited_map m e) b ≡ is_one_word m b
 off-word depth e m b low high h = one-word-same (edited_map m e) m b (off-same depth e m b low high h)
 
 module _ (depth : ℕ) (t : Tree) (e : Edit) where
@@ -113,7 +141,9 @@ module _ (depth : ℕ) (t : Tree) (e : Edit) where
   gains b = elim (is_some (t.table b)) [ true ↦ false | false ↦ not (is_one_word after b) ]
 
   -- which blocks have a table afterwards
-  some-after : (fs : List ℕ) (b : Block) → need depth t e ≤ length fs → is_some ((edited depth t e fs).table b) ≡ cond (on depth e b) (not (is_one_word after b)) (is_some (t.table b))
+  some-after : (fs : List ℕ) (b : Block)
+      → need depth t e ≤ length fs
+      → is_some ((edited depth t e fs).table b) ≡ cond (on depth e b) (not (is_one_word after b)) (is_some (t.table b))
   unfolding edited needs freed
   some-after fs b h =
       let bs = edit_blocks depth e in
@@ -127,12 +157,17 @@ module _ (depth : ℕ) (t : Tree) (e : Edit) where
   map-after fs = refl
 
   module _ (range : IsInRange depth e) (old : IsCoarsest depth t) where
-    want-after : (b : Block) → IsInTree depth b → b.0 ≤ depth → cond (on depth e b) (not (is_one_word after b)) (is_some (t.table b)) ≡ wants_table after b
+    want-after : (b : Block)
+        → IsInTree depth b
+        → b.0 ≤ depth
+        → cond (on depth e b) (not (is_one_word after b)) (is_some (t.table b)) ≡ wants_table after b
     want-after b i l = by_test (on depth e b)
         (λ y. rw y refl)
         (λ y. rw y (old.below b i l ∙ ap (λ w. not w) (sym (off-word depth e t.map b i.some l y))))
 
-    in-after : (b : Block) → cond (on depth e b) (not (is_one_word after b)) (is_some (t.table b)) ≡ true → IsInTree depth b
+    in-after : (b : Block)
+        → cond (on depth e b) (not (is_one_word after b)) (is_some (t.table b)) ≡ true
+        → IsInTree depth b
     in-after b h = by_test (on depth e b)
         (λ y. (on-in depth e b range y).0)
         (λ y. let h' : is_some (t.table b) ≡ true = rw y at h in let x = some-of (t.table b) h' in old.inside b x.0 x.1)
@@ -174,10 +209,19 @@ not-both : {P : Type 0} (w : Bool) → not w ≡ true → not w ≡ false → P
 not-both w h k = let bad : true ≡ false = sym h ∙ k in absurd (cc)
 
 -- off the range nothing is wanted that wasn't there
-change-on : (depth : ℕ) (t : Tree) (e : Edit) → IsCoarsest depth t → (b : Block) (s : Bool) → IsInTree depth b → b.0 ≤ depth → wants_table (edited_map t.map e) b ≡ not s → is_some (t.table b) ≡ s → Contains (edit_blocks depth e) b
+change-on : (depth : ℕ) (t : Tree) (e : Edit)
+    → IsCoarsest depth t
+    → (b : Block) (s : Bool)
+    → IsInTree depth b
+    → b.0 ≤ depth
+    → wants_table (edited_map t.map e) b ≡ not s
+    → is_some (t.table b) ≡ s
+    → Contains (edit_blocks depth e) b
 change-on depth t e old b s i l now was = by_test (on depth e b)
     (λ y. has-contains (edit_blocks depth e) b y)
-    (λ y. let same : s ≡ not s = sym was ∙ old.below b i l ∙ ap (λ w. not w) (sym (off-word depth e t.map b i.some l y)) ∙ now in differ s same)
+    (λ y. let same : s ≡ not s =
+    sym was ∙ old.below b i l ∙ ap (λ w. not w) (sym (off-word depth e t.map b i.some l y)) ∙ now in
+    differ s same)
   where
     differ : {P : Type 0} (s : Bool) → s ≡ not s → P
     differ true h = absurd (cc)
@@ -187,25 +231,35 @@ pub needed_are_new : NeededAreNew
 unfolding needs
 needed_are_new depth t e old b i l = (
   λ k.
-      let p = All-contains (λ a. gains depth t e a ≡ true) (filter (gains depth t e) (edit_blocks depth e)) b (filter_passes (gains depth t e) (edit_blocks depth e)) k in
+      let p =
+      All-contains (λ a. gains depth t e a ≡ true) (filter (gains depth t e) (edit_blocks depth e)) b
+      (filter_passes (gains depth t e) (edit_blocks depth e)) k in
       let x = gain-says (is_some (t.table b)) (is_one_word (edited_map t.map e) b) p in
       (x.0, none-of (t.table b) x.1),
   λ k.
       let none : is_some (t.table b) ≡ false = ap (λ (o : Option ℕ). is_some o) k.1 in
-      contains-filter (gains depth t e) (edit_blocks depth e) b (change-on depth t e old b false i l k.0 none) (gain-said (is_some (t.table b)) (is_one_word (edited_map t.map e) b) k.0 none),
+      contains-filter (gains depth t e) (edit_blocks depth e) b (change-on depth t e old b false i l k.0 none)
+      (gain-said (is_some (t.table b)) (is_one_word (edited_map t.map e) b) k.0 none),
 )
 
 pub freed_are_needless : FreedAreNeedless
 unfolding freed
 freed_are_needless depth t e old b i l = (
   λ k.
-      let p = All-contains (λ a. loses depth t e a ≡ true) (filter (loses depth t e) (edit_blocks depth e)) b (filter_passes (loses depth t e) (edit_blocks depth e)) k in
+      let p =
+      All-contains (λ a. loses depth t e a ≡ true) (filter (loses depth t e) (edit_blocks depth e)) b
+      (filter_passes (loses depth t e) (edit_blocks depth e)) k in
       lose-says (is_some (t.table b)) (is_one_word (edited_map t.map e) b) p,
-  λ k. contains-filter (loses depth t e) (edit_blocks depth e) b (change-on depth t e old b true i l k.0 k.1) (lose-said (is_some (t.table b)) (is_one_word (edited_map t.map e) b) k.0 k.1),
+  λ k. contains-filter (loses depth t e) (edit_blocks depth e) b (change-on depth t e old b true i l k.0 k.1)
+      (lose-said (is_some (t.table b)) (is_one_word (edited_map t.map e) b) k.0 k.1),
 )
 
 pub need_of_maps : NeedOfMaps
 unfolding needs
 need_of_maps depth t e range old =
-    ap (λ bs. length bs) (filter-same (gains depth t e) (λ b. is_one_word t.map b && wants_table (edited_map t.map e) b) (edit_blocks depth e)
-    (λ b h. let i = on-in depth e b range h in gain-maps (is_some (t.table b)) (is_one_word t.map b) (is_one_word (edited_map t.map e) b) (old.below b i.0 i.1)))
+    ap (λ bs. length bs)
+    (filter-same (gains depth t e) (λ b. is_one_word t.map b && wants_table (edited_map t.map e) b)
+    (edit_blocks depth e)
+    (λ b h. let i = on-in depth e b range h in
+    gain-maps (is_some (t.table b)) (is_one_word t.map b) (is_one_word (edited_map t.map e) b)
+    (old.below b i.0 i.1)))

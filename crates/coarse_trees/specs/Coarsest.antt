@@ -1,4 +1,5 @@
--- Coarsest trees: below the root there is a table at a block just where the block can't be one word.
+-- Coarsest trees: below the root there is a table at a block just where the block can't be one
+-- word.
 use Rattle.std.specs.Prelude.{◌≡◌, ℕ, ◌+◌, ◌-◌, ◌/◌, ◌≤◌, ◌<◌, Bool, true, false, not, ◌&&◌, is_some, List, length, filter, Some, None}
 use Rattle.page_state.specs.Blocks.{is_one_word}
 use Rattle.page_state.specs.Geometries.{block_pages}
@@ -16,29 +17,50 @@ pub record IsInTree (depth : ℕ) (b : Block) : Type 0 where
 abbrev pub wants_table : Map → Block → Bool
 wants_table m b = not (is_one_word m b)
 
--- the coarsest tree of its map: tables are at blocks of the tree alone, and below the root just where they are wanted
+-- the coarsest tree of its map: tables are at blocks of the tree alone, and below the root just
+-- where they are wanted
 pub record IsCoarsest (depth : ℕ) (t : Tree) : Type 0 where
   pub inside : (b : Block) (f : ℕ) → t.table b ≡ Some f → IsInTree depth b
-  pub below : (b : Block) → IsInTree depth b → b.0 ≤ depth → is_some (t.table b) ≡ wants_table t.map b
+  pub below : (b : Block)
+      → IsInTree depth b
+      → b.0 ≤ depth
+      → is_some (t.table b) ≡ wants_table t.map b
 
 -- the block whose table has the word of a block
 abbrev pub block_above : Block → Block
 block_above b = (b.0 + 1, b.1 / 512)
 
--- any tree of its map: it has a root, and where a table has a word, and no table below it, the word's block can be one word
+-- any tree of its map: it has a root, and where a table has a word, and no table below it, the
+-- word's block can be one word
 pub record IsTreeOf (depth : ℕ) (t : Tree) : Type 0 where
   pub root : is_some (t.table (depth + 1, 0)) ≡ true
-  pub words : (b : Block) → IsInTree depth b → b.0 ≤ depth → is_some (t.table (block_above b)) ≡ true → is_some (t.table b) ≡ false → is_one_word t.map b ≡ true
+  pub words : (b : Block)
+      → IsInTree depth b
+      → b.0 ≤ depth
+      → is_some (t.table (block_above b)) ≡ true
+      → is_some (t.table b) ≡ false
+      → is_one_word t.map b ≡ true
 
 -- how many blocks of a list have a table
 abbrev pub table_number : Tree → List Block → ℕ
 table_number t bs = length (filter (λ b. is_some (t.table b)) bs)
 
--- the tree is the coarsest tree of its map, which has no other but for its tables' frames, and no tree of the map has fewer tables, on whatever blocks they are counted
+-- the tree is the coarsest tree of its map, which has no other but for its tables' frames, and no
+-- tree of the map has fewer tables, on whatever blocks they are counted
 pub record IsCanonical (depth : ℕ) (t : Tree) : Type 0 where
   pub coarsest : IsCoarsest depth t
-  pub only : (u : Tree) → IsCoarsest depth u → u.map ≡ t.map → (b : Block) → IsInTree depth b → b.0 ≤ depth → is_some (u.table b) ≡ is_some (t.table b)
-  pub fewest : (u : Tree) → IsTreeOf depth u → u.map ≡ t.map → (bs : List Block) → table_number t bs ≤ table_number u bs
+  pub only : (u : Tree)
+      → IsCoarsest depth u
+      → u.map ≡ t.map
+      → (b : Block)
+      → IsInTree depth b
+      → b.0 ≤ depth
+      → is_some (u.table b) ≡ is_some (t.table b)
+  pub fewest : (u : Tree)
+      → IsTreeOf depth u
+      → u.map ≡ t.map
+      → (bs : List Block)
+      → table_number t bs ≤ table_number u bs
 
 -- the pages of a change are those of trees of the depth
 abbrev pub IsInRange : ℕ → Edit → Type 0
@@ -47,4 +69,5 @@ IsInRange depth (put first count entry) = first + count ≤ block_pages (depth +
 
 -- the need of a change of the coarsest tree of a map
 abbrev pub map_need : ℕ → Map → Edit → ℕ
-map_need depth m e = length (filter (λ b. is_one_word m b && wants_table (edited_map m e) b) (edit_blocks depth e))
+map_need depth m e =
+    length (filter (λ b. is_one_word m b && wants_table (edited_map m e) b) (edit_blocks depth e))

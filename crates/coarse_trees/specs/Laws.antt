@@ -11,11 +11,23 @@ use Rattle.coarse_trees.specs.Coarsest.{IsInTree, wants_table, IsCoarsest, IsTre
 
 -- the parts of a block that is one word are one word
 abbrev pub PartsAreOneWord : Type 0
-PartsAreOneWord = (m : Map) (d j i : ℕ) → i < 512 → is_one_word m (suc d, j) ≡ true → is_one_word m (d, 512 * j + i) ≡ true
+PartsAreOneWord =
+    (m : Map) (d j i : ℕ)
+    → i < 512
+    → is_one_word m (suc d, j) ≡ true
+    → is_one_word m (d, 512 * j + i) ≡ true
 
--- a block is one word where its parts are, the first page of each has what one entry advances to, and a word can say that entry
+-- a block is one word where its parts are, the first page of each has what one entry advances to,
+-- and a word can say that entry
 abbrev pub OneWordOfParts : Type 0
-OneWordOfParts = (m : Map) (d j : ℕ) (x : Entry) → fits_word (suc d) x ≡ true → ((i : ℕ) → i < 512 → (is_one_word m (d, 512 * j + i) ≡ true) × (m (first_page (d, 512 * j + i)) ≡ advance x (i * block_pages d))) → is_one_word m (suc d, j) ≡ true
+OneWordOfParts =
+    (m : Map) (d j : ℕ) (x : Entry)
+    → fits_word (suc d) x ≡ true
+    → ((i : ℕ)
+    → i < 512
+    → (is_one_word m (d, 512 * j + i) ≡ true)
+    × (m (first_page (d, 512 * j + i)) ≡ advance x (i * block_pages d)))
+    → is_one_word m (suc d, j) ≡ true
 
 -- a coarsest tree is the only one of its map, and no tree of the map has fewer tables
 abbrev pub CoarsestIsCanonical : Type 0
@@ -23,7 +35,11 @@ CoarsestIsCanonical = (depth : ℕ) (t : Tree) → IsCoarsest depth t → IsCano
 
 -- one with a root is among the trees of its map
 abbrev pub CoarsestIsTree : Type 0
-CoarsestIsTree = (depth : ℕ) (t : Tree) → IsCoarsest depth t → is_some (t.table (depth + 1, 0)) ≡ true → IsTreeOf depth t
+CoarsestIsTree =
+    (depth : ℕ) (t : Tree)
+    → IsCoarsest depth t
+    → is_some (t.table (depth + 1, 0)) ≡ true
+    → IsTreeOf depth t
 
 -- a tree of its root alone, in which nothing is mapped, is coarsest
 abbrev pub RootIsCoarsest : Type 0
@@ -35,20 +51,45 @@ NoneIsCoarsest = (depth : ℕ) → IsCoarsest depth no_tree
 
 -- a change of a coarsest tree with frames enough leaves a coarsest tree
 abbrev pub EditKeepsCoarsest : Type 0
-EditKeepsCoarsest = (depth : ℕ) (t : Tree) (e : Edit) (fs : List ℕ) → IsInRange depth e → IsCoarsest depth t → need depth t e ≤ length fs → IsCoarsest depth (edited depth t e fs)
+EditKeepsCoarsest =
+    (depth : ℕ) (t : Tree) (e : Edit) (fs : List ℕ)
+    → IsInRange depth e
+    → IsCoarsest depth t
+    → need depth t e ≤ length fs
+    → IsCoarsest depth (edited depth t e fs)
 
 -- the tables that a change needs are those that are wanted afterwards and weren't there
 abbrev pub NeededAreNew : Type 0
-NeededAreNew = (depth : ℕ) (t : Tree) (e : Edit) → IsCoarsest depth t → (b : Block) → IsInTree depth b → b.0 ≤ depth → Contains (needs depth t e) b ↔ ((wants_table (edited_map t.map e) b ≡ true) × (t.table b ≡ None))
+NeededAreNew =
+    (depth : ℕ) (t : Tree) (e : Edit)
+    → IsCoarsest depth t
+    → (b : Block)
+    → IsInTree depth b
+    → b.0 ≤ depth
+    → Contains (needs depth t e) b
+    ↔ ((wants_table (edited_map t.map e) b ≡ true) × (t.table b ≡ None))
 
 -- those that go are those that were there and aren't wanted afterwards
 abbrev pub FreedAreNeedless : Type 0
-FreedAreNeedless = (depth : ℕ) (t : Tree) (e : Edit) → IsCoarsest depth t → (b : Block) → IsInTree depth b → b.0 ≤ depth → Contains (freed depth t e) b ↔ ((wants_table (edited_map t.map e) b ≡ false) × (is_some (t.table b) ≡ true))
+FreedAreNeedless =
+    (depth : ℕ) (t : Tree) (e : Edit)
+    → IsCoarsest depth t
+    → (b : Block)
+    → IsInTree depth b
+    → b.0 ≤ depth
+    → Contains (freed depth t e) b
+    ↔ ((wants_table (edited_map t.map e) b ≡ false) × (is_some (t.table b) ≡ true))
 
 -- the need is a function of the maps
 abbrev pub NeedOfMaps : Type 0
-NeedOfMaps = (depth : ℕ) (t : Tree) (e : Edit) → IsInRange depth e → IsCoarsest depth t → need depth t e ≡ map_need depth t.map e
+NeedOfMaps =
+    (depth : ℕ) (t : Tree) (e : Edit)
+    → IsInRange depth e
+    → IsCoarsest depth t
+    → need depth t e ≡ map_need depth t.map e
 
--- the tree that has a table at each block is one of its map, whatever the map: so a tree of a map may have more tables than it needs
+-- the tree that has a table at each block is one of its map, whatever the map: so a tree of a map
+-- may have more tables than it needs
 abbrev pub FullIsTree : Type 0
-FullIsTree = (depth : ℕ) (m : Map) (frame : ℕ) → IsTreeOf depth (record { map = m; table = λ b. Some frame })
+FullIsTree =
+    (depth : ℕ) (m : Map) (frame : ℕ) → IsTreeOf depth (record { map = m; table = λ b. Some frame })

@@ -14,8 +14,17 @@ maps_prop m n = hlevel props
 
 precedes_prop : (r n : Run) → IsProp (Precedes r n)
 precedes_prop r n a b =
-    ap (λ (z : (run_end r ≤ n.pages.first.0) × (run_end r ≡ n.pages.first.0 → entry_on r (run_end r) ≡ entry_of_target n.target → ⊥)). record { before = z.0; apart = z.1 })
-    (×_prop le_prop (Π_prop (λ e. Π_prop (λ f u. absurd u))) (a.before, a.apart) (b.before, b.apart))
+    ap
+    (λ
+    (z : (run_end r ≤ n.pages.first.0)
+    × (run_end r ≡ n.pages.first.0
+    → entry_on r (run_end r) ≡ entry_of_target n.target
+    → ⊥)). record {
+      before = z.0;
+      apart = z.1;
+    })
+    (×_prop le_prop (Π_prop (λ e. Π_prop (λ f u. absurd u))) (a.before, a.apart)
+    (b.before, b.apart))
 
 first_prop : (r : Run) (rs : List Run) → IsProp (PrecedesFirst r rs)
 first_prop r [] = Unit-prop

@@ -14,7 +14,8 @@ HasRoomFor None m = Unit {0}
 HasRoomFor (Some c) m = 2 ≤ m.room
 
 -- a plan is for a change, for which the maplets have room
-pub record IsPlanFor {A : Type 0} (c : Option MapChange) (m : KeptMaplets) (p : Plan A) : Type 0 where
+pub record IsPlanFor {A : Type 0} (c : Option MapChange) (m : KeptMaplets)
+    (p : Plan A) : Type 0 where
   pub change : p.change ≡ c
   pub ready : HasRoomFor c m
 

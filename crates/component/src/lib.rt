@@ -95,7 +95,8 @@ impl<A: Allocator> Component<A> {
         requires just { length (frames_of plan.spare.stock) ≡ need_for self.old.tree plan.change }
         requires apart { AreApart self.old.tree (frames_of plan.spare.stock) pool.old }
         requires ready { HasRoomFor plan.change self.old.maplets }
-        ensures { IsEdited (edit_of plan.change) (frames_of plan.spare.stock) self.old.tree pool.old self.new.tree pool.new }
+        ensures { IsEdited (edit_of plan.change)
+            (frames_of plan.spare.stock) self.old.tree pool.old self.new.tree pool.new }
     {
         let Plan { change, spare } = plan;
         match change {
@@ -110,7 +111,8 @@ impl<A: Allocator> Component<A> {
         requires just { length (frames_of spare.stock) ≡ need_for self.old.tree (Some change) }
         requires apart { AreApart self.old.tree (frames_of spare.stock) pool.old }
         requires ready { HasRoomFor (Some change) self.old.maplets }
-        ensures { IsEdited (edit_of (Some change)) (frames_of spare.stock) self.old.tree pool.old self.new.tree pool.new }
+        ensures { IsEdited (edit_of (Some change))
+            (frames_of spare.stock) self.old.tree pool.old self.new.tree pool.new }
     {
         let mut reads = Reads::new();
         let MapChange { range, entry } = change;
@@ -167,7 +169,9 @@ impl<A: Allocator + Copy> Component<A> {
     ) -> Result<Plan<A>, AllocError>
         requires { need ≤ length pool.old.frames }
         ensures planned { IfOk result (IsPlanFor change self.new.maplets) }
-        ensures taken { IfOk result (λ p. IsTaken need self.old.tree pool.old self.new.tree pool.new (frames_of p.spare.stock)) }
+        ensures taken { IfOk result
+            (λ p. IsTaken need self.old.tree pool.old self.new.tree pool.new
+            (frames_of p.spare.stock)) }
         ensures left { OnErr result (IsLeft self.old.tree pool.old self.new.tree pool.new) }
         ensures succeeds { HasRoomFor change self.old.maplets → need ≤ spares_of self.old.tree → IsOk result }
         ensures stays { Stays self.old.tree self.new.tree }

@@ -16,5 +16,6 @@ pub shows_model : (A : Type 0) {J : Type 0} (takes : J → Asked → J → Type 
 shows_model A takes step reply v w from to h other = if_some h.made.makes.told.asked.states
     (λ s. ⊎_elim
     (λ (as_told : IsAsTold reply (contents_in s.1) (told_of s.0 v.cpu step)). as_told)
-    (λ (unchanged : IsUnchanged (contents_in s.0) step reply (contents_in s.1) (told_of s.0 v.cpu step)). absurd (other unchanged.wants.reply_is)))
+    (λ (unchanged : IsUnchanged (contents_in s.0) step reply (contents_in s.1) (told_of s.0 v.cpu step)). absurd
+    (other unchanged.wants.reply_is)))
     h.agrees

@@ -28,12 +28,26 @@ use Rattle.part_table.proofs.Lists.{or_of_get}
 use Rattle.cpu_threads.specs.Machines.{BeginsAtBoot, IsMachineOf, Machine, begun_of}
 
 -- a CPU's own state, by what it stands for and its log
-own_same : (k : CpuState) (limit cpu : ℕ) → k.id ≡ cpu → cpu_of k ≡ no_cpu → k.log.calls ≡ [] → k.log.room ≡ limit → k ≡ record { id = cpu; loaded = None; hand = None; ticket = None; log = record { calls = []; room = limit } }
-own_same k limit cpu own e calls room = λ i. record { id = own i; loaded = (e i).loaded; hand = (e i).hand; ticket = (e i).ticket; log = record { calls = calls i; room = room i } }
+own_same : (k : CpuState) (limit cpu : ℕ)
+    → k.id ≡ cpu
+    → cpu_of k ≡ no_cpu
+    → k.log.calls ≡ []
+    → k.log.room ≡ limit
+    → k ≡ record { id = cpu; loaded = None; hand = None; ticket = None; log = record { calls = []; room = limit } }
+own_same k limit cpu own e calls room =
+    λ i. record {
+      id = own i;
+      loaded = (e i).loaded;
+      hand = (e i).hand;
+      ticket = (e i).ticket;
+      log = record { calls = calls i; room = room i };
+    }
 
 module _ {A : Type 0} where
   -- guests whose logs are empty
-  none_at : (gs : List (GuestPart A)) (j : ℕ) → ((v : ℕ) (g : GuestPart A) → slice_get gs v ≡ Some g → g.log.calls ≡ []) → slice_index_or (map (λ (x : Slot A). (log_of x).calls) (map (λ (g : GuestPart A). GuestSlot g) gs)) j [] ≡ []
+  none_at : (gs : List (GuestPart A)) (j : ℕ)
+      → ((v : ℕ) (g : GuestPart A) → slice_get gs v ≡ Some g → g.log.calls ≡ [])
+      → slice_index_or (map (λ (x : Slot A). (log_of x).calls) (map (λ (g : GuestPart A). GuestSlot g) gs)) j [] ≡ []
   none_at [] j empty = refl
   none_at (g ∷ gs) zero empty = empty 0 g refl
   none_at (g ∷ gs) (suc j) empty = none_at gs j (λ v h e. empty (suc v) h e)
@@ -61,8 +75,11 @@ module _ {A : Type 0} where
     own : (n : ℕ) (k : CpuState) → slice_get p.cpus.items n ≡ Some k → k ≡ own_at_boot p.layout n
     own n k e =
         let calls : k.log.calls ≡ [] = sym (ap (at_place [] (λ (j : CpuState). j.log.calls)) e) ∙ is.no_calls.cpus n in
-        let size : IsOfSize l.config.log k.log = all_get (λ (j : CpuState). IsOfSize l.config.log j.log) p.cpus.items n k p.own_logs e in
-        let content : cpu_of k ≡ no_cpu = sym (ap (at_place no_cpu cpu_of) e) ∙ sym (ap (λ (u : Reference). u.contents.cpu n) is.stands) ∙ ap (λ (f : ℕ → Cpu). f n) idle in
+        let size : IsOfSize l.config.log k.log =
+        all_get (λ (j : CpuState). IsOfSize l.config.log j.log) p.cpus.items n k p.own_logs e in
+        let content : cpu_of k ≡ no_cpu =
+        sym (ap (at_place no_cpu cpu_of) e) ∙ sym (ap (λ (u : Reference). u.contents.cpu n) is.stands)
+        ∙ ap (λ (f : ℕ → Cpu). f n) idle in
         own_same k l.config.log n (p.numbers n k e) content calls (empty_room k calls size)
 
     own_first : (n : ℕ) → n < p.layout.config.cpus → own_in (begun_of p) n ≡ own_at_boot p.layout n
@@ -74,6 +91,8 @@ module _ {A : Type 0} where
     begins_at_boot it made = record {
       logs = λ k below. ap (λ (b : Begun). slice_index_or b.logs k []) made.begun ∙ logs_empty k;
       owns = λ n below.
-          let less : n < p.layout.config.cpus = let same = ap (λ (x : TheLayout). x.config.cpus) made.layout in omega (arith, below, same) in
-          ap (λ (b : Begun). own_in b n) made.begun ∙ own_first n less ∙ ap (λ (x : TheLayout). own_at_boot x n) (sym made.layout);
+          let less : n < p.layout.config.cpus = let same = ap (λ (x : TheLayout). x.config.cpus) made.layout in
+          omega (arith, below, same) in
+          ap (λ (b : Begun). own_in b n) made.begun ∙ own_first n less
+          ∙ ap (λ (x : TheLayout). own_at_boot x n) (sym made.layout);
     }

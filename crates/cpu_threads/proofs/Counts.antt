@@ -38,7 +38,8 @@ module _ (f : Call → Bool) where
   before m zero c cs lt = refl
   before m (suc n) c cs lt =
       let h : calls_by m (c ∷ cs) ≡ calls_by m cs = by_other m c cs (λ e. omega (arith, lt, e)) in
-      ap (λ (l : List Call). length (filter f l) + banded (suc m) n (c ∷ cs)) h ∙ ap (λ k. length (filter f (calls_by m cs)) + k) (before (suc m) n c cs (omega (arith, lt)))
+      ap (λ (l : List Call). length (filter f l) + banded (suc m) n (c ∷ cs)) h
+      ∙ ap (λ k. length (filter f (calls_by m cs)) + k) (before (suc m) n c cs (omega (arith, lt)))
 
   added : (a b p : ℕ) → (p + a) + b ≡ p + (a + b)
   added a b p = omega arith
@@ -47,7 +48,10 @@ module _ (f : Call → Bool) where
   moved a b p = omega arith
 
   -- a call of one of these
-  within : (m n : ℕ) (c : Call) (cs : List Call) → m ≤ c.cpu → c.cpu < m + n → banded m n (c ∷ cs) ≡ one_if (f c) + banded m n cs
+  within : (m n : ℕ) (c : Call) (cs : List Call)
+      → m ≤ c.cpu
+      → c.cpu < m + n
+      → banded m n (c ∷ cs) ≡ one_if (f c) + banded m n cs
   within m zero c cs le lt = absurd (omega (arith, le, lt))
   within m (suc n) c cs le lt = dite (ℕ_discrete c.cpu m)
       (λ e. ap (λ (l : List Call). length (filter f l) + banded (suc m) n (c ∷ cs)) (by_same m c cs e)
@@ -55,10 +59,13 @@ module _ (f : Call → Bool) where
       ∙ (ap (λ k. (one_if (f c) + length (filter f (calls_by m cs))) + k) (before (suc m) n c cs (omega (arith, e)))
       ∙ added (length (filter f (calls_by m cs))) (banded (suc m) n cs) (one_if (f c)))))
       (λ ne. ap (λ (l : List Call). length (filter f l) + banded (suc m) n (c ∷ cs)) (by_other m c cs ne)
-      ∙ (ap (λ k. length (filter f (calls_by m cs)) + k) (within (suc m) n c cs (omega (arith, le, ne)) (omega (arith, lt)))
+      ∙ (ap (λ k. length (filter f (calls_by m cs)) + k)
+      (within (suc m) n c cs (omega (arith, le, ne)) (omega (arith, lt)))
       ∙ moved (length (filter f (calls_by m cs))) (banded (suc m) n cs) (one_if (f c))))
 
   -- all calls are of some CPU below n
   pub all_within : (n : ℕ) (cs : List Call) → All (λ c. c.cpu < n) cs → banded 0 n cs ≡ length (filter f cs)
   all_within n [] all = nothing 0 n
-  all_within n (c ∷ cs) all = let lt = All-head (λ d. d.cpu < n) c cs all in within 0 n c cs (omega arith) (omega (arith, lt)) ∙ (ap (λ k. one_if (f c) + k) (all_within n cs (All-tail (λ d. d.cpu < n) c cs all)) ∙ sym (pick c cs))
+  all_within n (c ∷ cs) all = let lt = All-head (λ d. d.cpu < n) c cs all in
+      within 0 n c cs (omega arith) (omega (arith, lt))
+      ∙ (ap (λ k. one_if (f c) + k) (all_within n cs (All-tail (λ d. d.cpu < n) c cs all)) ∙ sym (pick c cs))

@@ -1,4 +1,5 @@
--- A pass may cross to another thread, and a machine may be shared by threads, where the tables of all trees lie in the heap.
+-- A pass may cross to another thread, and a machine may be shared by threads, where the tables of all trees lie in the
+-- heap.
 use denote.RattleType.{RattleType}
 use denote.Hole.{as_row}
 use denote.Param.Send.{IsSend, IsSync, sendable, part_keyless}
@@ -170,10 +171,14 @@ maybe_ticket_sync : IsSync (Option.the_row Ticket.the_row)
 maybe_ticket_sync = search (sendable, ticket_sync) depth 40
 
 cpu_send : IsSend CpuState.the_row
-cpu_send = declared_send CpuState.the_type (number_send, (maybe_loaded_send, (maybe_range_send, (maybe_ticket_send, (log_send, tt)))))
+cpu_send =
+    declared_send CpuState.the_type
+    (number_send, (maybe_loaded_send, (maybe_range_send, (maybe_ticket_send, (log_send, tt)))))
 
 cpu_sync : IsSync CpuState.the_row
-cpu_sync = declared_sync CpuState.the_type (number_sync, (maybe_loaded_sync, (maybe_range_sync, (maybe_ticket_sync, (log_sync, tt)))))
+cpu_sync =
+    declared_sync CpuState.the_type
+    (number_sync, (maybe_loaded_sync, (maybe_range_sync, (maybe_ticket_sync, (log_sync, tt)))))
 
 component_send : IsSend (Component.the_row Heap.the_row ghosts)
 component_send = declared_send (Component.the_type Heap.the_row ghosts) (tree_send, (maplets_send, tt))
@@ -188,10 +193,14 @@ vm_part_sync : IsSync VmPart.the_row
 vm_part_sync = declared_sync VmPart.the_type (vms_sync, (log_sync, tt))
 
 shared_send : IsSend (SharedPart.the_row Heap.the_row ghosts)
-shared_send = declared_send (SharedPart.the_type Heap.the_row ghosts) (component_send, (component_send, (pool_send, (rows_send, (log_send, tt)))))
+shared_send =
+    declared_send (SharedPart.the_type Heap.the_row ghosts)
+    (component_send, (component_send, (pool_send, (rows_send, (log_send, tt)))))
 
 shared_sync : IsSync (SharedPart.the_row Heap.the_row ghosts)
-shared_sync = declared_sync (SharedPart.the_type Heap.the_row ghosts) (component_sync, (component_sync, (pool_sync, (rows_sync, (log_sync, tt)))))
+shared_sync =
+    declared_sync (SharedPart.the_type Heap.the_row ghosts)
+    (component_sync, (component_sync, (pool_sync, (rows_sync, (log_sync, tt)))))
 
 phase_send : IsSend Phase.the_row
 phase_send = search (sendable, crosses) depth 40 fits 5000
@@ -200,10 +209,14 @@ phase_sync : IsSync Phase.the_row
 phase_sync = search (sendable, crosses) depth 40 fits 5000
 
 body_send : IsSend (Body.the_row Heap.the_row ghosts)
-body_send = declared_send (Body.the_type Heap.the_row ghosts) (phase_send, (number_send, (kind_send, (component_send, (pool_send, tt)))))
+body_send =
+    declared_send (Body.the_type Heap.the_row ghosts)
+    (phase_send, (number_send, (kind_send, (component_send, (pool_send, tt)))))
 
 body_sync : IsSync (Body.the_row Heap.the_row ghosts)
-body_sync = declared_sync (Body.the_type Heap.the_row ghosts) (phase_sync, (number_sync, (kind_sync, (component_sync, (pool_sync, tt)))))
+body_sync =
+    declared_sync (Body.the_type Heap.the_row ghosts)
+    (phase_sync, (number_sync, (kind_sync, (component_sync, (pool_sync, tt)))))
 
 maybe_body_send : IsSend (Option.the_row (Body.the_row Heap.the_row ghosts))
 maybe_body_send = search (sendable, body_send) depth 40
@@ -224,10 +237,12 @@ guest_part_sync : IsSync (GuestPart.the_row Heap.the_row ghosts)
 guest_part_sync = declared_sync (GuestPart.the_type Heap.the_row ghosts) (guest_sync, (log_sync, tt))
 
 part_send : IsSend (Slot.the_row Heap.the_row ghosts)
-part_send = variants_send (Slot.enum Heap.the_row ghosts) ((vm_part_send, tt), ((shared_send, tt), ((guest_part_send, tt), tt)))
+part_send =
+    variants_send (Slot.enum Heap.the_row ghosts) ((vm_part_send, tt), ((shared_send, tt), ((guest_part_send, tt), tt)))
 
 part_sync : IsSync (Slot.the_row Heap.the_row ghosts)
-part_sync = variants_sync (Slot.enum Heap.the_row ghosts) ((vm_part_sync, tt), ((shared_sync, tt), ((guest_part_sync, tt), tt)))
+part_sync =
+    variants_sync (Slot.enum Heap.the_row ghosts) ((vm_part_sync, tt), ((shared_sync, tt), ((guest_part_sync, tt), tt)))
 
 abbrev slot : RattleType
 slot = Option.the_row (Slot.the_row Heap.the_row ghosts)
@@ -249,10 +264,36 @@ seat_sync : IsSync (Seat.the_row slot view)
 seat_sync = record { shared = λ d b o ν q. part_keyless (Seat.the_row slot view) seat_send q d b o }
 
 pub pass_send : IsSend (CpuPass.the_row Heap.the_row ghosts)
-pass_send = search (sendable, crosses, call_send, slot_send, log_send, maybe_loaded_send, maybe_range_send, maybe_ticket_send, shared_send, guest_part_send, SeatSend.the_send) depth 40 fits 5000
+pass_send =
+    search (
+      sendable,
+      crosses,
+      call_send,
+      slot_send,
+      log_send,
+      maybe_loaded_send,
+      maybe_range_send,
+      maybe_ticket_send,
+      shared_send,
+      guest_part_send,
+      SeatSend.the_send,
+    ) depth 40 fits 5000
 
 pub pass_sync : IsSync (CpuPass.the_row Heap.the_row ghosts)
-pass_sync = search (sendable, crosses, call_sync, slot_sync, log_sync, maybe_loaded_sync, maybe_range_sync, maybe_ticket_sync, shared_sync, guest_part_sync, seat_sync) depth 40 fits 5000
+pass_sync =
+    search (
+      sendable,
+      crosses,
+      call_sync,
+      slot_sync,
+      log_sync,
+      maybe_loaded_sync,
+      maybe_range_sync,
+      maybe_ticket_sync,
+      shared_sync,
+      guest_part_sync,
+      seat_sync,
+    ) depth 40 fits 5000
 
 maybe_pass_send : IsSend (Option.the_row (CpuPass.the_row Heap.the_row ghosts))
 maybe_pass_send = search (sendable, pass_send) depth 40
@@ -261,7 +302,19 @@ maybe_pass_sync : IsSync (Option.the_row (CpuPass.the_row Heap.the_row ghosts))
 maybe_pass_sync = search (sendable, pass_sync) depth 40
 
 table_sync : IsSync (PartTable.the_row Heap.the_row ghosts)
-table_sync = search (sendable, crosses, slot_send, seat_sync, layout_sync, SharedSend.the_sync, LeaseSend.the_sync, sync, send, frees) depth 40 fits 5000
+table_sync =
+    search (
+      sendable,
+      crosses,
+      slot_send,
+      seat_sync,
+      layout_sync,
+      SharedSend.the_sync,
+      LeaseSend.the_sync,
+      sync,
+      send,
+      frees,
+    ) depth 40 fits 5000
 
 pub machine_sync : IsSync (Machine.the_row Heap.the_row ghosts)
 machine_sync = search (sendable, crosses, table_sync, maybe_pass_sync) depth 40 fits 5000

@@ -29,14 +29,18 @@ shared_listed zero e = absurd (true≢false (sym e))
 shared_listed (suc zero) e = inl refl
 shared_listed (suc (suc v)) e = absurd (true≢false (sym e))
 
-both_listed : (slot : Option ℕ) (j : ℕ) → is_used shared_and_guest slot (part_of j) ≡ true → IsIn j (in_order (parts_of shared_and_guest slot))
+both_listed : (slot : Option ℕ) (j : ℕ)
+    → is_used shared_and_guest slot (part_of j) ≡ true
+    → IsIn j (in_order (parts_of shared_and_guest slot))
 both_listed slot zero e = absurd (true≢false (sym e))
 both_listed None (suc zero) e = absurd (true≢false (sym e))
 both_listed (Some u) (suc zero) e = inl refl
 both_listed None (suc (suc v)) e = absurd (true≢false (sym e))
 both_listed (Some u) (suc (suc v)) e = let same : v ≡ u = eqb-true v u e in inr (inl (omega (arith, same)))
 
-guest_listed : (slot : Option ℕ) (j : ℕ) → is_used guest slot (part_of j) ≡ true → IsIn j (in_order (parts_of guest slot))
+guest_listed : (slot : Option ℕ) (j : ℕ)
+    → is_used guest slot (part_of j) ≡ true
+    → IsIn j (in_order (parts_of guest slot))
 guest_listed slot zero e = absurd (true≢false (sym e))
 guest_listed slot (suc zero) e = absurd (true≢false (sym e))
 guest_listed None (suc (suc v)) e = absurd (true≢false (sym e))
@@ -51,12 +55,16 @@ or_vms_listed : (b : Bool) → b ≡ true → IsIn 0 (in_order (or_vms b Nothing
 or_vms_listed true e = inl refl
 or_vms_listed false e = absurd (true≢false (sym e))
 
-vms_of_listed : (vm : VmId) (j : ℕ) → is_used (vms_of vm) None (part_of j) ≡ true → IsIn j (in_order (parts_of (vms_of vm) None))
+vms_of_listed : (vm : VmId) (j : ℕ)
+    → is_used (vms_of vm) None (part_of j) ≡ true
+    → IsIn j (in_order (parts_of (vms_of vm) None))
 vms_of_listed vm zero e = or_vms_listed (nat_lt vm.slot 64) e
 vms_of_listed vm (suc zero) e = absurd (true≢false (sym e))
 vms_of_listed vm (suc (suc v)) e = absurd (true≢false (sym e))
 
-listed : (step : Step) (k : Cpu) (j : ℕ) → is_used (names step) (guest_slot k step) (part_of j) ≡ true → IsIn j (in_order (parts_of (names step) (guest_slot k step)))
+listed : (step : Step) (k : Cpu) (j : ℕ)
+    → is_used (names step) (guest_slot k step) (part_of j) ≡ true
+    → IsIn j (in_order (parts_of (names step) (guest_slot k step)))
 listed (ShareHyp f) k j = shared_listed j
 listed (UnshareHyp f) k j = shared_listed j
 listed (DonateHyp f n) k j = shared_listed j
@@ -94,30 +102,46 @@ module _ (c : Call) (v w : Known) where
 
   rooms : (ks : List ℕ) (ts : List Try) → AllTaken c v w ks ts → All (λ t. FoundRoom t.1) ts
   rooms [] ts e = subst (All (λ (t : Try). FoundRoom t.1)) (sym e) (All-nil (λ (t : Try). FoundRoom t.1))
-  rooms (k ∷ ks) ts a = subst (All (λ (t : Try). FoundRoom t.1)) (sym a.2) (All-cons (λ (t : Try). FoundRoom t.1) (k, Some a.0) a.1 (a.0, refl, a.3) (rooms ks a.1 a.6))
+  rooms (k ∷ ks) ts a =
+      subst (All (λ (t : Try). FoundRoom t.1)) (sym a.2)
+      (All-cons (λ (t : Try). FoundRoom t.1) (k, Some a.0) a.1 (a.0, refl, a.3) (rooms ks a.1 a.6))
 
   abbrev Grows : ℕ → Type 0
-  Grows k = StartsWith (seen_at w.seen k) (seen_at v.seen k) × ((before : List Call) × (seen_at w.seen k ≡ before ++ c ∷ []))
+  Grows k =
+      StartsWith (seen_at w.seen k) (seen_at v.seen k) × ((before : List Call) × (seen_at w.seen k ≡ before ++ c ∷ []))
 
   grows : (ks : List ℕ) (ts : List Try) → AllTaken c v w ks ts → (k : ℕ) → IsIn k ks → Grows k
   grows [] ts a k e = absurd e
   grows (j ∷ js) ts a k e = ⊎_elim
-      (λ is. subst Grows (sym is) ((a.4.0 ++ c ∷ [], a.5 ∙ (ap (λ (l : List Call). l ++ c ∷ []) a.4.1 ∙ append_assoc (seen_at v.seen j) a.4.0 (c ∷ []))), (a.0.calls, a.5)))
+      (λ is. subst Grows (sym is) (
+        (
+          a.4.0 ++ c ∷ [],
+          a.5
+              ∙ (ap (λ (l : List Call). l ++ c ∷ []) a.4.1 ∙ append_assoc (seen_at v.seen j) a.4.0 (c ∷ [])),
+        ),
+        (a.0.calls, a.5),
+      ))
       (λ (o : IsIn k js). grows js a.1 a.6 k o)
       e
 
 abbrev Told : Known → Known → Call → ℕ → Type 0
-Told v w c k = StartsWith (seen_at w.seen k) (seen_at v.seen k) × (uses c k ≡ true → (before : List Call) × (seen_at w.seen k ≡ before ++ c ∷ []))
+Told v w c k =
+    StartsWith (seen_at w.seen k) (seen_at v.seen k)
+    × (uses c k ≡ true → (before : List Call) × (seen_at w.seen k ≡ before ++ c ∷ []))
 
 pub seen_grows : SeenGrows
 seen_grows step reply v w s k = by (uses s.call k) refl
   where
     used : uses s.call k ≡ true → IsIn k (used_by step v)
-    used e = listed step (cpu_of v.own) k (subst (λ (z : Step × Option ℕ). is_used (names z.0) z.1 (part_of k) ≡ true) (λ i. (s.called.asked i, s.called.slot i)) e)
+    used e =
+        listed step (cpu_of v.own) k
+        (subst (λ (z : Step × Option ℕ). is_used (names z.0) z.1 (part_of k) ≡ true)
+        (λ i. (s.called.asked i, s.called.slot i)) e)
 
     by : (b : Bool) → uses s.call k ≡ b → Told v w s.call k
     by true e = let g = grows s.call v w (used_by step v) s.tries s.taken k (used e) in (g.0, λ _. g.1)
     by false e = (([], s.added.others k e ∙ sym (append-nil (seen_at v.seen k))), λ t. absurd (true≢false (sym t ∙ e)))
 
 pub takes_each : TakesEach
-takes_each step reply v w s = (numbers s.call v w (used_by step v) s.tries s.taken, rooms s.call v w (used_by step v) s.tries s.taken)
+takes_each step reply v w s =
+    (numbers s.call v w (used_by step v) s.tries s.taken, rooms s.call v w (used_by step v) s.tries s.taken)

@@ -20,12 +20,16 @@ use Rattle.cpu_threads.specs.declared.init.InitStage.{InitStage}
 use Rattle.cpu_threads.specs.declared.init.InitStage.TheVariants.{Reserve, Fund as FundStage, Install as InstallStage, Open}
 
 -- a stored call adds itself
-one_more : (step : Step) (reply : Reply) (v w : Known) → IsStored reply → IsCallOf step reply v w → HasMore ((step, reply) ∷ []) v w
+one_more : (step : Step) (reply : Reply) (v w : Known)
+    → IsStored reply
+    → IsCallOf step reply v w
+    → HasMore ((step, reply) ∷ []) v w
 one_more step reply v w stored is =
     let h = is.stored stored in
     let c : Call = h.stores.call in (
       c ∷ [],
-      ap (λ (g : StoredCalls). g.calls) h.stores.added.own ∙ ap (λ (k : CpuState). k.log.calls ++ c ∷ []) h.met.same.own,
+      ap (λ (g : StoredCalls). g.calls) h.stores.added.own
+          ∙ ap (λ (k : CpuState). k.log.calls ++ c ∷ []) h.met.same.own,
       λ i. (h.stores.called.asked i, h.stores.reply_is i) ∷ [],
     )
 
@@ -45,7 +49,9 @@ made_more : (step : Step) (v w : Known) (m : IsMade step v w) → HasMore ((step
 made_more step v w m = one_more step (Done m.0) v w tt m.1
 
 module _ (kind : VmKind) (vcpus pfn n : ℕ) where
-  all_four : (vm : VmId) (v w : Known) → InitsVm kind vcpus pfn n (Ok vm) v w → AddsTo kind vcpus pfn n Open (Done (Vm vm)) v w
+  all_four : (vm : VmId) (v w : Known)
+      → InitsVm kind vcpus pfn n (Ok vm) v w
+      → AddsTo kind vcpus pfn n Open (Done (Vm vm)) v w
   all_four vm v w h =
       let first = made_more (VmReserve kind vcpus) v h.0 h.3 in
       let second = then_more _ _ v h.0 h.1 first (made_more (Fund pfn n) h.0 h.1 h.4) in
@@ -56,11 +62,15 @@ module _ (kind : VmKind) (vcpus pfn n : ℕ) where
         then_more _ _ v h.2 w third (one_more VmOpen (Done (Vm vm)) h.2 w tt h.6),
       )
 
-  up_to : (stage : InitStage) (why : Refusal) (v w : Known) → IsStored (Refused why) → IsRefusedAt kind vcpus pfn n stage why v w → AddsTo kind vcpus pfn n stage (Refused why) v w
+  up_to : (stage : InitStage) (why : Refusal) (v w : Known)
+      → IsStored (Refused why)
+      → IsRefusedAt kind vcpus pfn n stage why v w
+      → AddsTo kind vcpus pfn n stage (Refused why) v w
   up_to Reserve why v w stored h = one_more (VmReserve kind vcpus) (Refused why) v w stored h
   up_to FundStage why v w stored h = (
     h.1.0,
-    then_more _ _ v h.0 w (made_more (VmReserve kind vcpus) v h.0 h.1) (one_more (Fund pfn n) (Refused why) h.0 w stored h.2),
+    then_more _ _ v h.0 w (made_more (VmReserve kind vcpus) v h.0 h.1)
+        (one_more (Fund pfn n) (Refused why) h.0 w stored h.2),
   )
   up_to InstallStage why v w stored h =
       let first = made_more (VmReserve kind vcpus) v h.0 h.2 in
@@ -80,7 +90,8 @@ module _ (kind : VmKind) (vcpus pfn n : ℕ) where
       )
 
 pub init_adds : InitAdds
-init_adds kind vcpus pfn n v w = (λ vm h. all_four kind vcpus pfn n vm v w h, λ stage why stored h. up_to kind vcpus pfn n stage why v w stored h)
+init_adds kind vcpus pfn n v w =
+    (λ vm h. all_four kind vcpus pfn n vm v w h, λ stage why stored h. up_to kind vcpus pfn n stage why v w stored h)
 
 pub missing_one : MissingOne
 missing_one passes given l all = let h = all l.cpu l.below l.out in l.none h.place h.pass h.there h.cpu

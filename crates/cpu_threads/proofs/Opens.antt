@@ -21,7 +21,10 @@ use Rattle.reference_model.specs.model.Used.{Used}
 use Rattle.part_table.specs.Known.{Known}
 use Rattle.cpu_threads.specs.Machines.{StoresInTheEnd}
 
-runs_last : {R : Type 0} → (Go : R → Call → R → Type 0) (cs : List Call) (s t : R) (c : Call) → Runs Go s (cs ++ c ∷ []) t → (m : R) × Go m c t
+runs_last : {R : Type 0}
+    → (Go : R → Call → R → Type 0) (cs : List Call) (s t : R) (c : Call)
+    → Runs Go s (cs ++ c ∷ []) t
+    → (m : R) × Go m c t
 runs_last Go [] s t c r = (s, subst (λ z. Go s c z) r.2 r.1)
 runs_last Go (d ∷ cs) s t c r = runs_last Go cs r.0 t c r.2
 
@@ -39,25 +42,48 @@ abbrev vm_in : Value → VmId
 vm_in (Vm vm) = vm
 vm_in other = no_vm
 
-opened_value : (l : Layout) (cpu : ℕ) (slot : Option ℕ) (x : Used) → (rule l cpu slot VmOpen x).changes.value ≡ Vm (vm_in (rule l cpu slot VmOpen x).changes.value)
+opened_value : (l : Layout) (cpu : ℕ) (slot : Option ℕ) (x : Used)
+    → (rule l cpu slot VmOpen x).changes.value ≡ Vm (vm_in (rule l cpu slot VmOpen x).changes.value)
 unfolding rule
 opened_value l cpu slot x = refl
 
 module _ (l : Layout) (s t : Reference) (c : Call) (v : Value) (opens : c.step ≡ VmOpen) (told : c.reply ≡ Done v) where
-  by_full : (y : Used) → (q : Rattle.reference_model.specs.model.Used.UsedRooms) → FindsFull c (used_by c s) (rooms_by c s) y q → (vm : VmId) × (v ≡ Vm vm)
+  by_full : (y : Used)
+      → (q : Rattle.reference_model.specs.model.Used.UsedRooms)
+      → FindsFull c (used_by c s) (rooms_by c s) y q
+      → (vm : VmId) × (v ≡ Vm vm)
   by_full y q f = let never : Done v ≡ Refused LogFull = sym told ∙ f.reply in cc
 
-  by_answer : (y : Used) → IsMade l c.cpu c.slot c.step (used_by c s) c.reply y ⊎ (IsRefused l c.cpu c.slot c.step (used_by c s) c.reply y ⊎ IsWanting l c.cpu c.slot c.step true (used_by c s) c.reply y) → (vm : VmId) × (v ≡ Vm vm)
+  by_answer : (y : Used)
+      → IsMade l c.cpu c.slot c.step (used_by c s) c.reply y
+      ⊎ (IsRefused l c.cpu c.slot c.step (used_by c s) c.reply y
+      ⊎ IsWanting l c.cpu c.slot c.step true (used_by c s) c.reply y)
+      → (vm : VmId) × (v ≡ Vm vm)
   by_answer y h = ⊎_elim
-      (λ (m : IsMade l c.cpu c.slot c.step (used_by c s) c.reply y). (vm_in (rule l c.cpu c.slot VmOpen (used_by c s)).changes.value, done_same v (rule l c.cpu c.slot c.step (used_by c s)).changes.value (sym told ∙ m.reply_is) ∙ (ap (λ (st : Step). (rule l c.cpu c.slot st (used_by c s)).changes.value) opens ∙ opened_value l c.cpu c.slot (used_by c s))))
-      (λ (n : IsRefused l c.cpu c.slot c.step (used_by c s) c.reply y ⊎ IsWanting l c.cpu c.slot c.step true (used_by c s) c.reply y). ⊎_elim
-      (λ (r : IsRefused l c.cpu c.slot c.step (used_by c s) c.reply y). let never : Done v ≡ Refused r.why = sym told ∙ r.reply_is in cc)
-      (λ (w : IsWanting l c.cpu c.slot c.step true (used_by c s) c.reply y). let never : Done v ≡ Refused NoMemory = sym told ∙ w.reply_is in cc)
+      (λ (m : IsMade l c.cpu c.slot c.step (used_by c s) c.reply y). (
+        vm_in (rule l c.cpu c.slot VmOpen (used_by c s)).changes.value,
+        done_same v (rule l c.cpu c.slot c.step (used_by c s)).changes.value (sym told ∙ m.reply_is)
+            ∙ (ap (λ (st : Step). (rule l c.cpu c.slot st (used_by c s)).changes.value) opens
+            ∙ opened_value l c.cpu c.slot (used_by c s)),
+      ))
+      (λ
+      (n : IsRefused l c.cpu c.slot c.step (used_by c s) c.reply y
+      ⊎ IsWanting l c.cpu c.slot c.step true (used_by c s) c.reply y). ⊎_elim
+      (λ (r : IsRefused l c.cpu c.slot c.step (used_by c s) c.reply y). let never : Done v ≡ Refused r.why =
+      sym told ∙ r.reply_is in
+      cc)
+      (λ (w : IsWanting l c.cpu c.slot c.step true (used_by c s) c.reply y). let never : Done v ≡ Refused NoMemory =
+      sym told ∙ w.reply_is in
+      cc)
       n)
       h
 
   step_opens : Steps l s c t → (vm : VmId) × (v ≡ Vm vm)
-  step_opens h = ⊎_elim (λ f. by_full h.after h.left f) (λ (a : IsStoredAnswer l c (used_by c s) (rooms_by c s) h.after h.left). by_answer h.after a.answered) h.on.answers
+  step_opens h =
+      ⊎_elim (λ f. by_full h.after h.left f)
+      (λ
+      (a : IsStoredAnswer l c (used_by c s) (rooms_by c s) h.after h.left). by_answer h.after
+      a.answered) h.on.answers
 
 pub open_answers : (v : Value) (u w : Known) → StoresInTheEnd VmOpen (Done v) u w → (vm : VmId) × (v ≡ Vm vm)
 open_answers v u w h =

@@ -61,7 +61,10 @@ module _ {A : Type 0} where
         let is : IsGuest l s v p = h in
         subst IsLowGuest (sym is.content) (low_guest l ready s.contents legal v)
 
-    can_record : (held : ℕ → Option (Slot A)) (cpu : ℕ) (own : CpuState) → ((k : ℕ) (x : Slot A) → held k ≡ Some x → IsPart l s k x) → IsOwn l s cpu own → CanRecord held own
+    can_record : (held : ℕ → Option (Slot A)) (cpu : ℕ) (own : CpuState)
+        → ((k : ℕ) (x : Slot A) → held k ≡ Some x → IsPart l s k x)
+        → IsOwn l s cpu own
+        → CanRecord held own
     can_record held cpu own parts mine = record {
       kinds = λ k x e. kind_of l s k x (parts k x e);
       guests = λ k p e. guest_of k p (parts k (GuestSlot p) e);
@@ -75,19 +78,41 @@ module _ {A : Type 0} where
     own_low = untold_cpu (cpu_of own) (∥∥₁_map h (λ c. c.own_low));
   }
 
-  module _ (l : Layout) (cpu : ℕ) (own : CpuState) (before : ℕ → Option (Slot A)) (left : ∥ IsLeft l cpu own before ∥₁) where
+  module _ (l : Layout) (cpu : ℕ) (own : CpuState) (before : ℕ → Option (Slot A))
+      (left : ∥ IsLeft l cpu own before ∥₁) where
     pub can_before : CanRecord before own
-    can_before = untold_run before own (∥∥₁_map left (λ h. can_record l h.ready h.state (run_legal l h.log h.state h.ready h.run) before cpu own (part_left h) (own_left cpu own h)))
+    can_before =
+        untold_run before own
+        (∥∥₁_map left
+        (λ h. can_record l h.ready h.state (run_legal l h.log h.state h.ready h.run) before cpu own
+        (part_left h) (own_left cpu own h)))
 
-    pub can_after : (c : Call) (after : ℕ → Option (Slot A)) (owned : CpuState) → cpu < l.config.cpus → c.cpu ≡ cpu → Does l c before own after owned → CanRecord after owned
+    pub can_after : (c : Call) (after : ℕ → Option (Slot A)) (owned : CpuState)
+        → cpu < l.config.cpus
+        → c.cpu ≡ cpu
+        → Does l c before own after owned
+        → CanRecord after owned
     can_after c after owned known by does = untold_run after owned (∥∥₁_map left (λ h.
         let t = does.goes h.state (part_left h) (subst (λ n. IsOwn l h.state n own) (sym by) (own_left cpu own h)) in
-        can_record l h.ready t.0 (legal_keeps l h.state t.0 c (ready-usable l h.ready) (subst (λ n. n < l.config.cpus) (sym by) known) (run_legal l h.log h.state h.ready h.run) t.1) after c.cpu owned t.2 t.3))
+        can_record l h.ready t.0
+        (legal_keeps l h.state t.0 c (ready-usable l h.ready) (subst (λ n. n < l.config.cpus) (sym by) known)
+        (run_legal l h.log h.state h.ready h.run) t.1) after c.cpu owned t.2 t.3))
 
     -- its CPU's number stays
-    pub id_after : (c : Call) (after : ℕ → Option (Slot A)) (owned : CpuState) → c.cpu ≡ cpu → Does l c before own after owned → owned.id ≡ c.cpu
-    id_after c after owned by does = ∥∥₁_elim left (nat_prop owned.id c.cpu) (λ h. let t = does.goes h.state (part_left h) (subst (λ n. IsOwn l h.state n own) (sym by) (own_left cpu own h)) in t.3.id)
+    pub id_after : (c : Call) (after : ℕ → Option (Slot A)) (owned : CpuState)
+        → c.cpu ≡ cpu
+        → Does l c before own after owned
+        → owned.id ≡ c.cpu
+    id_after c after owned by does =
+        ∥∥₁_elim left (nat_prop owned.id c.cpu)
+        (λ h. let t =
+        does.goes h.state (part_left h) (subst (λ n. IsOwn l h.state n own) (sym by) (own_left cpu own h)) in
+        t.3.id)
 
     -- and its next generation is a number of 64 bits
     pub next_before : (step : Step) → HasNextGeneration (cpu_of own).ticket step
-    next_before step = untold_next (cpu_of own).ticket step (∥∥₁_map left (λ h. subst (λ (k : Cpu). HasNextGeneration k.ticket step) (sym (own_left cpu own h).content) (run_has_next l h.log h.state h.ready h.run cpu step)))
+    next_before step =
+        untold_next (cpu_of own).ticket step
+        (∥∥₁_map left
+        (λ h. subst (λ (k : Cpu). HasNextGeneration k.ticket step) (sym (own_left cpu own h).content)
+        (run_has_next l h.log h.state h.ready h.run cpu step)))

@@ -10,7 +10,10 @@ use Rattle.cpu_threads.specs.Laws.{StopAt, StopsAtAnother, StopsAtFullLog}
 
 module _ (Last : Option StoredCalls → Type 0) where
   -- one part before these was taken with room
-  stop_later : (k : ℕ) (x : Option StoredCalls) (ks : List ℕ) (ts : List Try) → FoundRoom x → StopAt Last ks ts → StopAt Last (k ∷ ks) ((k, x) ∷ ts)
+  stop_later : (k : ℕ) (x : Option StoredCalls) (ks : List ℕ) (ts : List Try)
+      → FoundRoom x
+      → StopAt Last ks ts
+      → StopAt Last (k ∷ ks) ((k, x) ∷ ts)
   stop_later k x ks ts room s = record {
     before = (k, x) ∷ s.before;
     last = s.last;
@@ -34,19 +37,28 @@ module _ (Last : Option StoredCalls → Type 0) where
       (λ (h : FoundRoom e.0 × EndsIn Last ks e.1). stop_later k e.0 ks e.1 h.0 (stop_at ks e.1 h.1))
       e.3)
 
-met_at : (v w : Known) (ts : List Try) → w.tries ≡ v.tries ++ ts → (ks : List ℕ) → StopAt FoundAway ks ts → MeetsAnother v w
+met_at : (v w : Known) (ts : List Try)
+    → w.tries ≡ v.tries ++ ts
+    → (ks : List ℕ)
+    → StopAt FoundAway ks ts
+    → MeetsAnother v w
 met_at v w ts tried ks s = record {
   part = s.last.0;
   before = s.before;
   after = [];
-  tried = tried ∙ ap (λ (l : List Try). v.tries ++ l) (s.all ∙ ap (λ (o : Option StoredCalls). s.before ++ (s.last.0, o) ∷ []) s.found);
+  tried =
+      tried
+      ∙ ap (λ (l : List Try). v.tries ++ l)
+      (s.all ∙ ap (λ (o : Option StoredCalls). s.before ++ (s.last.0, o) ∷ []) s.found);
 }
 
 pub stops_at_another : StopsAtAnother
-stops_at_another step v w f = let s = stop_at FoundAway (used_by step v) f.tries f.away in (s, met_at v w f.tries f.tried (used_by step v) s)
+stops_at_another step v w f = let s = stop_at FoundAway (used_by step v) f.tries f.away in
+    (s, met_at v w f.tries f.tried (used_by step v) s)
 
 pub stops_at_full_log : StopsAtFullLog
 stops_at_full_log step v w f = ⊎_elim
     (λ (h : (v.own.log.room ≡ 0) × (f.tries ≡ [])). inl h)
-    (λ (h : (v.own.log.room ≢ 0) × EndsIn FoundFull (used_by step v) f.tries). inr (stop_at FoundFull (used_by step v) f.tries h.1))
+    (λ (h : (v.own.log.room ≢ 0) × EndsIn FoundFull (used_by step v) f.tries). inr
+    (stop_at FoundFull (used_by step v) f.tries h.1))
     f.full

@@ -16,7 +16,9 @@ module _ (f : Call → Bool) where
   given_end (q ∷ ps) p = let h = given_end ps p in omega (arith, h)
 
   -- a pass comes to a place that is free
-  pub total_set : (ps : List (Option Pass)) (n : ℕ) (p : Pass) → slice_get ps n ≡ Some None → total f (slice_set ps n (Some p)) ≡ total f ps + of_pass f (Some p)
+  pub total_set : (ps : List (Option Pass)) (n : ℕ) (p : Pass)
+      → slice_get ps n ≡ Some None
+      → total f (slice_set ps n (Some p)) ≡ total f ps + of_pass f (Some p)
   total_set [] n p e = absurd cc
   total_set (o ∷ os) zero p e = let z : of_pass f o ≡ 0 = ap (of_pass f) (ap (from o) e) in omega (arith, z)
   total_set (o ∷ os) (suc n) p e = let h = total_set os n p e in omega (arith, h)

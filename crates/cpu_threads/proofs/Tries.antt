@@ -20,24 +20,45 @@ use Rattle.cpu_threads.specs.Machines.{AreFresh, AreTheirs, HandsOut, MeetsOnly}
 use Rattle.cpu_threads.proofs.Ends.{get_bound, get_set_here}
 
 pub same_on : (u v w : Known) → IsSame u v → IsSame v w → IsSame u w
-same_on u v w a b = record { layout = b.layout ∙ a.layout; cpu = b.cpu ∙ a.cpu; own = b.own ∙ a.own; seen = b.seen ∙ a.seen }
+same_on u v w a b =
+    record { layout = b.layout ∙ a.layout; cpu = b.cpu ∙ a.cpu; own = b.own ∙ a.own; seen = b.seen ∙ a.seen }
 
 -- before the first try
 pub meets_none : (step : Step) (v : Known) → MeetsOnly step v v
-meets_none step v = record { same = record { layout = refl; cpu = refl; own = refl; seen = refl }; rounds = []; tried = sym (append-nil v.tries); away = All-nil (λ ts. (v.own.log.room ≢ 0) × EndsIn FoundAway (used_by step v) ts) }
+meets_none step v =
+    record {
+      same = record { layout = refl; cpu = refl; own = refl; seen = refl };
+      rounds = [];
+      tried =
+          sym (append-nil v.tries);
+      away =
+          All-nil (λ ts. (v.own.log.room ≢ 0) × EndsIn FoundAway (used_by step v) ts);
+    }
 
 -- one try more that met another pass
 pub meets_more : (step : Step) (v w x : Known) → MeetsOnly step v w → FindsAway step w x → MeetsOnly step v x
 meets_more step v w x m f = record {
   same = same_on v w x m.same f.same;
   rounds = m.rounds ++ f.tries ∷ [];
-  tried = f.tried ∙ (ap (λ ts. ts ++ f.tries) m.tried ∙ (append_assoc v.tries (flat_map (λ ts. ts) m.rounds) f.tries ∙ ap (λ ts. v.tries ++ ts) (ap (λ ts. flat_map (λ us. us) m.rounds ++ ts) (sym (append-nil f.tries)) ∙ sym (flat_map-append (λ ts. ts) m.rounds (f.tries ∷ [])))));
+  tried =
+      f.tried
+      ∙ (ap (λ ts. ts ++ f.tries) m.tried
+      ∙ (append_assoc v.tries (flat_map (λ ts. ts) m.rounds) f.tries
+      ∙ ap (λ ts. v.tries ++ ts)
+      (ap (λ ts. flat_map (λ us. us) m.rounds ++ ts) (sym (append-nil f.tries))
+      ∙ sym (flat_map-append (λ ts. ts) m.rounds (f.tries ∷ [])))));
   away = All-push (λ ts. (v.own.log.room ≢ 0) × EndsIn FoundAway (used_by step v) ts) m.rounds f.tries m.away
-      (subst (λ (k : CpuState). (k.log.room ≢ 0) × EndsIn FoundAway (in_order (uses_of (cpu_of k) step)) f.tries) m.same.own (f.room, f.away));
+      (subst
+      (λ (k : CpuState). (k.log.room ≢ 0)
+      × EndsIn FoundAway (in_order (uses_of (cpu_of k) step)) f.tries) m.same.own
+      (f.room, f.away));
 }
 
 -- what lies at a CPU's place is its pass, or nothing
-pub handed : (t : Opened) (passes : List (Option Pass)) (cpu : ℕ) (o : Option Pass) → AreTheirs t passes → slice_get passes cpu ≡ Some o → IfSome o (λ p. IsPassOf t p × (p.knows.cpu ≡ cpu))
+pub handed : (t : Opened) (passes : List (Option Pass)) (cpu : ℕ) (o : Option Pass)
+    → AreTheirs t passes
+    → slice_get passes cpu ≡ Some o
+    → IfSome o (λ p. IsPassOf t p × (p.knows.cpu ≡ cpu))
 handed t passes cpu None theirs e = tt
 handed t passes cpu (Some p) theirs e = theirs cpu p e
 
@@ -49,8 +70,10 @@ or_pass d (Some (Some p)) = p
 -- a pass that has made no call is of the table, and its CPU's
 pub fresh_theirs : (t : Opened) (passes : List (Option Pass)) → AreFresh t passes → AreTheirs t passes
 fresh_theirs t passes fresh c p e =
-    let is : p ≡ first_pass t c = fresh c p e in
-    (record { table = ap (λ (q : Pass). q.table) is; layout = ap (λ (q : Pass). q.knows.layout) is }, ap (λ (q : Pass). q.knows.cpu) is)
+    let is : p ≡ first_pass t c = fresh c p e in (
+      record { table = ap (λ (q : Pass). q.table) is; layout = ap (λ (q : Pass). q.knows.layout) is },
+      ap (λ (q : Pass). q.knows.cpu) is,
+    )
 
 pub first_fresh : (t : Opened) (n : ℕ) (passes : List (Option Pass)) → AreFirst t n passes → AreFresh t passes
 first_fresh t n passes first c p e =
@@ -63,7 +86,8 @@ or_none d None = d
 or_none d (Some o) = o
 
 -- nothing is left at the place of a pass that is handed out
-module _ (passes : List (Option Pass)) (cpu : ℕ) (left : Option Pass) (inside : cpu < length passes) (none : left ≡ None) where
+module _ (passes : List (Option Pass)) (cpu : ℕ) (left : Option Pass) (inside : cpu < length passes)
+    (none : left ≡ None) where
   empty_there : slice_get (slice_set passes cpu left) cpu ≡ Some None
   empty_there = get_set_here passes cpu left inside ∙ ap (λ (o : Option Pass). Some o) none
 
@@ -77,5 +101,7 @@ module _ (passes : List (Option Pass)) (cpu : ℕ) (left : Option Pass) (inside 
 
   pub others_fresh : (t : Opened) → AreFresh t passes → AreFresh t (slice_set passes cpu left)
   others_fresh t fresh c p e = dite (ℕ_discrete c cpu)
-      (λ is. let never : None ≡ Some p = ap (or_none None) (sym empty_there ∙ (ap (slice_get (slice_set passes cpu left)) (sym is) ∙ e)) in absurd cc)
+      (λ is. let never : None ≡ Some p =
+      ap (or_none None) (sym empty_there ∙ (ap (slice_get (slice_set passes cpu left)) (sym is) ∙ e)) in
+      absurd cc)
       (λ ne. fresh c p (sym (get_set_else passes cpu c left ne) ∙ e))

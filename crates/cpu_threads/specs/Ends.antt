@@ -53,9 +53,14 @@ AreFreshAt t passes cpus = (c : ℕ) → IsAtHome passes c → slice_get cpus c 
 abbrev pub AllGiven : TheLayout → List Pass → Type 0
 AllGiven l given = (c : ℕ) → c < l.config.cpus → IsGiven given c
 
--- there are parts and CPUs' own states that are the end of one legal history, which is each given pass's, and in which the other CPUs made no call
+-- there are parts and CPUs' own states that are the end of one legal history, which is each given
+-- pass's, and in which the other CPUs made no call
 abbrev pub HasEndOf : Type 0 → Opened → List (Option Pass) → List Pass → Type 0
-HasEndOf A t passes given = (found : List (Slot A)) × (cpus : List CpuState) × IsEndFor t found cpus (OfGiven given) × AreFreshAt t passes cpus
+HasEndOf A t passes given =
+    (found : List (Slot A))
+    × (cpus : List CpuState)
+    × IsEndFor t found cpus (OfGiven given)
+    × AreFreshAt t passes cpus
 
 -- the pass is at its CPU's place
 abbrev pub IsBack : List (Option Pass) → Pass → Type 0

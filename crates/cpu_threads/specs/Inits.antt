@@ -24,7 +24,9 @@ pub record IsCallOf (step : Step) (reply : Reply) (v w : Known) : Type 0 where
 
 -- what making a step comes to: its value or its refusal
 abbrev pub ComesTo : Step → Result Value Refusal → Known → Known → Type 0
-ComesTo step result v w = MatchResult result (λ value. IsCallOf step (Done value) v w) (λ why. IsCallOf step (Refused why) v w)
+ComesTo step result v w =
+    MatchResult result (λ value. IsCallOf step (Done value) v w)
+    (λ why. IsCallOf step (Refused why) v w)
 
 -- the step is made
 abbrev pub IsMade : Step → Known → Known → Type 0
@@ -34,11 +36,27 @@ IsMade step v w = (value : Value) × IsCallOf step (Done value) v w
 module _ (kind : VmKind) (vcpus pfn n : ℕ) where
   abbrev pub IsRefusedAt : InitStage → Refusal → Known → Known → Type 0
   IsRefusedAt Reserve why v w = IsCallOf (VmReserve kind vcpus) (Refused why) v w
-  IsRefusedAt FundStage why v w = (a : Known) × IsMade (VmReserve kind vcpus) v a × IsCallOf (Fund pfn n) (Refused why) a w
-  IsRefusedAt InstallStage why v w = (a b : Known) × IsMade (VmReserve kind vcpus) v a × IsMade (Fund pfn n) a b × IsCallOf Install (Refused why) b w
-  IsRefusedAt Open why v w = (a b c : Known) × IsMade (VmReserve kind vcpus) v a × IsMade (Fund pfn n) a b × IsMade Install b c × IsCallOf VmOpen (Refused why) c w
+  IsRefusedAt FundStage why v w =
+      (a : Known) × IsMade (VmReserve kind vcpus) v a × IsCallOf (Fund pfn n) (Refused why) a w
+  IsRefusedAt InstallStage why v w =
+      (a b : Known)
+      × IsMade (VmReserve kind vcpus) v a
+      × IsMade (Fund pfn n) a b
+      × IsCallOf Install (Refused why) b w
+  IsRefusedAt Open why v w =
+      (a b c : Known)
+      × IsMade (VmReserve kind vcpus) v a
+      × IsMade (Fund pfn n) a b
+      × IsMade Install b c
+      × IsCallOf VmOpen (Refused why) c w
 
-  -- all four are made, and the last answers the VM; or the answer is the first refusal and its stage
+  -- all four are made, and the last answers the VM; or the answer is the first refusal and its
+  -- stage
   abbrev pub InitsVm : Result VmId (InitStage × Refusal) → Known → Known → Type 0
-  InitsVm (Ok vm) v w = (a b c : Known) × IsMade (VmReserve kind vcpus) v a × IsMade (Fund pfn n) a b × IsMade Install b c × IsCallOf VmOpen (Done (Vm vm)) c w
+  InitsVm (Ok vm) v w =
+      (a b c : Known)
+      × IsMade (VmReserve kind vcpus) v a
+      × IsMade (Fund pfn n) a b
+      × IsMade Install b c
+      × IsCallOf VmOpen (Done (Vm vm)) c w
   InitsVm (Err e) v w = IsRefusedAt e.0 e.1 v w

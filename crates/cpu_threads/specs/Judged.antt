@@ -22,7 +22,8 @@ use Rattle.ghost_judge.specs.Judgements.{JudgeAgrees, told_of}
 use Rattle.ghost_oracle.specs.Low.{IsLowCpu, IsLowGuest}
 use Rattle.ghost_oracle.specs.Recorded.{Given, put_given, recorded}
 
--- What a judge is asked: of a call of the CPU, with the records before and after it, or with none where memory was refused to a record
+-- What a judge is asked: of a call of the CPU, with the records before and after it, or with none
+-- where memory was refused to a record
 pub record Asked : Type 0 where
   pub cpu : ℕ
   pub step : Step
@@ -30,13 +31,17 @@ pub record Asked : Type 0 where
   pub states : Option (GhostLists × GhostLists)
 
 abbrev pub shown : ℕ → Step → Reply → GhostLists → GhostLists → Asked
-shown cpu step reply pre post = record { cpu = cpu; step = step; reply = reply; states = Some (pre, post) }
+shown cpu step reply pre post =
+    record { cpu = cpu; step = step; reply = reply; states = Some (pre, post) }
 
 abbrev pub untold : ℕ → Step → Reply → Asked
 untold cpu step reply = record { cpu = cpu; step = step; reply = reply; states = None }
 
 -- both records, where memory was refused to neither
-abbrev pub both_in : {E : Type 0} → Result GhostLists E → Result GhostLists E → Option (GhostLists × GhostLists)
+abbrev pub both_in : {E : Type 0}
+    → Result GhostLists E
+    → Result GhostLists E
+    → Option (GhostLists × GhostLists)
 both_in (Ok pre) (Ok post) = Some (pre, post)
 both_in (Ok pre) (Err why) = None
 both_in (Err why) other = None
@@ -48,7 +53,8 @@ module _ {A : Type 0} where
   given_at x (suc zero) = option_map (λ p. SharedSlot p) x.shared
   given_at x (suc (suc v)) = put_given (λ j. None) (λ p. Some (GuestSlot p)) x.guest v
 
-  -- what lies in a slot, as it is given to a record: the VM part, the Shared part, or a guest, which is given a slot
+  -- what lies in a slot, as it is given to a record: the VM part, the Shared part, or a guest,
+  -- which is given a slot
   abbrev pub lent_vms : Slot A → Option VmPart
   lent_vms (VmSlot p) = Some p
   lent_vms other = None
@@ -62,7 +68,8 @@ module _ {A : Type 0} where
   lent_guest v other = None
 
   -- the state on lists is the record of these parts, by number, and of the CPU's own state
-  pub record IsRecordOf (l : Layout) (held : ℕ → Option (Slot A)) (own : CpuState) (g : GhostLists) : Type 0 where
+  pub record IsRecordOf (l : Layout) (held : ℕ → Option (Slot A)) (own : CpuState)
+      (g : GhostLists) : Type 0 where
     pub parts : Given A
     pub all : (k : ℕ) → given_at parts k ≡ held k
     pub own_is : parts.own ≡ own
@@ -81,16 +88,23 @@ module _ {A : Type 0} where
     pub guests : (k : ℕ) (p : GuestPart A) → held k ≡ Some (GuestSlot p) → IsLowGuest (guest_held p)
     pub own_low : IsLowCpu (cpu_of own)
 
-  -- A judge is asked once about the call. It sees the record of the parts that the call uses and of its CPU's own state as they were taken, and that of them as they go back, or learns that memory was refused to a record
-  pub record AsksOnce {J : Type 0} (takes : J → Asked → J → Type 0) (l : TheLayout) (before : ℕ → Option (Slot A)) (own : CpuState) (c : Call) (after : ℕ → Option (Slot A)) (owned : CpuState) (from to : J) : Type 0 where
+  -- A judge is asked once about the call. It sees the record of the parts that the call uses and of
+  -- its CPU's own state as they were taken, and that of them as they go back, or learns that memory
+  -- was refused to a record
+  pub record AsksOnce {J : Type 0} (takes : J → Asked → J → Type 0) (l : TheLayout)
+      (before : ℕ → Option (Slot A)) (own : CpuState) (c : Call) (after : ℕ → Option (Slot A))
+      (owned : CpuState) (from to : J) : Type 0 where
     pub asked : Asked
     pub takes_it : takes from asked to
     pub cpu : asked.cpu ≡ c.cpu
     pub step : asked.step ≡ c.step
     pub reply : asked.reply ≡ c.reply
-    pub states : IfSome asked.states (λ s. IsRecordOf (layout_of l) before own s.0 × IsRecordOf (layout_of l) after owned s.1)
+    pub states : IfSome asked.states
+        (λ s. IsRecordOf (layout_of l) before own s.0 × IsRecordOf (layout_of l) after owned s.1)
 
 -- So it was for a stored call, and `judge` agrees on what was shown
-pub record IsJudged (A : Type 0) {J : Type 0} (takes : J → Asked → J → Type 0) (step : Step) (reply : Reply) (v w : Known) (from to : J) : Type 0 where
+pub record IsJudged (A : Type 0) {J : Type 0} (takes : J → Asked → J → Type 0) (step : Step)
+    (reply : Reply) (v w : Known) (from to : J) : Type 0 where
   pub made : IsMade (AsksOnce {A = A} takes) step reply v w from to
-  pub agrees : IfSome made.makes.told.asked.states (λ s. JudgeAgrees (contents_in s.0) step reply (contents_in s.1) (told_of s.0 v.cpu step))
+  pub agrees : IfSome made.makes.told.asked.states
+      (λ s. JudgeAgrees (contents_in s.0) step reply (contents_in s.1) (told_of s.0 v.cpu step))

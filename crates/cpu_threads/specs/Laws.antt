@@ -31,41 +31,61 @@ use Rattle.cpu_threads.specs.Judged.{Asked, IsJudged}
 use Rattle.cpu_threads.specs.declared.init.InitStage.{InitStage}
 use Rattle.cpu_threads.specs.declared.init.InitStage.TheVariants.{Reserve, Fund as FundStage, Install as InstallStage, Open}
 
--- The history is a pass's: its CPU's calls in it are the pass's own list, in order and with their replies, and its calls on each part begin with what the pass has seen there, and with each log of the part that it took
+-- The history is a pass's: its CPU's calls in it are the pass's own list, in order and with their
+-- replies, and its calls on each part begin with what the pass has seen there, and with each log of
+-- the part that it took
 pub record IsHistoryOf (l : TheLayout) (log : List Call) (p : Pass) : Type 0 where
   pub calls : calls_by p.knows.cpu log ≡ p.knows.own.log.calls
   pub seen : (k : ℕ) → k < parts → StartsWith (calls_on (part_of k) log) (seen_at p.knows.seen k)
   pub tried : AreFronts l.config.log (λ k. calls_on (part_of k) log) p.knows.tries
 
--- There is one legal history at whose end the parts and the CPUs are. It goes on from what the machine began with, is each given pass's, and has no more calls of a CPU whose pass was never handed out
-pub record OneHistory {A : Type 0} (t : Opened) (found : List (Slot A)) (cpus : List CpuState) (passes : List (Option Pass)) (given : List Pass) : Type 0 where
+-- There is one legal history at whose end the parts and the CPUs are. It goes on from what the
+-- machine began with, is each given pass's, and has no more calls of a CPU whose pass was never
+-- handed out
+pub record OneHistory {A : Type 0} (t : Opened) (found : List (Slot A)) (cpus : List CpuState)
+    (passes : List (Option Pass)) (given : List Pass) : Type 0 where
   pub end : IsEndOf t.layout found cpus
   pub goes_on : GoesOn t.begun end.left.log
   pub each : OfGiven given (IsHistoryOf t.layout end.left.log)
   pub idle : (c : ℕ) → IsAtHome passes c → calls_by c end.left.log ≡ (own_in t.begun c).log.calls
 
--- so it is where the parts and the CPUs are what a shutdown gives: the end of a legal history, which is each given pass's, and in which the other CPUs made no call more
+-- so it is where the parts and the CPUs are what a shutdown gives: the end of a legal history,
+-- which is each given pass's, and in which the other CPUs made no call more
 abbrev pub EndsInOne : Type 0 → Type 0
-EndsInOne A = (t : Opened) (found : List (Slot A)) (cpus : List CpuState) (passes : List (Option Pass)) (given : List Pass) → IsEndFor t found cpus (OfGiven given) → AreFreshAt t passes cpus
+EndsInOne A =
+    (t : Opened) (found : List (Slot A)) (cpus : List CpuState) (passes : List (Option Pass))
+    (given : List Pass)
+    → IsEndFor t found cpus (OfGiven given)
+    → AreFreshAt t passes cpus
     → OneHistory t found cpus passes given
 
 -- where a try of a given pass found a part's log full, it is full at the end
 abbrev pub FullLogsStay : Type 0 → Type 0
-FullLogsStay A = (m : Opened) (found : List (Slot A)) (cpus : List CpuState) (passes : List (Option Pass)) (given : List Pass) (h : OneHistory m found cpus passes given)
-    → OfGiven given (λ p. All (λ t. FoundFull t.1 → length (calls_on (part_of t.0) h.end.left.log) ≡ m.layout.config.log) p.knows.tries)
+FullLogsStay A =
+    (m : Opened) (found : List (Slot A)) (cpus : List CpuState) (passes : List (Option Pass))
+    (given : List Pass) (h : OneHistory m found cpus passes given)
+    → OfGiven given
+    (λ p. All
+    (λ t. FoundFull t.1
+    → length (calls_on (part_of t.0) h.end.left.log)
+    ≡ m.layout.config.log) p.knows.tries)
 
 -- what a pass has seen of a part only grows, and of a part that its call used it ends with the call
 abbrev pub SeenGrows : Type 0
 SeenGrows = (step : Step) (reply : Reply) (v w : Known) (s : MakesCall step reply v w) (k : ℕ)
-    → StartsWith (seen_at w.seen k) (seen_at v.seen k) × (uses s.call k ≡ true → (before : List Call) × (seen_at w.seen k ≡ before ++ s.call ∷ []))
+    → StartsWith (seen_at w.seen k) (seen_at v.seen k)
+    × (uses s.call k ≡ true → (before : List Call) × (seen_at w.seen k ≡ before ++ s.call ∷ []))
 
--- a stored call tried just the parts that its step uses, in their order and each once, and took each with room in its log
+-- a stored call tried just the parts that its step uses, in their order and each once, and took
+-- each with room in its log
 abbrev pub TakesEach : Type 0
 TakesEach = (step : Step) (reply : Reply) (v w : Known) (s : MakesCall step reply v w)
     → (map (λ t. t.0) s.tries ≡ used_by step v) × All (λ t. FoundRoom t.1) s.tries
 
--- tries of the first of these parts, in their order and each once: the last one found this, and each before it took its part with room in its log
-pub record StopAt (Last : Option StoredCalls → Type 0) (ks : List ℕ) (tries : List Try) : Type 0 where
+-- tries of the first of these parts, in their order and each once: the last one found this, and
+-- each before it took its part with room in its log
+pub record StopAt (Last : Option StoredCalls → Type 0) (ks : List ℕ)
+    (tries : List Try) : Type 0 where
   pub before : List Try
   pub last : Try
   pub all : tries ≡ before ++ last ∷ []
@@ -75,43 +95,80 @@ pub record StopAt (Last : Option StoredCalls → Type 0) (ks : List ℕ) (tries 
 
 -- a try of a step that finds a part with another pass stops there, and has recorded it
 abbrev pub StopsAtAnother : Type 0
-StopsAtAnother = (step : Step) (v w : Known) (f : FindsAway step v w) → StopAt FoundAway (used_by step v) f.tries × MeetsAnother v w
+StopsAtAnother =
+    (step : Step) (v w : Known) (f : FindsAway step v w)
+    → StopAt FoundAway (used_by step v) f.tries × MeetsAnother v w
 
--- a try of a step that finds a log full: the CPU's own, and no part is tried, or that of the part at which it stops
+-- a try of a step that finds a log full: the CPU's own, and no part is tried, or that of the part
+-- at which it stops
 abbrev pub StopsAtFullLog : Type 0
-StopsAtFullLog = (step : Step) (v w : Known) (f : FindsLogFull step v w) → ((v.own.log.room ≡ 0) × (f.tries ≡ [])) ⊎ StopAt FoundFull (used_by step v) f.tries
+StopsAtFullLog =
+    (step : Step) (v w : Known) (f : FindsLogFull step v w)
+    → ((v.own.log.room ≡ 0) × (f.tries ≡ [])) ⊎ StopAt FoundFull (used_by step v) f.tries
 
--- a judge that keeps all that it is asked is asked of a stored call once, by its CPU, its step and its reply
+-- a judge that keeps all that it is asked is asked of a stored call once, by its CPU, its step and
+-- its reply
 abbrev pub keeps : List Asked → Asked → List Asked → Type 0
 keeps from asked to = to ≡ from ++ asked ∷ []
 
 abbrev pub AskedOnce : Type 0 → Type 0
-AskedOnce A = (step : Step) (reply : Reply) (v w : Known) (from to : List Asked) → IsJudged A keeps step reply v w from to
-    → (asked : Asked) × (to ≡ from ++ asked ∷ []) × (asked.cpu ≡ v.cpu) × (asked.step ≡ step) × (asked.reply ≡ reply)
+AskedOnce A =
+    (step : Step) (reply : Reply) (v w : Known) (from to : List Asked)
+    → IsJudged A keeps step reply v w from to
+    → (asked : Asked)
+    × (to ≡ from ++ asked ∷ [])
+    × (asked.cpu ≡ v.cpu)
+    × (asked.step ≡ step)
+    × (asked.reply ≡ reply)
 
--- what a judge is shown of a call that didn't want memory is the model's step: the reply and the state after it are those that the model says on the state before it
+-- what a judge is shown of a call that didn't want memory is the model's step: the reply and the
+-- state after it are those that the model says on the state before it
 abbrev pub ShowsModel : (A : Type 0) {J : Type 0} → (J → Asked → J → Type 0) → Type 0
-ShowsModel A {J = J} takes = (step : Step) (reply : Reply) (v w : Known) (from to : J) (h : IsJudged A takes step reply v w from to) → reply ≢ Refused NoMemory
-    → IfSome h.made.makes.told.asked.states (λ s. IsAsTold reply (contents_in s.1) (told_of s.0 v.cpu step))
+ShowsModel A {J = J} takes =
+    (step : Step) (reply : Reply) (v w : Known) (from to : J)
+    (h : IsJudged A takes step reply v w from to)
+    → reply ≢ Refused NoMemory
+    → IfSome h.made.makes.told.asked.states
+    (λ s. IsAsTold reply (contents_in s.1) (told_of s.0 v.cpu step))
 
 -- a CPU's list has these steps and replies more, in this order
 abbrev pub HasMore : List (Step × Reply) → Known → Known → Type 0
-HasMore told v w = (more : List Call) × (w.own.log.calls ≡ v.own.log.calls ++ more) × (map (λ c. (c.step, c.reply)) more ≡ told)
+HasMore told v w =
+    (more : List Call)
+    × (w.own.log.calls ≡ v.own.log.calls ++ more)
+    × (map (λ c. (c.step, c.reply)) more ≡ told)
 
 module _ (kind : VmKind) (vcpus pfn n : ℕ) where
   -- the calls up to the one of a stage: each was made, but for the last, which got this reply
   abbrev pub AddsTo : InitStage → Reply → Known → Known → Type 0
   AddsTo Reserve r v w = HasMore ((VmReserve kind vcpus, r) ∷ []) v w
-  AddsTo FundStage r v w = (a : Value) × HasMore ((VmReserve kind vcpus, Done a) ∷ (Fund pfn n, r) ∷ []) v w
-  AddsTo InstallStage r v w = (a b : Value) × HasMore ((VmReserve kind vcpus, Done a) ∷ (Fund pfn n, Done b) ∷ (Install, r) ∷ []) v w
-  AddsTo Open r v w = (a b c : Value) × HasMore ((VmReserve kind vcpus, Done a) ∷ (Fund pfn n, Done b) ∷ (Install, Done c) ∷ (VmOpen, r) ∷ []) v w
+  AddsTo FundStage r v w =
+      (a : Value) × HasMore ((VmReserve kind vcpus, Done a) ∷ (Fund pfn n, r) ∷ []) v w
+  AddsTo InstallStage r v w =
+      (a b : Value)
+      × HasMore ((VmReserve kind vcpus, Done a) ∷ (Fund pfn n, Done b) ∷ (Install, r) ∷ []) v w
+  AddsTo Open r v w =
+      (a b c : Value)
+      × HasMore
+      ((VmReserve kind vcpus, Done a) ∷ (Fund pfn n, Done b) ∷ (Install, Done c) ∷ (VmOpen, r)
+      ∷ []) v w
 
--- making a VM adds the calls of all four stages to the CPU's list, or those up to the refused one, where that is stored
+-- making a VM adds the calls of all four stages to the CPU's list, or those up to the refused one,
+-- where that is stored
 abbrev pub InitAdds : Type 0
 InitAdds = (kind : VmKind) (vcpus pfn n : ℕ) (v w : Known)
-    → ((vm : VmId) → InitsVm kind vcpus pfn n (Ok vm) v w → AddsTo kind vcpus pfn n Open (Done (Vm vm)) v w)
-    × ((stage : InitStage) (why : Refusal) → IsStored (Refused why) → InitsVm kind vcpus pfn n (Err (stage, why)) v w → AddsTo kind vcpus pfn n stage (Refused why) v w)
+    → ((vm : VmId)
+    → InitsVm kind vcpus pfn n (Ok vm) v w
+    → AddsTo kind vcpus pfn n Open (Done (Vm vm)) v w)
+    × ((stage : InitStage) (why : Refusal)
+    → IsStored (Refused why)
+    → InitsVm kind vcpus pfn n (Err (stage, why)) v w
+    → AddsTo kind vcpus pfn n stage (Refused why) v w)
 
 -- where a pass is missing, not all are given
 abbrev pub MissingOne : Type 0
-MissingOne = (passes : List (Option Pass)) (given : List Pass) → LacksOne passes given → HasAll passes given → ⊥
+MissingOne =
+    (passes : List (Option Pass)) (given : List Pass)
+    → LacksOne passes given
+    → HasAll passes given
+    → ⊥

@@ -26,7 +26,8 @@ pub record Machine : Type 0 where
 
 -- a pass at a place is of the table, and is the CPU's of that place
 abbrev pub AreTheirs : Opened → List (Option Pass) → Type 0
-AreTheirs t passes = (c : ℕ) (p : Pass) → slice_get passes c ≡ Some (Some p) → IsPassOf t p × (p.knows.cpu ≡ c)
+AreTheirs t passes =
+    (c : ℕ) (p : Pass) → slice_get passes c ≡ Some (Some p) → IsPassOf t p × (p.knows.cpu ≡ c)
 
 -- a pass that wasn't handed out has made no call
 abbrev pub AreFresh : Opened → List (Option Pass) → Type 0
@@ -38,8 +39,10 @@ pub record IsReady (t : Opened) (passes : List (Option Pass)) : Type 0 where
   pub fresh : AreFresh t passes
 
 -- the pass that was there is handed out, and the others stay
-pub record HandsOut (result : Option Pass) (cpu : ℕ) (before after : List (Option Pass)) : Type 0 where
-  pub there : cpu < length before → (slice_get before cpu ≡ Some result) × (slice_get after cpu ≡ Some None)
+pub record HandsOut (result : Option Pass) (cpu : ℕ)
+    (before after : List (Option Pass)) : Type 0 where
+  pub there : cpu < length before
+      → (slice_get before cpu ≡ Some result) × (slice_get after cpu ≡ Some None)
   pub beyond : length before ≤ cpu → result ≡ None
   pub others : (j : ℕ) → j ≢ cpu → slice_get after j ≡ slice_get before j
   pub count : length after ≡ length before
@@ -59,7 +62,8 @@ pub record BeginsAtBoot (t : Opened) : Type 0 where
   pub logs : (k : ℕ) → k < parts → slice_index_or t.begun.logs k [] ≡ []
   pub owns : (c : ℕ) → c < t.layout.config.cpus → own_in t.begun c ≡ own_at_boot t.layout c
 
--- a machine that has booted, where no test failed: it is of the memory and the configuration, and no pass was handed out
+-- a machine that has booted, where no test failed: it is of the memory and the configuration, and
+-- no pass was handed out
 pub record IsBootedMachine (m : Memory) (c : Config) (it : Machine) : Type 0 where
   pub geometry : Geometry
   pub memory : IsAccepted m
@@ -69,7 +73,8 @@ pub record IsBootedMachine (m : Memory) (c : Config) (it : Machine) : Type 0 whe
   pub begun : BeginsAtBoot it.table
   pub passes : AreFirst it.table c.cpus it.passes
 
--- Tries of a step, one after another, each of which found a part that another pass had, with room in the CPU's own log. None changed anything else
+-- Tries of a step, one after another, each of which found a part that another pass had, with room
+-- in the CPU's own log. None changed anything else
 pub record MeetsOnly (step : Step) (v w : Known) : Type 0 where
   pub same : IsSame v w
   pub rounds : List (List Try)

@@ -46,11 +46,20 @@ module _ (f : Call → Bool) where
   Fits passes given v = (v.items ≡ []) × (total passes + total_given given ≤ vec_capacity v)
 
 -- n empty lists, each with room for the log of its place
-abbrev pub AllFit : {Z : Type 0} → (ℕ → Call → Bool) → List (Option Pass) → List Pass → ℕ → List (Vec Call Z) → Type 0
-AllFit {Z = Z} f passes given n rooms = (length rooms ≡ n) × ((j : ℕ) (v : Vec Call Z) → slice_get rooms j ≡ Some v → Fits (f j) passes given v)
+abbrev pub AllFit : {Z : Type 0}
+    → (ℕ → Call → Bool)
+    → List (Option Pass)
+    → List Pass
+    → ℕ
+    → List (Vec Call Z)
+    → Type 0
+AllFit {Z = Z} f passes given n rooms =
+    (length rooms ≡ n)
+    × ((j : ℕ) (v : Vec Call Z) → slice_get rooms j ≡ Some v → Fits (f j) passes given v)
 
 -- empty lists for all logs, with room for what the passes' lists have of each
-pub record HaveRoom (passes : List (Option Pass)) (given : List Pass) (n : ℕ) (h : Histories) : Type 0 where
+pub record HaveRoom (passes : List (Option Pass)) (given : List Pass) (n : ℕ)
+    (h : Histories) : Type 0 where
   pub vms : Fits (picks vms_log) passes given h.vms
   pub shared : Fits (picks shared_log) passes given h.shared
   pub guests : AllFit (λ v. picks (guest_log v)) passes given 64 h.guests.items
@@ -83,15 +92,23 @@ pub record IsZero (n : ℕ) (t : Tally) : Type 0 where
 pub record Grew (f : (Call → Bool) → ℕ) (before after : Tally) : Type 0 where
   pub guests : length after.guests.items ≡ length before.guests.items
   pub cpus : length after.cpus.items ≡ length before.cpus.items
-  pub each : (log : LogName) → HasPlace before log → number after log ≡ number before log + f (picks log)
+  pub each : (log : LogName)
+      → HasPlace before log
+      → number after log ≡ number before log + f (picks log)
 
 -- the number at the place, if there is one, has grown by one, and the others are as they were
 abbrev pub HasOneMore : Option ℕ → List ℕ → List ℕ → Type 0
-HasOneMore place xs ys = (length ys ≡ length xs) × ((j : ℕ) → j < length xs → get_or ys j 0 ≡ get_or xs j 0 + one_if (is_slot place j))
+HasOneMore place xs ys =
+    (length ys ≡ length xs)
+    × ((j : ℕ) → j < length xs → get_or ys j 0 ≡ get_or xs j 0 + one_if (is_slot place j))
 
 -- an empty list for each number, with room for that many calls
 abbrev pub AllRoomy : {Z : Type 0} → List ℕ → List (Vec Call Z) → Type 0
-AllRoomy {Z = Z} counts rooms = (length rooms ≡ length counts) × ((j : ℕ) (v : Vec Call Z) → slice_get rooms j ≡ Some v → (v.items ≡ []) × (get_or counts j 0 ≤ vec_capacity v))
+AllRoomy {Z = Z} counts rooms =
+    (length rooms ≡ length counts)
+    × ((j : ℕ) (v : Vec Call Z)
+    → slice_get rooms j ≡ Some v
+    → (v.items ≡ []) × (get_or counts j 0 ≤ vec_capacity v))
 
 -- an empty list with room for a log
 abbrev pub CanTake : {Z : Type 0} → List Call → Vec Call Z → Type 0
@@ -99,15 +116,20 @@ CanTake log v = (v.items ≡ []) × (length log ≤ vec_capacity v)
 
 -- at each place of a list one with room for the log of the place
 abbrev pub AllHold : {Z : Type 0} → (ℕ → List Call) → List (Vec Call Z) → Type 0
-AllHold {Z = Z} logs rooms = (j : ℕ) (v : Vec Call Z) → slice_get rooms j ≡ Some v → CanTake (logs j) v
+AllHold {Z = Z} logs rooms =
+    (j : ℕ) (v : Vec Call Z) → slice_get rooms j ≡ Some v → CanTake (logs j) v
 
 -- at each place the log of the place
 abbrev pub HaveAll : {Z : Type 0} → (ℕ → List Call) → List (Vec Call Z) → Type 0
-HaveAll {Z = Z} logs rooms = (j : ℕ) (v : Vec Call Z) → slice_get rooms j ≡ Some v → v.items ≡ logs j
+HaveAll {Z = Z} logs rooms =
+    (j : ℕ) (v : Vec Call Z) → slice_get rooms j ≡ Some v → v.items ≡ logs j
 
 -- the places before n have the log, the others room for it
 abbrev pub HaveTo : {Z : Type 0} → ℕ → (ℕ → List Call) → List (Vec Call Z) → Type 0
-HaveTo {Z = Z} n logs rooms = (j : ℕ) (v : Vec Call Z) → slice_get rooms j ≡ Some v → (j < n → v.items ≡ logs j) × (n ≤ j → CanTake (logs j) v)
+HaveTo {Z = Z} n logs rooms =
+    (j : ℕ) (v : Vec Call Z)
+    → slice_get rooms j ≡ Some v
+    → (j < n → v.items ≡ logs j) × (n ≤ j → CanTake (logs j) v)
 
 -- empty lists for all logs, with room for the logs of what there is
 pub record CanHold (kept : Kept) (n : ℕ) (h : Histories) : Type 0 where

@@ -61,7 +61,8 @@ impl<A: Allocator + Copy> Machine<A> {
         map: &MemoryMap,
         config: Config,
     ) -> Result<Machine<A>, BootFault>
-        ensures { MatchResult result (λ m. IsBootedMachine map.now config m) (λ fault. IsNoBoot fault map.now config) }
+        ensures { MatchResult result (λ m. IsBootedMachine map.now config m)
+            (λ fault. IsNoBoot fault map.now config) }
     {
         let parts = booted_parts(global, alloc, map, config)?;
         let machine = machine_of(global, alloc, parts)?;

@@ -145,8 +145,15 @@ fn ask<J: Judge>(
     post: &Result<Ghost, AllocError>,
 )
     requires cpu { IfOk pre.now (λ a. call.now.cpu < a.layout.config.cpus) }
-    requires generation { IfOk pre.now (λ a. HasNextGeneration ((contents_in a).cpu call.now.cpu).ticket call.now.step) }
-    ensures { J.takes judge.old (record { cpu = call.now.cpu; step = call.now.step; reply = call.now.reply; states = both_in pre.now post.now }) judge.new }
+    requires generation { IfOk pre.now
+        (λ a. HasNextGeneration ((contents_in a).cpu call.now.cpu).ticket call.now.step) }
+    ensures { J.takes judge.old
+        (record {
+          cpu = call.now.cpu;
+          step = call.now.step;
+          reply = call.now.reply;
+          states = both_in pre.now post.now;
+        }) judge.new }
 {
     match (pre, post) {
         (Ok(pre), Ok(post)) => judge.judged(pre, call.cpu, &call.step, &call.reply, post),
@@ -155,7 +162,8 @@ fn ask<J: Judge>(
 }
 
 impl<J: Judge, G: Gate> Maker<J, G> for Recorder {
-    ghost tells = { λ l before own call after owned from to. AsksOnce J.takes l before own call after owned from to };
+    ghost tells = { λ l before own call after owned from to. AsksOnce J.takes l before own call after owned
+        from to };
 
     fn idle<A: Allocator + Copy>(
         &self,
@@ -187,7 +195,8 @@ impl<J: Judge, G: Gate> Maker<J, G> for Recorder {
         requires part { k < parts }
         ensures call { IsCalled cpu.old.id cpu.old step result.1 }
         ensures does { Does (layout_of layout.now) result.1 (only_at k slot) cpu.old (only_at k result.0) cpu.new }
-        ensures told { AsksOnce J.takes layout.now (only_at k slot) cpu.old result.1 (only_at k result.0) cpu.new told.old told.new }
+        ensures told { AsksOnce J.takes layout.now (only_at k slot) cpu.old result.1
+            (only_at k result.0) cpu.new told.old told.new }
     {
         let pre = record_part(self.global, layout, &slot, k, cpu);
         let (slot, call) = part_table::alone(alloc, layout, slot, k, cpu, step);
@@ -211,8 +220,10 @@ impl<J: Judge, G: Gate> Maker<J, G> for Recorder {
         requires can { CanMake layout.now cpu.old step (1 ∷ (v + 2) ∷ []) (pair_at v shared guest) }
         requires part { v + 2 < parts }
         ensures call { IsCalled cpu.old.id cpu.old step result.2 }
-        ensures does { Does (layout_of layout.now) result.2 (pair_at v shared guest) cpu.old (pair_at v result.0 result.1) cpu.new }
-        ensures told { AsksOnce J.takes layout.now (pair_at v shared guest) cpu.old result.2 (pair_at v result.0 result.1) cpu.new told.old told.new }
+        ensures does { Does (layout_of layout.now) result.2 (pair_at v shared guest) cpu.old
+            (pair_at v result.0 result.1) cpu.new }
+        ensures told { AsksOnce J.takes layout.now (pair_at v shared guest) cpu.old result.2
+            (pair_at v result.0 result.1) cpu.new told.old told.new }
     {
         let pre = record_both(self.global, layout, &shared, &guest, v, cpu);
         let (shared, guest, call) = part_table::both(alloc, layout, shared, guest, v, cpu, step);

@@ -74,7 +74,9 @@ impl<A: Allocator + Copy> Machine<A> {
         ensures cpu { pass.new.knows.cpu ≡ pass.old.knows.cpu }
         ensures rest { pass.new.holds ≡ [] }
         ensures answers { Answers step result pass.old.knows pass.new.knows }
-        ensures gate_taken { IsStored result → G.heard_taken gate.now pass.old.knows.cpu (length pass.old.knows.own.log.calls + 1) }
+        ensures gate_taken { IsStored result
+            → G.heard_taken gate.now pass.old.knows.cpu
+            (length pass.old.knows.own.log.calls + 1) }
         ensures gate_answered { G.heard_answered gate.now pass.old.knows.cpu (length pass.old.knows.own.log.calls + 1) }
     {
         let (cpu, number) = (pass.cpu(), pass.number());
@@ -97,7 +99,8 @@ impl<A: Allocator + Copy> Machine<A> {
         ensures cpu { pass.new.knows.cpu ≡ pass.old.knows.cpu }
         ensures rest { pass.new.holds ≡ [] }
         ensures answers { Answers step result pass.old.knows pass.new.knows }
-        ensures judged { IsStored result → IsJudged A J.takes step result pass.old.knows pass.new.knows judge.old judge.new }
+        ensures judged { IsStored result
+            → IsJudged A J.takes step result pass.old.knows pass.new.knows judge.old judge.new }
         ensures silent { (IsStored result → ⊥) → judge.new ≡ judge.old }
     {
         laws::steps_agree();
@@ -133,7 +136,9 @@ impl<A: Allocator + Copy> Machine<A> {
         ensures answered { result ≢ Refused Contended }
         ensures stored { IsStored result → StoresInTheEnd step result pass.old.knows pass.new.knows }
         ensures log_full { result ≡ Refused LogFull → FullInTheEnd step pass.old.knows pass.new.knows }
-        ensures gate_taken { IsStored result → G.heard_taken gate.now pass.old.knows.cpu (length pass.old.knows.own.log.calls + 1) }
+        ensures gate_taken { IsStored result
+            → G.heard_taken gate.now pass.old.knows.cpu
+            (length pass.old.knows.own.log.calls + 1) }
         ensures gate_answered { G.heard_answered gate.now pass.old.knows.cpu (length pass.old.knows.own.log.calls + 1) }
     {
         let cpu = pass.cpu();

@@ -89,7 +89,9 @@ impl<A: Allocator> Machine<A> {
     ) -> Result<(World<A>, Histories), (Machine<A>, Vec<CpuPass<A>>, ShutdownFault)>
         requires pass { AreOf self.table given.items }
         ensures layout { IfOk result (λ r. r.0.parts.layout ≡ self.table.layout) }
-        ensures end { IfOk result (λ r. IsEndFor self.table (slots_of r.0.parts) r.0.parts.cpus.items (OfGiven given.items)) }
+        ensures end { IfOk result
+            (λ r. IsEndFor self.table (slots_of r.0.parts) r.0.parts.cpus.items
+            (OfGiven given.items)) }
         ensures fresh { IfOk result (λ r. AreFreshAt self.table self.passes r.0.parts.cpus.items) }
         ensures logs { IfOk result (λ r. AreHistories r.0.parts r.1) }
         ensures all { IfOk result (λ _. HasAll self.passes given.items) }

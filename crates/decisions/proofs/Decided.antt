@@ -7,7 +7,9 @@ use Rattle.reference_model.specs.model.Rules.{names, guest_slot}
 use Rattle.reference_model.specs.model.State.{Cpu}
 
 -- a call on the VM part uses no other
-pub vms_parts : (k : Cpu) (slot : Option ℕ) (step : Step) → uses_vms (names step) ≡ true → (guest_slot k step ≡ None) × (uses_shared (names step) slot ≡ false)
+pub vms_parts : (k : Cpu) (slot : Option ℕ) (step : Step)
+    → uses_vms (names step) ≡ true
+    → (guest_slot k step ≡ None) × (uses_shared (names step) slot ≡ false)
 vms_parts k slot (VmReserve kind vcpus) h = (refl, refl)
 vms_parts k slot VmOpen h = (refl, refl)
 vms_parts k slot (VcpuLoad vm i) h = (refl, refl)
@@ -17,7 +19,10 @@ vms_parts k slot VmRelease h = (refl, refl)
 vms_parts k slot other h = cc
 
 -- a call that uses a guest and the Shared part names both
-pub named_both : (k : Cpu) (v : ℕ) (step : Step) → guest_slot k step ≡ Some v → uses_shared (names step) (Some v) ≡ true → names step ≡ shared_and_guest
+pub named_both : (k : Cpu) (v : ℕ) (step : Step)
+    → guest_slot k step ≡ Some v
+    → uses_shared (names step) (Some v) ≡ true
+    → names step ≡ shared_and_guest
 named_both k v (ShareGuest f g p n) h u = refl
 named_both k v (UnshareGuest vm g) h u = refl
 named_both k v (DonateGuest f g n) h u = refl
@@ -31,7 +36,10 @@ named_both k v FinishGuest h u = refl
 named_both k v other h u = cc
 
 -- and one that doesn't use the Shared part names the guest alone
-pub named_alone : (k : Cpu) (v : ℕ) (step : Step) → guest_slot k step ≡ Some v → uses_shared (names step) (Some v) ≡ false → names step ≡ just_guest
+pub named_alone : (k : Cpu) (v : ℕ) (step : Step)
+    → guest_slot k step ≡ Some v
+    → uses_shared (names step) (Some v) ≡ false
+    → names step ≡ just_guest
 named_alone k v (GuestRelax g p) h u = refl
 named_alone k v (GuestTranslate vm g) h u = refl
 named_alone k v MarkDying h u = refl

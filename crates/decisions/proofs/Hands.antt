@@ -13,11 +13,19 @@ use Rattle.reference_model.specs.model.State.{Shared, Cpu}
 use Rattle.reference_model.specs.model.Used.{used_alone}
 
 -- what goes back to the host can be written, so the hypervisor's pages of the hand are input pages
-pub hand_low : (l : TheLayout) (id : ℕ) (s : Shared) (k : Cpu) (r : PageRange) → k.hand ≡ Some r → CanRely (layout_of l) id None Unfund (used_alone s k) → r.first.0 < 2 ^ 36
+pub hand_low : (l : TheLayout) (id : ℕ) (s : Shared) (k : Cpu) (r : PageRange)
+    → k.hand ≡ Some r
+    → CanRely (layout_of l) id None Unfund (used_alone s k)
+    → r.first.0 < 2 ^ 36
 unfolding rule
 hand_low l id s k r e rely =
-    let full = subst (λ (h : Option PageRange). CanRely (layout_of l) id None Unfund (used_alone s (record k { hand = h }))) e rely in
-    let fit = (full.fit (unfund (reads (layout_of l) id None (used_alone s (record k { hand = Some r })))).changes refl).hyp in
+    let full =
+    subst
+    (λ (h : Option PageRange). CanRely (layout_of l) id None Unfund (used_alone s (record k { hand = h }))) e
+    rely in
+    let fit =
+    (full.fit
+    (unfund (reads (layout_of l) id None (used_alone s (record k { hand = Some r })))).changes refl).hyp in
     let most = pages_most l.geometry in
     let some = fit.some in
     let within = fit.within in

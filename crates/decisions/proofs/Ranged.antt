@@ -15,25 +15,31 @@ pub all_hold : (n : ℕ) (test : ℕ → Bool) → ((i : ℕ) → i < n → test
 all_hold n test h = sym (all_from-by 0 n test (λ i low high. h i (omega arith)))
 
 pub one_fails : (n i : ℕ) (test : ℕ → Bool) → i < n → test i ≡ false → false ≡ all_below n test
-one_fails n i test h f = sym (not-holds _ (λ k. let t : test i ≡ true = all_from-each 0 n test k i (omega arith) (omega arith) in absurd (cc)))
+one_fails n i test h f =
+    sym
+    (not-holds _
+    (λ k. let t : test i ≡ true = all_from-each 0 n test k i (omega arith) (omega arith) in absurd (cc)))
 
 -- the pages of a range are input pages where the last one is
 pub pages_hold : (p g n : ℕ) → n ≤ p → g ≤ p - n → true ≡ all_below n (λ i. nat_lt (g + i) p)
-pages_hold p g n some low = all_hold n (λ i. nat_lt (g + i) p) (λ i less. let high : g + i < p = omega arith in below p (g + i) high)
+pages_hold p g n some low =
+    all_hold n (λ i. nat_lt (g + i) p) (λ i less. let high : g + i < p = omega arith in below p (g + i) high)
   where
     below : (p k : ℕ) → k < p → nat_lt k p ≡ true
     below p k h = grind (arith, nat_tests)
 
 -- and not all of them, where the last one isn't
 pub last_fails : (p g n : ℕ) → 1 ≤ n → p < g + n → false ≡ all_below n (λ i. nat_lt (g + i) p)
-last_fails p g n some high = one_fails n (n - 1) (λ i. nat_lt (g + i) p) (omega arith) (beyond p (g + (n - 1)) (omega arith))
+last_fails p g n some high =
+    one_fails n (n - 1) (λ i. nat_lt (g + i) p) (omega arith) (beyond p (g + (n - 1)) (omega arith))
   where
     beyond : (p k : ℕ) → p ≤ k → nat_lt k p ≡ false
     beyond p k h = grind (arith, nat_tests)
 
 -- the pages of a range are input pages just where the first is far enough from their end
 pub few_pages : (p g n : ℕ) → 1 ≤ n → n ≤ p → nat_le g (p - n) ≡ all_below n (λ i. nat_lt (g + i) p)
-few_pages p g n some few = by_test (nat_le g (p - n)) (λ e. e ∙ pages_hold p g n few (low e)) (λ e. e ∙ last_fails p g n some (high e))
+few_pages p g n some few =
+    by_test (nat_le g (p - n)) (λ e. e ∙ pages_hold p g n few (low e)) (λ e. e ∙ last_fails p g n some (high e))
   where
     low : nat_le g (p - n) ≡ true → g ≤ p - n
     low e = grind (arith, nat_tests)
@@ -54,7 +60,12 @@ some_is (Some x) h = search rules
 some_is None h = cc
 
 -- each frame of a good range has a row
-pub rows_of_range : (l : Layout) (rows : List (Run Row)) (f n i : ℕ) → HasMemoryRows l.memory rows → is_good_range l f n ≡ true → i < n → IsSome (row_at rows (f + i))
+pub rows_of_range : (l : Layout) (rows : List (Run Row)) (f n i : ℕ)
+    → HasMemoryRows l.memory rows
+    → is_good_range l f n ≡ true
+    → i < n
+    → IsSome (row_at rows (f + i))
 rows_of_range l rows f n i has good less =
     let each = and-right (nat_le 1 n && nat_le n 512) (all_below n (λ j. is_memory l (f + j))) good in
-    some_is (row_at rows (f + i)) (has (f + i) ∙ all_from-each 0 n (λ j. is_memory l (f + j)) each i (omega arith) (omega arith))
+    some_is (row_at rows (f + i))
+    (has (f + i) ∙ all_from-each 0 n (λ j. is_memory l (f + j)) each i (omega arith) (omega arith))

@@ -19,17 +19,28 @@ use Rattle.reference_model.specs.declared.changes.Ticket.{Ticket}
 use Rattle.reference_model.specs.model.Parts.{stage_eq, has_stage, ticket_slot}
 use Rattle.reference_model.specs.model.State.{Vms, Cpu}
 
-pub ticket_is : (stage : Stage) (k : Cpu) (t : Ticket) (b : Bool) → k.ticket ≡ Some t → stage_eq t.stage stage ≡ b → ticket_slot stage k ≡ (if b then Some t.vm.slot else None)
+pub ticket_is : (stage : Stage) (k : Cpu) (t : Ticket) (b : Bool)
+    → k.ticket ≡ Some t
+    → stage_eq t.stage stage ≡ b
+    → ticket_slot stage k ≡ (if b then Some t.vm.slot else None)
 ticket_is stage k t b e f =
-    let named : has_stage stage k ≡ b = ap (λ (o : Option Ticket). elim o [ Some x ↦ stage_eq x.stage stage | None ↦ false ]) e ∙ f in
-    ap (λ x. if x then option_map (λ (y : Ticket). y.vm.slot) k.ticket else None) named ∙ ap (λ (o : Option Ticket). if b then option_map (λ (y : Ticket). y.vm.slot) o else None) e
+    let named : has_stage stage k ≡ b =
+    ap (λ (o : Option Ticket). elim o [ Some x ↦ stage_eq x.stage stage | None ↦ false ]) e ∙ f in
+    ap (λ x. if x then option_map (λ (y : Ticket). y.vm.slot) k.ticket else None) named
+    ∙ ap (λ (o : Option Ticket). if b then option_map (λ (y : Ticket). y.vm.slot) o else None) e
 
 pub no_ticket : (stage : Stage) (k : Cpu) → k.ticket ≡ None → ticket_slot stage k ≡ None
 no_ticket stage k e =
-    ap (λ (o : Option Ticket). if (elim o [ Some x ↦ stage_eq x.stage stage | None ↦ false ]) then option_map (λ (y : Ticket). y.vm.slot) o else None) e
+    ap
+    (λ (o : Option Ticket). if (elim o [ Some x ↦ stage_eq x.stage stage | None ↦ false ])
+    then option_map (λ (y : Ticket). y.vm.slot) o
+    else None) e
 
 -- the ticket's stage, as a test
-pub stage_is : (stage : Stage) (k : Cpu) (t : Ticket) (b : Bool) → k.ticket ≡ Some t → stage_eq t.stage stage ≡ b → has_stage stage k ≡ b
+pub stage_is : (stage : Stage) (k : Cpu) (t : Ticket) (b : Bool)
+    → k.ticket ≡ Some t
+    → stage_eq t.stage stage ≡ b
+    → has_stage stage k ≡ b
 stage_is stage k t b e f = ap (λ (o : Option Ticket). elim o [ Some x ↦ stage_eq x.stage stage | None ↦ false ]) e ∙ f
 
 -- the VM of a ticket
@@ -41,19 +52,39 @@ pub vm_of_none : (k : Cpu) → k.ticket ≡ None → record { slot = 0; generati
 vm_of_none k e = ap vm_of (sym e)
 
 -- an installed VM opens
-pub opens : (l : Layout) (id : ℕ) (v : Vms) (k : Cpu) (t : Ticket) (left : CpuChange) → left ≡ no_ticket_left → has_stage Installed k ≡ true → k.ticket ≡ Some t → Ok (record no_changes { slot = Open t.vm.slot; cpu = left; value = Vm t.vm }) ≡ decides l id None VmOpen (vms_alone v k)
+pub opens : (l : Layout) (id : ℕ) (v : Vms) (k : Cpu) (t : Ticket) (left : CpuChange)
+    → left ≡ no_ticket_left
+    → has_stage Installed k ≡ true
+    → k.ticket ≡ Some t
+    → Ok (record no_changes { slot = Open t.vm.slot; cpu = left; value = Vm t.vm })
+    ≡ decides l id None VmOpen (vms_alone v k)
 unfolding rule
-opens l id v k t left gone h e = rw (gone, h) (ap (λ (o : Option Ticket). Ok (record no_changes { slot = Open (vm_of o).slot; cpu = no_ticket_left; value = Vm (vm_of o) })) (sym e))
+opens l id v k t left gone h e =
+    rw (gone, h)
+    (ap
+    (λ (o : Option Ticket). Ok
+    (record no_changes { slot = Open (vm_of o).slot; cpu = no_ticket_left; value = Vm (vm_of o) }))
+    (sym e))
 
-pub opens_none : (l : Layout) (id : ℕ) (v : Vms) (k : Cpu) → has_stage Installed k ≡ false → Err NoVm ≡ decides l id None VmOpen (vms_alone v k)
+pub opens_none : (l : Layout) (id : ℕ) (v : Vms) (k : Cpu)
+    → has_stage Installed k ≡ false
+    → Err NoVm ≡ decides l id None VmOpen (vms_alone v k)
 unfolding rule
 opens_none l id v k h = rw h refl
 
 -- a slot is released
-pub releases : (l : Layout) (id : ℕ) (v : Vms) (k : Cpu) (t : Ticket) (left : CpuChange) → left ≡ no_ticket_left → (has_stage Booked k || has_stage Finished k) ≡ true → k.ticket ≡ Some t → Ok (record no_changes { slot = Release t.vm; cpu = left }) ≡ decides l id None VmRelease (vms_alone v k)
+pub releases : (l : Layout) (id : ℕ) (v : Vms) (k : Cpu) (t : Ticket) (left : CpuChange)
+    → left ≡ no_ticket_left
+    → (has_stage Booked k || has_stage Finished k) ≡ true
+    → k.ticket ≡ Some t
+    → Ok (record no_changes { slot = Release t.vm; cpu = left }) ≡ decides l id None VmRelease (vms_alone v k)
 unfolding rule
-releases l id v k t left gone h e = rw (gone, h) (ap (λ (o : Option Ticket). Ok (record no_changes { slot = Release (vm_of o); cpu = no_ticket_left })) (sym e))
+releases l id v k t left gone h e =
+    rw (gone, h)
+    (ap (λ (o : Option Ticket). Ok (record no_changes { slot = Release (vm_of o); cpu = no_ticket_left })) (sym e))
 
-pub releases_none : (l : Layout) (id : ℕ) (v : Vms) (k : Cpu) → (has_stage Booked k || has_stage Finished k) ≡ false → Err NoVm ≡ decides l id None VmRelease (vms_alone v k)
+pub releases_none : (l : Layout) (id : ℕ) (v : Vms) (k : Cpu)
+    → (has_stage Booked k || has_stage Finished k) ≡ false
+    → Err NoVm ≡ decides l id None VmRelease (vms_alone v k)
 unfolding rule
 releases_none l id v k h = rw h refl

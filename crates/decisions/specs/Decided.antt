@@ -23,21 +23,33 @@ module _ {A : Type 0} where
   abbrev pub used_with : SharedPart A → Guest A → CpuState → Used
   used_with s g k = with_guest (shared_of s) (guest_of g) (cpu_of k)
 
-  -- the result is what a call on the Shared part and the guest of a slot decides, whichever CPU makes it
-  abbrev pub IsDecidedByParts : Layout → ℕ → SharedPart A → Guest A → Step → Result Changes Refusal → Type 0
-  IsDecidedByParts l slot s g step r = (id : ℕ) (k : Cpu) → r ≡ decides l id (Some slot) step (with_guest (shared_of s) (guest_of g) k)
+  -- the result is what a call on the Shared part and the guest of a slot decides, whichever CPU
+  -- makes it
+  abbrev pub IsDecidedByParts : Layout → ℕ → SharedPart A → Guest A → Step → Result Changes Refusal
+      → Type 0
+  IsDecidedByParts l slot s g step r =
+      (id : ℕ) (k : Cpu)
+      → r ≡ decides l id (Some slot) step (with_guest (shared_of s) (guest_of g) k)
 
-  -- it is that of a call on a guest alone, whichever CPU makes it, and whichever slot the guest is of
+  -- it is that of a call on a guest alone, whichever CPU makes it, and whichever slot the guest is
+  -- of
   abbrev pub IsDecidedByGuest : Layout → Guest A → Step → Result Changes Refusal → Type 0
-  IsDecidedByGuest l g step r = (id slot : ℕ) (k : Cpu) → r ≡ decides l id (Some slot) step (guest_alone (guest_of g) k)
+  IsDecidedByGuest l g step r =
+      (id slot : ℕ) (k : Cpu) → r ≡ decides l id (Some slot) step (guest_alone (guest_of g) k)
 
-  -- it is that of a call that looks at a guest and at what its CPU holds, whatever the Shared part is
-  abbrev pub IsDecidedByHolder : Layout → Guest A → CpuState → Step → Result Changes Refusal → Type 0
-  IsDecidedByHolder l g k step r = (id slot : ℕ) (s : Shared) → r ≡ decides l id (Some slot) step (with_guest s (guest_of g) (cpu_of k))
+  -- it is that of a call that looks at a guest and at what its CPU holds, whatever the Shared part
+  -- is
+  abbrev pub IsDecidedByHolder : Layout → Guest A → CpuState → Step → Result Changes Refusal
+      → Type 0
+  IsDecidedByHolder l g k step r =
+      (id slot : ℕ) (s : Shared)
+      → r ≡ decides l id (Some slot) step (with_guest s (guest_of g) (cpu_of k))
 
 -- it is that of a call that looks at what its CPU holds, whatever the parts are
 abbrev pub IsDecidedByCpu : CpuState → Step → Result Changes Refusal → Type 0
-IsDecidedByCpu k step r = (l : Layout) (id slot : ℕ) (s : Shared) (g : ReferenceGuest) → r ≡ decides l id (Some slot) step (with_guest s g (cpu_of k))
+IsDecidedByCpu k step r =
+    (l : Layout) (id slot : ℕ) (s : Shared) (g : ReferenceGuest)
+    → r ≡ decides l id (Some slot) step (with_guest s g (cpu_of k))
 
 -- why a call on a guest that there is none of is refused, by the test of its arguments
 abbrev pub unloaded_why : Bool → Refusal
@@ -49,4 +61,5 @@ IsTicketIf passes k r = MatchOption r (passes ≡ false) (λ t. (passes ≡ true
 
 -- a guest maps a page, or its pool has a frame
 abbrev pub has_left : ℕ → ReferenceGuest → Bool
-has_left depth g = not (all_below (pages_below depth) (λ p. is_unmapped (g.tree.map p)) && length g.free == 0)
+has_left depth g =
+    not (all_below (pages_below depth) (λ p. is_unmapped (g.tree.map p)) && length g.free == 0)

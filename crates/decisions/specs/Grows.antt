@@ -7,4 +7,5 @@ use Rattle.reference_model.specs.model.Rules.{may_grow}
 
 -- a step that takes no memory changes no map, and makes no guest
 abbrev pub GrowsOnly : Step → Changes → Type 0
-GrowsOnly step h = may_grow step ≡ false → (h.host ≡ None) × (h.hyp ≡ None) × (h.guest ≡ None) × MakesNone h.part
+GrowsOnly step h =
+    may_grow step ≡ false → (h.host ≡ None) × (h.hyp ≡ None) × (h.guest ≡ None) × MakesNone h.part

@@ -64,7 +64,9 @@ fn change(first: Page, count: u64, entry: Entry) -> Option<MapChange>
 /// What a call on the VM part decides.
 pub fn decide_vms(vms: &VmPart, cpu: &CpuState, step: Step) -> Result<Changes, Refusal>
     requires names { uses_vms (names step) ≡ true }
-    ensures decided { (l : ReferenceLayout) → result ≡ decides l cpu.now.id None step (vms_alone (vm_slots vms.now) (cpu_of cpu.now)) }
+    ensures decided { (l : ReferenceLayout)
+        → result
+        ≡ decides l cpu.now.id None step (vms_alone (vm_slots vms.now) (cpu_of cpu.now)) }
     ensures grows { IfOk result (GrowsOnly step) }
 {
     match step {
@@ -87,8 +89,11 @@ pub fn decide_shared<A: Allocator>(
 ) -> Result<Changes, Refusal>
     requires names { uses_shared (names step) None ≡ true }
     requires suits { SharedSuits (layout_of layout.now) shared.now }
-    requires rely { CanRely (layout_of layout.now) cpu.now.id None step (used_alone (shared_of shared.now) (cpu_of cpu.now)) }
-    ensures decided { result ≡ decides (layout_of layout.now) cpu.now.id None step (used_alone (shared_of shared.now) (cpu_of cpu.now)) }
+    requires rely { CanRely (layout_of layout.now) cpu.now.id None step
+        (used_alone (shared_of shared.now) (cpu_of cpu.now)) }
+    ensures decided { result
+        ≡ decides (layout_of layout.now) cpu.now.id None step
+        (used_alone (shared_of shared.now) (cpu_of cpu.now)) }
     ensures grows { IfOk result (GrowsOnly step) }
 {
     match step {
@@ -118,8 +123,11 @@ pub fn decide_with_guest<A: Allocator>(
     requires names { names step ≡ shared_and_guest }
     requires slot { slot < 64 }
     requires depth { guest_depth guest.now ≡ (layout_of layout.now).depth }
-    requires rely { CanRely (layout_of layout.now) cpu.now.id (Some slot) step (used_with shared.now guest.now cpu.now) }
-    ensures decided { result ≡ decides (layout_of layout.now) cpu.now.id (Some slot) step (used_with shared.now guest.now cpu.now) }
+    requires rely { CanRely (layout_of layout.now) cpu.now.id (Some slot) step
+        (used_with shared.now guest.now cpu.now) }
+    ensures decided { result
+        ≡ decides (layout_of layout.now) cpu.now.id (Some slot) step
+        (used_with shared.now guest.now cpu.now) }
     ensures grows { IfOk result (GrowsOnly step) }
 {
     match step {
@@ -151,7 +159,10 @@ pub fn decide_guest<A: Allocator>(
     step: Step,
 ) -> Result<Changes, Refusal>
     requires names { names step ≡ just_guest }
-    ensures decided { (id slot : ℕ) → result ≡ decides (layout_of layout.now) id (Some slot) step (guest_alone (guest_of guest.now) (cpu_of cpu.now)) }
+    ensures decided { (id slot : ℕ)
+        → result
+        ≡ decides (layout_of layout.now) id (Some slot) step
+        (guest_alone (guest_of guest.now) (cpu_of cpu.now)) }
     ensures grows { IfOk result (GrowsOnly step) }
 {
     match step {
@@ -165,7 +176,10 @@ pub fn decide_guest<A: Allocator>(
 /// The refusal of a call on a guest that there is none of: Invalid where the frames aren't a good range, or the pages not all
 /// input pages.
 fn unloaded(layout: &Layout, pfn: u64, gfn: u64, n: u64) -> Refusal
-    ensures { result ≡ unloaded_why (is_good_range (layout_of layout.now) pfn n && are_good_pages_of (layout_of layout.now) gfn n) }
+    ensures { result
+        ≡ unloaded_why
+        (is_good_range (layout_of layout.now) pfn n
+        && are_good_pages_of (layout_of layout.now) gfn n) }
 {
     if !layout.is_good_range(Page(pfn), n) || !are_good_pages(layout, gfn, n) {
         return Refusal::Invalid;
@@ -188,7 +202,9 @@ fn unloaded_page(layout: &Layout, gfn: u64) -> Refusal
 pub fn refusal_of_none(layout: &Layout, step: Step) -> Refusal
     requires vms { uses_vms (names step) ≡ false }
     requires shared { uses_shared (names step) None ≡ false }
-    ensures { (id : ℕ) (k : Cpu) → guest_slot k step ≡ None → Err result ≡ decides (layout_of layout.now) id None step (guest_alone no_guest k) }
+    ensures { (id : ℕ) (k : Cpu)
+        → guest_slot k step ≡ None
+        → Err result ≡ decides (layout_of layout.now) id None step (guest_alone no_guest k) }
 {
     match step {
         Step::ShareGuest { pfn, gfn, n, .. } => unloaded(layout, pfn, gfn, n),

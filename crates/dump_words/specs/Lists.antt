@@ -19,9 +19,14 @@ abbrev pub texts_in : List (Bor (List ℕ)) → List (List ℕ)
 texts_in words = map (λ word. word.now) words
 
 -- what each of some words says, behind what those before them said; None where one says nothing
-abbrev pub read_behind : {X : Type 0} → (List ℕ → Option X) → List X → List (List ℕ) → Option (List X)
+abbrev pub read_behind : {X : Type 0}
+    → (List ℕ → Option X)
+    → List X
+    → List (List ℕ)
+    → Option (List X)
 read_behind read found [] = Some found
-read_behind read found (word ∷ more) = from (read word) (λ x. read_behind read (found ++ x ∷ []) more)
+read_behind read found (word ∷ more) =
+    from (read word) (λ x. read_behind read (found ++ x ∷ []) more)
 
 abbrev pub read_all : {X : Type 0} → (List ℕ → Option X) → List (List ℕ) → Option (List X)
 read_all read words = read_behind read [] words
@@ -36,11 +41,20 @@ profile_for profiles tree = profile_or_model (find (λ p. p.0 == tree) profiles)
 
 -- a root of a tree
 abbrev pub root_by : List (ℕ × Profile) → ℕ → RootWord → Root
-root_by profiles tree word = record { tree = tree; frame = word.frame; depth = 3 - word.level; count = word.pages; profile = profile_for profiles tree }
+root_by profiles tree word =
+    record {
+      tree = tree;
+      frame = word.frame;
+      depth = 3 - word.level;
+      count = word.pages;
+      profile = profile_for profiles tree;
+    }
 
 -- the roots of the host's tree, the hypervisor's and those of guests
 abbrev pub roots_by : List (ℕ × Profile) → RootWord → RootWord → List (ℕ × RootWord) → List Root
-roots_by profiles host hyp guests = root_by profiles 0 host ∷ root_by profiles 1 hyp ∷ map (λ g. root_by profiles (g.0 + 2) g.1) guests
+roots_by profiles host hyp guests =
+    root_by profiles 0 host ∷ root_by profiles 1 hyp
+    ∷ map (λ g. root_by profiles (g.0 + 2) g.1) guests
 
 -- what follows where a word was read, and the fault where it wasn't
 abbrev pub or_bad : {X Y : Type 0} → Option X → BadWord → (X → Result Y BadWord) → Result Y BadWord
@@ -48,11 +62,14 @@ or_bad None fault next = Err fault
 or_bad (Some x) fault next = next x
 
 -- the roots and the pages to skip, or the first kind of words of which one isn't of its form
-abbrev pub given_by : (host hyp : List ℕ) (guests profiles skips : List (List ℕ)) → Result (List Root × List Skip) BadWord
+abbrev pub given_by : (host hyp : List ℕ) (guests profiles skips : List (List ℕ))
+    → Result (List Root × List Skip) BadWord
 given_by host hyp guests profiles skips =
     or_bad (root_of_word host) bad.Host (λ own. or_bad (root_of_word hyp) bad.Hyp (λ other.
     if nat_lt 64 (length guests) then Err bad.ManyGuests
-    else or_bad (read_all guest_of guests) bad.Guest (λ roots. or_bad (read_all profile_of_word profiles) bad.Profile (λ words. or_bad (read_all skip_of skips) bad.Skip (λ pages.
+    else or_bad (read_all guest_of guests) bad.Guest
+    (λ roots. or_bad (read_all profile_of_word profiles) bad.Profile
+    (λ words. or_bad (read_all skip_of skips) bad.Skip (λ pages.
     Ok (roots_by words own other roots, pages))))))
 
 -- it was read, or it says which kind is wrong, or memory was refused
@@ -62,7 +79,11 @@ IsGiven said (Err (Bad fault)) = said ≡ Err fault
 IsGiven said (Err NoMemory) = Unit {0}
 
 -- and of words of one kind
-abbrev pub AreRead : {X V E : Type 0} → (V → List X) → Option (List X) → Result (Option V) E → Type 0
+abbrev pub AreRead : {X V E : Type 0}
+    → (V → List X)
+    → Option (List X)
+    → Result (Option V) E
+    → Type 0
 AreRead items said (Ok None) = said ≡ None
 AreRead items said (Ok (Some found)) = said ≡ Some (items found)
 AreRead items said (Err fault) = Unit {0}

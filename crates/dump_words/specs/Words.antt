@@ -1,4 +1,5 @@
--- The words of the command that dumps an image. Frames and pages are numbers as a trace writes them, all else is decimal.
+-- The words of the command that dumps an image. Frames and pages are numbers as a trace writes
+-- them, all else is decimal.
 use Rattle.std.specs.Prelude.{ℕ, ◌+◌, ◌<◌, ◌≤◌, ◌^◌, ◌==◌, ◌&&◌, ◌||◌, nat_le, nat_lt, Bool, true, false, List, length, take, drop, codes, position, Option, Some, None, if◌then◌else◌}
 use Rattle.std.specs.Str.{bytes_eq}
 use Rattle.trace_words.specs.Numbers.{decimal_of, number_of}
@@ -25,7 +26,9 @@ place_of mark word = position (λ b. b == mark) word
 
 -- a root of these numbers: of 1 to 16 pages below frame 2^40, at a level from 0 to 3
 abbrev pub made_of : Option ℕ → Option ℕ → Option ℕ → Option RootWord
-made_of (Some frame) (Some level) (Some pages) = if ((nat_lt 3 level || nat_lt pages 1) || nat_lt 16 pages) || nat_le (2 ^ 40) frame then None else Some (record { frame = frame; level = level; pages = pages })
+made_of (Some frame) (Some level) (Some pages) =
+    if ((nat_lt 3 level || nat_lt pages 1) || nat_lt 16 pages) || nat_le (2 ^ 40) frame then None
+    else Some (record { frame = frame; level = level; pages = pages })
 made_of frame level pages = None
 
 -- its numbers are small
@@ -39,15 +42,23 @@ IsLowGuest g = (g.0 ≤ 63) × IsLowRoot g.1
 
 -- FRAME and LEVEL[:PAGES]
 abbrev pub below_frame : Option ℕ → List ℕ → Option RootWord
-below_frame frame rest = or_else (place_of 58 rest) (made_of frame (decimal_of rest) (Some 1)) (λ at. made_of frame (decimal_of (take at rest)) (decimal_of (drop (at + 1) rest)))
+below_frame frame rest =
+    or_else (place_of 58 rest) (made_of frame (decimal_of rest) (Some 1))
+    (λ at. made_of frame (decimal_of (take at rest)) (decimal_of (drop (at + 1) rest)))
 
 -- FRAME[:LEVEL[:PAGES]]
 abbrev pub root_of_word : List ℕ → Option RootWord
-root_of_word word = or_else (place_of 58 word) (made_of (number_of word) (Some 0) (Some 1)) (λ at. below_frame (number_of (take at word)) (drop (at + 1) word))
+root_of_word word =
+    or_else (place_of 58 word) (made_of (number_of word) (Some 0) (Some 1))
+    (λ at. below_frame (number_of (take at word)) (drop (at + 1) word))
 
 -- N=ROOT
 abbrev pub guest_of : List ℕ → Option (ℕ × RootWord)
-guest_of word = from (place_of 61 word) (λ at. from (decimal_of (take at word)) (λ guest. if nat_lt 63 guest then None else from (root_of_word (drop (at + 1) word)) (λ root. Some (guest, root))))
+guest_of word =
+    from (place_of 61 word)
+    (λ at. from (decimal_of (take at word))
+    (λ guest. if nat_lt 63 guest then None
+    else from (root_of_word (drop (at + 1) word)) (λ root. Some (guest, root))))
 
 -- host, hyp, or a guest's number
 abbrev pub tree_of_word : List ℕ → Option ℕ
@@ -58,11 +69,18 @@ tree_of_word word =
 
 -- FIRST-LAST
 abbrev pub range_of : ℕ → List ℕ → Option Skip
-range_of tree word = from (place_of 45 word) (λ at. from (number_of (take at word)) (λ first. from (number_of (drop (at + 1) word)) (λ last. if nat_lt last first then None else Some (record { tree = tree; first = first; last = last }))))
+range_of tree word =
+    from (place_of 45 word)
+    (λ at. from (number_of (take at word))
+    (λ first. from (number_of (drop (at + 1) word))
+    (λ last. if nat_lt last first then None
+    else Some (record { tree = tree; first = first; last = last }))))
 
 -- TREE=FIRST-LAST
 abbrev pub skip_of : List ℕ → Option Skip
-skip_of word = from (place_of 61 word) (λ at. from (tree_of_word (take at word)) (λ tree. range_of tree (drop (at + 1) word)))
+skip_of word =
+    from (place_of 61 word)
+    (λ at. from (tree_of_word (take at word)) (λ tree. range_of tree (drop (at + 1) word)))
 
 abbrev pub given_forms : Bool → Bool → Bool → Option Forms
 given_forms fwb hvhe lpa2 = Some (record { fwb = fwb; hvhe = hvhe; lpa2 = lpa2 })
@@ -100,4 +118,8 @@ profile_named tree name =
 
 -- TREE=NAME
 abbrev pub profile_of_word : List ℕ → Option (ℕ × Profile)
-profile_of_word word = from (place_of 61 word) (λ at. from (tree_of_word (take at word)) (λ tree. from (profile_named tree (drop (at + 1) word)) (λ profile. Some (tree, profile))))
+profile_of_word word =
+    from (place_of 61 word)
+    (λ at. from (tree_of_word (take at word))
+    (λ tree. from (profile_named tree (drop (at + 1) word))
+    (λ profile. Some (tree, profile))))

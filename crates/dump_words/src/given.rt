@@ -71,7 +71,8 @@ fn guests_in(alloc: Global, words: &[&str]) -> Result<Option<Vec<(u64, RootWord)
 }
 
 fn profiles_in(alloc: Global, words: &[&str]) -> Result<Option<Vec<(u64, Profile)>>, AllocError>
-    ensures { AreRead (λ found. found.items) (read_all profile_of_word (map (λ word. word.now) words.now)) result }
+    ensures { AreRead (λ found. found.items)
+        (read_all profile_of_word (map (λ word. word.now) words.now)) result }
 {
     let mut found = Vec::with_capacity(alloc, words.len())?;
     for i in 0..words.len() {
@@ -158,7 +159,9 @@ pub fn read_words(
     profiles: &[&str],
     skips: &[&str],
 ) -> Result<Given, NotGiven>
-    ensures read { IsGiven (given_by host.now hyp.now (texts_in guests.now) (texts_in profiles.now) (texts_in skips.now)) result }
+    ensures read { IsGiven
+        (given_by host.now hyp.now (texts_in guests.now) (texts_in profiles.now)
+        (texts_in skips.now)) result }
     ensures roots { IfOk result (λ given. All IsRoot given.roots.items) }
     ensures few { IfOk result (λ given. length given.roots.items ≤ 66) }
 {

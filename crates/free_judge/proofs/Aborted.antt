@@ -44,21 +44,33 @@ leaf-mapped : (b : Bool) (a k : ℕ) → is_unmapped (advance (if b then leaf RW
 leaf-mapped true a k = refl
 leaf-mapped false a k = refl
 
-mapped-in : (c : Bool) (r : Region) (a k : ℕ) (e : Entry) → c ≡ true → is_unmapped (if c then advance (abort_leaf r a) k else e) ≡ false
+mapped-in : (c : Bool) (r : Region) (a k : ℕ) (e : Entry)
+    → c ≡ true
+    → is_unmapped (if c then advance (abort_leaf r a) k else e) ≡ false
 mapped-in true r a k e h = leaf-mapped (is_memory_kind r.kind) a k
 mapped-in false r a k e h = cc
 
-by-mapped : (m : Map) (r : Region) (page : ℕ) (u : Bool) → is_unmapped (m page) ≡ u → abort_edit m (Some r) page ≡ (let b = block_at (abort_depth m r page) page in if u then change (first_page b) (span b) (abort_leaf r (first_page b)) else None)
+by-mapped : (m : Map) (r : Region) (page : ℕ) (u : Bool)
+    → is_unmapped (m page) ≡ u
+    → abort_edit m (Some r) page
+    ≡ (let b = block_at (abort_depth m r page) page in
+    if u then change (first_page b) (span b) (abort_leaf r (first_page b)) else None)
 unfolding abort_edit
-by-mapped m r page u e = ap (λ (t : Bool). let b = block_at (abort_depth m r page) page in if t then change (first_page b) (span b) (abort_leaf r (first_page b)) else None) e
+by-mapped m r page u e =
+    ap
+    (λ (t : Bool). let b = block_at (abort_depth m r page) page in
+    if t then change (first_page b) (span b) (abort_leaf r (first_page b)) else None) e
 
-pub aborted : (m : Map) (o : Option Region) (page : ℕ) → is_some o ≡ true → is_unmapped (edited_map m (edit_of (abort_edit m o page)) page) ≡ false
+pub aborted : (m : Map) (o : Option Region) (page : ℕ)
+    → is_some o ≡ true
+    → is_unmapped (edited_map m (edit_of (abort_edit m o page)) page) ≡ false
 aborted m None page h = cc
 aborted m (Some r) page h = elim (both (is_unmapped (m page))) [
   | inl t ↦
       let b = block_at (abort_depth m r page) page in
       ap (λ c. is_unmapped (edited_map m (edit_of c) page)) (by-mapped m r page true t)
-      ∙ mapped-in (is_within (first_page b) (span b) page) r (first_page b) (page - first_page b) (m page) (in-block (block_pages (abort_depth m r page)) page (size_some (abort_depth m r page)))
+      ∙ mapped-in (is_within (first_page b) (span b) page) r (first_page b) (page - first_page b) (m page)
+      (in-block (block_pages (abort_depth m r page)) page (size_some (abort_depth m r page)))
   | inr t ↦ ap (λ c. is_unmapped (edited_map m (edit_of c) page)) (by-mapped m r page false t) ∙ t
 ]
 
@@ -66,13 +78,21 @@ module _ (l : Layout) (s : Contents) (cpu page : ℕ) where
   abbrev x : Used
   x = used_of shared None cpu s
 
-  made-mapped : rule_fails l cpu None (HostAbort page) x ≡ None → is_unmapped ((put_back shared None cpu s (made l cpu None (HostAbort page) x)).shared.host.map page) ≡ false
+  made-mapped : rule_fails l cpu None (HostAbort page) x ≡ None
+      → is_unmapped ((put_back shared None cpu s (made l cpu None (HostAbort page) x)).shared.host.map page) ≡ false
   unfolding made with_rows changed shared_after edited rule used_of put_back
-  made-mapped passes = aborted s.shared.host.map (region_of l.memory page) page (tested (rule_of l cpu None (HostAbort page) x) (lacks_slot shared None) passes).valid
+  made-mapped passes =
+      aborted s.shared.host.map (region_of l.memory page) page
+      (tested (rule_of l cpu None (HostAbort page) x) (lacks_slot shared None) passes).valid
 
-  pub abort-mapped : (reply : Reply) (t : Contents) → StepsAmply l s cpu (HostAbort page) reply t → is_done reply ≡ true → is_unmapped (t.shared.host.map page) ≡ false
+  pub abort-mapped : (reply : Reply) (t : Contents)
+      → StepsAmply l s cpu (HostAbort page) reply t
+      → is_done reply ≡ true
+      → is_unmapped (t.shared.host.map page) ≡ false
   abort-mapped reply t p done = elim (p.answers) [
-    | inl a ↦ ap (λ (u : Contents). is_unmapped (u.shared.host.map page)) (p.next ∙ ap (put_back shared None cpu s) a.next) ∙ made-mapped a.passes
+    | inl a ↦ ap (λ (u : Contents). is_unmapped (u.shared.host.map page))
+        (p.next ∙ ap (put_back shared None cpu s) a.next)
+        ∙ made-mapped a.passes
     | inr (inl a) ↦ let bad : false ≡ true = sym (ap is_done a.reply_is) ∙ done in cc
     | inr (inr a) ↦ elim (a.reply_is) [
       | inl e ↦ let bad : false ≡ true = sym (ap is_done e) ∙ done in cc
@@ -80,5 +100,8 @@ module _ (l : Layout) (s : Contents) (cpu page : ℕ) where
     ]
   ]
 
-pub steps-touch : (l : Layout) (s t : Contents) (cpu : ℕ) (step : Step) (reply : Reply) → StepsAmply l s cpu step reply t → Touches step reply t
-steps-touch l s t cpu step reply p page e done = abort-mapped l s cpu page reply t (subst (λ (k : Step). StepsAmply l s cpu k reply t) e p) done
+pub steps-touch : (l : Layout) (s t : Contents) (cpu : ℕ) (step : Step) (reply : Reply)
+    → StepsAmply l s cpu step reply t
+    → Touches step reply t
+steps-touch l s t cpu step reply p page e done =
+    abort-mapped l s cpu page reply t (subst (λ (k : Step). StepsAmply l s cpu k reply t) e p) done

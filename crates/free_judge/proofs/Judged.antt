@@ -25,7 +25,9 @@ use Rattle.free_judge.proofs.Aborted.{steps-touch}
 
 -- by what is seen
 
-module _ (w : Freedoms) (l : Layout) (before : Contents) (step : Step) (reply : Reply) (after : Contents) (told : Reply) (made b a v : Contents) (t : Reply × Contents) (is : told ≡ t.0) (same : OwnTables made t.1) (eb : b ≡ view w l before) (ea : a ≡ view w l after) (ev : v ≡ view w l made) where
+module _ (w : Freedoms) (l : Layout) (before : Contents) (step : Step) (reply : Reply) (after : Contents)
+    (told : Reply) (made b a v : Contents) (t : Reply × Contents) (is : told ≡ t.0) (same : OwnTables made t.1)
+    (eb : b ≡ view w l before) (ea : a ≡ view w l after) (ev : v ≡ view w l made) where
   wanted-is : v ≡ view w l t.1
   wanted-is = ev ∙ viewed w l made t.1 same
 
@@ -34,11 +36,18 @@ module _ (w : Freedoms) (l : Layout) (before : Contents) (step : Step) (reply : 
 
   at-views : Seen told b a v → Seen t.0 (view w l before) (view w l after) (view w l t.1)
   unfolding Seen
-  at-views h = subst (λ r. Seen r (view w l before) (view w l after) (view w l t.1)) is (subst (λ x. Seen told x (view w l after) (view w l t.1)) eb (subst (λ y. Seen told b y (view w l t.1)) ea (subst (λ z. Seen told b a z) wanted-is h)))
+  at-views h =
+      subst (λ r. Seen r (view w l before) (view w l after) (view w l t.1)) is
+      (subst (λ x. Seen told x (view w l after) (view w l t.1)) eb
+      (subst (λ y. Seen told b y (view w l t.1)) ea (subst (λ z. Seen told b a z) wanted-is h)))
 
   from-views : Seen t.0 (view w l before) (view w l after) (view w l t.1) → Seen told b a v
   unfolding Seen
-  from-views h = subst (λ z. Seen told b a z) (sym wanted-is) (subst (λ y. Seen told b y (view w l t.1)) (sym ea) (subst (λ x. Seen told x (view w l after) (view w l t.1)) (sym eb) (subst (λ r. Seen r (view w l before) (view w l after) (view w l t.1)) (sym is) h)))
+  from-views h =
+      subst (λ z. Seen told b a z) (sym wanted-is)
+      (subst (λ y. Seen told b y (view w l t.1)) (sym ea)
+      (subst (λ x. Seen told x (view w l after) (view w l t.1)) (sym eb)
+      (subst (λ r. Seen r (view w l before) (view w l after) (view w l t.1)) (sym is) h)))
 
   to : Seen t.0 (view w l before) (view w l after) (view w l t.1) → AgreesFreely w l before step reply after t
   unfolding Seen
@@ -64,43 +73,71 @@ module _ (w : Freedoms) (l : Layout) (before : Contents) (step : Step) (reply : 
   unfolding Seen
   agrees-by = (λ h. to (at-views h), λ h. from-views (from h))
 
-  pub first-by : (found : Option Disagreement) → IfSome found (IsFirstBy w step reply told b a v after) → IfSome found (IsFirstBy w step reply t.0 (view w l before) (view w l after) (view w l t.1) after)
-  first-by found h = subst (λ r. IfSome found (IsFirstBy w step reply r (view w l before) (view w l after) (view w l t.1) after)) is (subst (λ x. IfSome found (IsFirstBy w step reply told x (view w l after) (view w l t.1) after)) eb (subst (λ y. IfSome found (IsFirstBy w step reply told b y (view w l t.1) after)) ea (subst (λ z. IfSome found (IsFirstBy w step reply told b a z after)) wanted-is h)))
+  pub first-by : (found : Option Disagreement)
+      → IfSome found (IsFirstBy w step reply told b a v after)
+      → IfSome found (IsFirstBy w step reply t.0 (view w l before) (view w l after) (view w l t.1) after)
+  first-by found h =
+      subst (λ r. IfSome found (IsFirstBy w step reply r (view w l before) (view w l after) (view w l t.1) after)) is
+      (subst (λ x. IfSome found (IsFirstBy w step reply told x (view w l after) (view w l t.1) after)) eb
+      (subst (λ y. IfSome found (IsFirstBy w step reply told b y (view w l t.1) after)) ea
+      (subst (λ z. IfSome found (IsFirstBy w step reply told b a z after)) wanted-is h)))
 
 -- by laws
 
 pub both-ways : {A B C : Type 0} → A ↔ B → B ↔ C → A ↔ C
 both-ways p q = (λ a. q.0 (p.0 a), λ c. p.1 (q.1 c))
 
-module _ (w : Freedoms) (l : Layout) (before legal : Contents) (cpu : ℕ) (reply : Reply) (after : Contents) (usable : IsUsable l) (begins : Alike w l before legal) (is : LegalInAnyTrees l legal) where
+module _ (w : Freedoms) (l : Layout) (before legal : Contents) (cpu : ℕ) (reply : Reply) (after : Contents)
+    (usable : IsUsable l) (begins : Alike w l before legal) (is : LegalInAnyTrees l legal) where
   no-abort : (step : Step) → reads_host step ≡ false → Touches step reply after
   no-abort step reads p e done = let bad : false ≡ true = sym reads ∙ ap reads_host e in cc
 
   no-touch : (step : Step) → is_read step ≡ true → Touches step reply after
   no-touch step reads p e done = let bad : true ≡ false = sym reads ∙ ap is_read e in cc
 
-  by-read : (step : Step) → is_read step ≡ true → OwnTables before legal → AgreesFreely w l before step reply after (foretell_amply l (without_tables before) cpu step) ↔ JudgedWith w l before cpu step reply after
+  by-read : (step : Step)
+      → is_read step ≡ true
+      → OwnTables before legal
+      → AgreesFreely w l before step reply after (foretell_amply l (without_tables before) cpu step)
+      ↔ JudgedWith w l before cpu step reply after
   by-read step read own =
       let law = reads_seen w l before legal cpu step reply after own is read in
       (λ h. law.1 h.agrees, λ j. record { agrees = law.0 j; mapped = λ lazy. no-touch step read })
 
-  by-view : (step : Step) → asks_pool step ≡ false → reads_host step ≡ false → is_read step ≡ false → AgreesFreely w l before step reply after (foretell_amply l (view w l before) cpu step) ↔ JudgedWith w l before cpu step reply after
+  by-view : (step : Step)
+      → asks_pool step ≡ false
+      → reads_host step ≡ false
+      → is_read step ≡ false
+      → AgreesFreely w l before step reply after (foretell_amply l (view w l before) cpu step)
+      ↔ JudgedWith w l before cpu step reply after
   by-view step asks reads read =
       let law = judged_in_view w l before legal cpu step reply after begins is asks reads read in
       let told = seen_by_told w l before cpu step reply after in
       (λ h. law.1 (told.1 h.agrees), λ j. record { agrees = told.0 (law.0 j); mapped = λ lazy. no-abort step reads })
 
-  by-abort : (p : ℕ) (b : Bool) → w.lazy_host ≡ b → AgreesFreely w l before (HostAbort p) reply after (foretell_amply l (view w l before) cpu (HostAbort p)) ↔ JudgedWith w l before cpu (HostAbort p) reply after
+  by-abort : (p : ℕ) (b : Bool)
+      → w.lazy_host ≡ b
+      → AgreesFreely w l before (HostAbort p) reply after (foretell_amply l (view w l before) cpu (HostAbort p))
+      ↔ JudgedWith w l before cpu (HostAbort p) reply after
   by-abort p true lazy =
       let law = abort_in_view w l before legal cpu p reply after lazy usable begins is in
-      let told = seen_by_told w l before cpu (HostAbort p) reply after in
-      (λ h. law.1 (told.1 h.agrees, h.mapped lazy), λ j. let k = law.0 j in record { agrees = told.0 k.0; mapped = λ z. k.1 })
+      let told = seen_by_told w l before cpu (HostAbort p) reply after in (
+        λ h. law.1 (told.1 h.agrees, h.mapped lazy),
+        λ j. let k = law.0 j in
+            record { agrees = told.0 k.0; mapped = λ z. k.1 },
+      )
   by-abort p false lazy =
       let law = abort_of_any_kind w l before legal cpu p reply after lazy begins is in
-      let told = seen_by_told w l before cpu (HostAbort p) reply after in
-      (λ h. law.1 (told.1 h.agrees), λ j. record { agrees = told.0 (law.0 j); mapped = λ z. let bad : false ≡ true = sym lazy ∙ z in cc })
+      let told = seen_by_told w l before cpu (HostAbort p) reply after in (
+        λ h. law.1 (told.1 h.agrees),
+        λ j. record { agrees = told.0 (law.0 j); mapped = λ z. let bad : false ≡ true = sym lazy ∙ z in cc },
+      )
 
-  each : (step : Step) → (is_read step ≡ true → OwnTables before legal) → asks_pool step ≡ false → AgreesFreely w l before step reply after (foretell_amply l (stepped_from w l before step) cpu step) ↔ JudgedWith w l before cpu step reply after
+  each : (step : Step)
+      → (is_read step ≡ true → OwnTables before legal)
+      → asks_pool step ≡ false
+      → AgreesFreely w l before step reply after (foretell_amply l (stepped_from w l before step) cpu step)
+      ↔ JudgedWith w l before cpu step reply after
   each (HostTranslate p) own asks = by-read (HostTranslate p) refl (own refl)
   each (HypTranslate p) own asks = by-read (HypTranslate p) refl (own refl)
   each (OwnerOf f) own asks = by-read (OwnerOf f) refl (own refl)
@@ -111,13 +148,19 @@ module _ (w : Freedoms) (l : Layout) (before legal : Contents) (cpu : ℕ) (repl
 pub found_where : FoundWhere
 found_where w l before legal cpu step reply after found usable begins own is asks j =
     let ready = j.from.is asks in
-    both-ways (subst (λ (s : Contents). (found ≡ None) ↔ AgreesFreely w l before step reply after (foretell_amply l s cpu step)) ready j.none) (each w l before legal cpu reply after usable begins is step own asks)
+    both-ways
+    (subst
+    (λ (s : Contents). (found ≡ None)
+    ↔ AgreesFreely w l before step reply after (foretell_amply l s cpu step)) ready j.none)
+    (each w l before legal cpu reply after usable begins is step own asks)
 
 pub no_false_alarm : NoFalseAlarm
 no_false_alarm w l s t c before after found usable legal steps stored begins ends asks j =
     let own = steps_judged l s t c before after legal steps stored begins ends in
     let amply = ample_steps l s t c steps stored in
     let touch = steps-touch l s.contents t.contents c.cpu c.step c.reply amply in
-    let here : Touches c.step c.reply after = λ p e done. ap (λ (u : Contents). is_unmapped (u.shared.host.map p)) (sym ends) ∙ touch p e done in
-    (found_where w l before s.contents c.cpu c.step c.reply after found usable (viewed w l before s.contents begins) (λ r. begins) (any-trees l s.contents legal) asks j).1
+    let here : Touches c.step c.reply after =
+    λ p e done. ap (λ (u : Contents). is_unmapped (u.shared.host.map p)) (sym ends) ∙ touch p e done in
+    (found_where w l before s.contents c.cpu c.step c.reply after found usable (viewed w l before s.contents begins)
+    (λ r. begins) (any-trees l s.contents legal) asks j).1
     (more_lets_through w l before c.cpu c.step c.reply after here own)

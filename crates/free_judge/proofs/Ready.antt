@@ -21,13 +21,17 @@ bare-asked false s h = refl
 module _ (w : Freedoms) (l : Layout) (s : Contents) (step : Step) (b : Contents) where
   pub ready-read : is_read step ≡ true → b ≡ without_tables s → IsReady w l s step (asked_of step b)
   ready-read read e =
-      let from : stepped_from w l s step ≡ without_tables s = if-true (is_read step) (without_tables s) (view w l s) read in
+      let from : stepped_from w l s step ≡ without_tables s =
+      if-true (is_read step) (without_tables s) (view w l s) read in
       record {
         alike = asked-alike (asks_pool step) b ∙ ap without_tables (e ∙ sym from);
         is = λ asks. bare-asked (asks_pool step) b asks ∙ ap without_tables e ∙ sym from;
       }
 
-  pub ready-seen : is_read step ≡ false → OwnTables b (view w l s) → (asks_pool step ≡ false → b ≡ view w l s) → IsReady w l s step (asked_of step b)
+  pub ready-seen : is_read step ≡ false
+      → OwnTables b (view w l s)
+      → (asks_pool step ≡ false → b ≡ view w l s)
+      → IsReady w l s step (asked_of step b)
   ready-seen read e is =
       let from : stepped_from w l s step ≡ view w l s = if-false (is_read step) (without_tables s) (view w l s) read in
       record {
@@ -35,7 +39,12 @@ module _ (w : Freedoms) (l : Layout) (s : Contents) (step : Step) (b : Contents)
         is = λ asks. bare-asked (asks_pool step) b asks ∙ ap without_tables (is asks) ∙ sym from;
       }
 
-pub told-freely : (w : Freedoms) (l m : Layout) (s b : Contents) (cpu : ℕ) (step : Step) (reply : Reply) (after : Contents) → m ≡ l → IsReady w l s step (asked_of step b) → IsToldAmply m b cpu step reply after → IsToldFreely w l s cpu step reply after
+pub told-freely : (w : Freedoms) (l m : Layout) (s b : Contents) (cpu : ℕ) (step : Step) (reply : Reply)
+    (after : Contents)
+    → m ≡ l
+    → IsReady w l s step (asked_of step b)
+    → IsToldAmply m b cpu step reply after
+    → IsToldFreely w l s cpu step reply after
 told-freely w l m s b cpu step reply after e from told =
     let t = subst (λ (k : Layout). IsToldAmply k b cpu step reply after) e told in
     record { ready = asked_of step b; from = from; reply_is = t.reply_is; contents_are = t.contents_are }

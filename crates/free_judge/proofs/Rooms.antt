@@ -59,7 +59,9 @@ module _ (k : Cpu) (load : HasLowLoad k.loaded) (ticket : HasLowTicket k.ticket)
   low-slot MarkDying = low-ticket closing_vm
   low-slot step = tt
 
-pub low-cpu : (ks : List GhostCpu) (c : ℕ) → All IsKeptCpu ks → HasLowLoad (get_or (map cpu_in ks) c no_cpu).loaded × HasLowTicket (get_or (map cpu_in ks) c no_cpu).ticket
+pub low-cpu : (ks : List GhostCpu) (c : ℕ)
+    → All IsKeptCpu ks
+    → HasLowLoad (get_or (map cpu_in ks) c no_cpu).loaded × HasLowTicket (get_or (map cpu_in ks) c no_cpu).ticket
 low-cpu [] c h = (tt, tt)
 low-cpu (k ∷ ks) zero h = let kept = All-head IsKeptCpu k ks h in (kept.loaded, kept.ticket)
 low-cpu (k ∷ ks) (suc c) h = low-cpu ks c (All-tail IsKeptCpu k ks h)
@@ -70,7 +72,10 @@ some-room : (b : Bool) (n : ℕ) → n ≡ 1 → (b && (if b then n else 0) == 0
 some-room true n e = ap (λ (m : ℕ). m == 0) e
 some-room false n e = refl
 
-guest-room : (slot : Option ℕ) (rooms : ℕ → ℕ) → IsLowSlot slot → ((v : ℕ) → v < 64 → rooms v ≡ 1) → (is_some slot && room_at rooms slot == 0) ≡ false
+guest-room : (slot : Option ℕ) (rooms : ℕ → ℕ)
+    → IsLowSlot slot
+    → ((v : ℕ) → v < 64 → rooms v ≡ 1)
+    → (is_some slot && room_at rooms slot == 0) ≡ false
 guest-room None rooms low h = refl
 guest-room (Some v) rooms low h = ap (λ (m : ℕ). m == 0) (h v low)
 
@@ -80,7 +85,11 @@ four false false true d p q r s = cc
 four false true c d p q r s = cc
 four true b c d p q r s = cc
 
-pub has-room : (n : Names) (slot : Option ℕ) (cpu cpus : ℕ) (r : Rooms) → cpu < cpus → IsLowSlot slot → IsOpen cpus r → is_full n slot (rooms_of n slot cpu r) ≡ false
+pub has-room : (n : Names) (slot : Option ℕ) (cpu cpus : ℕ) (r : Rooms)
+    → cpu < cpus
+    → IsLowSlot slot
+    → IsOpen cpus r
+    → is_full n slot (rooms_of n slot cpu r) ≡ false
 unfolding is_full rooms_of
 has-room n slot cpu cpus r less low rooms = four _ _ _ _
     (ap (λ (m : ℕ). m == 0) (rooms.cpu cpu less))

@@ -1,4 +1,5 @@
--- What the model says of a step where pools may hold any number of frames, and states that hold enough.
+-- What the model says of a step where pools may hold any number of frames, and states that hold
+-- enough.
 use Rattle.std.specs.Prelude.{◌≡◌, ℕ, ◌+◌, ◌<◌, Bool, true, false, List, [], All, nat_lt, if◌then◌else◌}
 use Rattle.call_table.specs.declared.reply.Reply.{Reply}
 use Rattle.call_table.specs.declared.step.Step.{Step}
@@ -37,7 +38,8 @@ filled_guest false fs v g = record (bare_guest g) { free = if nat_lt v 64 then f
 
 -- a state so
 abbrev pub filled_by : Bool → List ℕ → Contents → Contents
-filled_by b fs s = record s { shared = filled_shared fs s.shared; guest = λ v. filled_guest b fs v (s.guest v) }
+filled_by b fs s =
+    record s { shared = filled_shared fs s.shared; guest = λ v. filled_guest b fs v (s.guest v) }
 
 -- frames past all memory
 abbrev pub AreOutside : List ℕ → Type 0
@@ -61,8 +63,10 @@ most_needed l s cpu step =
     let h = (rule_of l cpu (guest_slot (s.cpu cpu) step) step x).changes in
     shared_need l.depth h x.shared + guest_need l.depth h x.guest
 
--- the reply, and all but tables and free frames of the state after it, are what the model says of the state that the step is asked of
-pub record IsToldAmply (l : Layout) (s : Contents) (cpu : ℕ) (step : Step) (reply : Reply) (after : Contents) : Type 0 where
+-- the reply, and all but tables and free frames of the state after it, are what the model says of
+-- the state that the step is asked of
+pub record IsToldAmply (l : Layout) (s : Contents) (cpu : ℕ) (step : Step) (reply : Reply)
+    (after : Contents) : Type 0 where
   pub reply_is : reply ≡ (foretell_amply l (asked_of step s) cpu step).0
   pub contents_are : OwnTables after (foretell_amply l (asked_of step s) cpu step).1
 

@@ -20,24 +20,30 @@ use Rattle.ghost_judge.specs.Judgements.{IsFirstOfState}
 use Rattle.ghost_spec.specs.declared.lists.GhostLists.{GhostLists}
 use Rattle.ghost_spec.specs.States.{contents_in}
 
--- what a step is judged by: what the freedoms leave of the state before, and for one that only reads the state itself without tables and free frames
+-- what a step is judged by: what the freedoms leave of the state before, and for one that only
+-- reads the state itself without tables and free frames
 abbrev pub stepped_from : Freedoms → Layout → Contents → Step → Contents
 stepped_from w l before step = if is_read step then without_tables before else view w l before
 
--- the state that the model steps from; where a guest's pool is asked, its tables and free frames are chosen
-pub record IsReady (w : Freedoms) (l : Layout) (before : Contents) (step : Step) (ready : Contents) : Type 0 where
+-- the state that the model steps from; where a guest's pool is asked, its tables and free frames
+-- are chosen
+pub record IsReady (w : Freedoms) (l : Layout) (before : Contents) (step : Step)
+    (ready : Contents) : Type 0 where
   pub alike : OwnTables ready (stepped_from w l before step)
   pub is : asks_pool step ≡ false → ready ≡ stepped_from w l before step
 
 -- the reply and the state after it, but for tables and free frames, are the model's of such a state
-pub record IsToldFreely (w : Freedoms) (l : Layout) (before : Contents) (cpu : ℕ) (step : Step) (reply : Reply) (after : Contents) : Type 0 where
+pub record IsToldFreely (w : Freedoms) (l : Layout) (before : Contents) (cpu : ℕ) (step : Step)
+    (reply : Reply) (after : Contents) : Type 0 where
   pub ready : Contents
   pub from : IsReady w l before step ready
   pub reply_is : reply ≡ (foretell_amply l ready cpu step).0
   pub contents_are : OwnTables after (foretell_amply l ready cpu step).1
 
--- the reply and the state after it agree with what is told; and a lazy host has the page that it touched
-pub record AgreesFreely (w : Freedoms) (l : Layout) (before : Contents) (step : Step) (reply : Reply) (after : Contents) (told : Reply × Contents) : Type 0 where
+-- the reply and the state after it agree with what is told; and a lazy host has the page that it
+-- touched
+pub record AgreesFreely (w : Freedoms) (l : Layout) (before : Contents) (step : Step)
+    (reply : Reply) (after : Contents) (told : Reply × Contents) : Type 0 where
   pub agrees : AgreesSeen w l before step reply after told
   pub mapped : w.lazy_host ≡ true → Touches step reply after
 
@@ -52,7 +58,8 @@ pub record IsMissing (page : ℕ) (post wanted : Contents) (d : Disagreement) : 
   pub told_is : d ≡ MapDiffers Host page Unmapped (wanted.shared.host.map page)
 
 -- a lazy host hasn't the page that it touched
-pub record IsUntouchedBy (w : Freedoms) (step : Step) (reply : Reply) (post wanted : Contents) (d : Disagreement) : Type 0 where
+pub record IsUntouchedBy (w : Freedoms) (step : Step) (reply : Reply) (post wanted : Contents)
+    (d : Disagreement) : Type 0 where
   pub page : ℕ
   pub lazy : w.lazy_host ≡ true
   pub touched : page_touched step reply ≡ Some page
@@ -60,46 +67,70 @@ pub record IsUntouchedBy (w : Freedoms) (step : Step) (reply : Reply) (post want
 
 -- the state is the one that is wanted, and a lazy host has the page that it touched
 abbrev pub IsWanted : Freedoms → Step → Reply → Contents → Contents → Contents → Type 0
-IsWanted w step reply after wanted post = (after ≡ wanted) × (w.lazy_host ≡ true → Touches step reply post)
+IsWanted w step reply after wanted post =
+    (after ≡ wanted) × (w.lazy_host ≡ true → Touches step reply post)
 
 -- the first difference from the state that is wanted, or else that page
-abbrev pub IsFirstUnwanted : Freedoms → Step → Reply → Contents → Contents → Contents → Disagreement → Type 0
-IsFirstUnwanted w step reply after wanted post d = IsFirstOfState after wanted d ⊎ ((after ≡ wanted) × IsUntouchedBy w step reply post wanted d)
+abbrev pub IsFirstUnwanted : Freedoms → Step → Reply → Contents → Contents → Contents → Disagreement
+    → Type 0
+IsFirstUnwanted w step reply after wanted post d =
+    IsFirstOfState after wanted d ⊎ ((after ≡ wanted) × IsUntouchedBy w step reply post wanted d)
 
--- agreement by what is seen of the states before and after and of the one that is wanted, and by the state after itself
-pub record AgreesBy (w : Freedoms) (step : Step) (reply told : Reply) (before after wanted post : Contents) : Type 0 where
-  pub agrees : (SaysAs w told reply × (after ≡ wanted)) ⊎ (WantsAnyMemory step reply told × (after ≡ before))
+-- agreement by what is seen of the states before and after and of the one that is wanted, and by
+-- the state after itself
+pub record AgreesBy (w : Freedoms) (step : Step) (reply told : Reply)
+    (before after wanted post : Contents) : Type 0 where
+  pub agrees : (SaysAs w told reply × (after ≡ wanted))
+      ⊎ (WantsAnyMemory step reply told × (after ≡ before))
   pub mapped : w.lazy_host ≡ true → Touches step reply post
 
--- the reply is neither the model's, nor one that stands for it, nor that of a step that wants memory
+-- the reply is neither the model's, nor one that stands for it, nor that of a step that wants
+-- memory
 pub record IsOtherReply (w : Freedoms) (step : Step) (reply told said spec : Reply) : Type 0 where
   pub said_is : said ≡ reply
   pub spec_is : spec ≡ told
   pub differ : SaysAs w told reply → ⊥
   pub is_no_want : WantsAnyMemory step reply told → ⊥
 
--- memory was wanted, and the state changed: the first difference from the one before. Or the reply stands for the model's, and the state isn't the one that is wanted; or it is, and a lazy host hasn't the page that it touched
-abbrev pub IsFirstSeen : Freedoms → Step → Reply → Reply → Contents → Contents → Contents → Contents → Disagreement → Type 0
+-- memory was wanted, and the state changed: the first difference from the one before. Or the reply
+-- stands for the model's, and the state isn't the one that is wanted; or it is, and a lazy host
+-- hasn't the page that it touched
+abbrev pub IsFirstSeen : Freedoms → Step → Reply → Reply → Contents → Contents → Contents → Contents
+    → Disagreement → Type 0
 IsFirstSeen w step reply told before after wanted post d =
     (WantsAnyMemory step reply told × IsFirstOfState after before d)
     ⊎ ((SaysAs w told reply × IsFirstOfState after wanted d)
     ⊎ (SaysAs w told reply × (after ≡ wanted) × IsUntouchedBy w step reply post wanted d))
 
 -- the first difference
-abbrev pub IsFirstBy : Freedoms → Step → Reply → Reply → Contents → Contents → Contents → Contents → Disagreement → Type 0
-IsFirstBy w step reply told before after wanted post (ReplyDiffers said spec) = IsOtherReply w step reply told said spec
-IsFirstBy w step reply told before after wanted post d = IsFirstSeen w step reply told before after wanted post d
+abbrev pub IsFirstBy : Freedoms → Step → Reply → Reply → Contents → Contents → Contents → Contents
+    → Disagreement → Type 0
+IsFirstBy w step reply told before after wanted post (ReplyDiffers said spec) =
+    IsOtherReply w step reply told said spec
+IsFirstBy w step reply told before after wanted post d =
+    IsFirstSeen w step reply told before after wanted post d
 
 -- both of states on lists
-abbrev pub AgreesIn : Freedoms → Step → Reply → Reply → GhostLists → GhostLists → GhostLists → GhostLists → Type 0
-AgreesIn w step reply told before after wanted post = AgreesBy w step reply told (contents_in before) (contents_in after) (contents_in wanted) (contents_in post)
+abbrev pub AgreesIn : Freedoms → Step → Reply → Reply → GhostLists → GhostLists → GhostLists
+    → GhostLists → Type 0
+AgreesIn w step reply told before after wanted post =
+    AgreesBy w step reply told (contents_in before) (contents_in after) (contents_in wanted)
+    (contents_in post)
 
-abbrev pub IsFirstIn : Freedoms → Step → Reply → Reply → GhostLists → GhostLists → GhostLists → GhostLists → Disagreement → Type 0
-IsFirstIn w step reply told before after wanted post = IsFirstBy w step reply told (contents_in before) (contents_in after) (contents_in wanted) (contents_in post)
+abbrev pub IsFirstIn : Freedoms → Step → Reply → Reply → GhostLists → GhostLists → GhostLists
+    → GhostLists → Disagreement → Type 0
+IsFirstIn w step reply told before after wanted post =
+    IsFirstBy w step reply told (contents_in before) (contents_in after) (contents_in wanted)
+    (contents_in post)
 
--- judged up to the freedoms: nothing is found just where reply and state agree with what the model says, else the first difference of what the freedoms leave
-pub record IsJudgedFreely (w : Freedoms) (l : Layout) (before : Contents) (cpu : ℕ) (step : Step) (reply : Reply) (after : Contents) (found : Option Disagreement) : Type 0 where
+-- judged up to the freedoms: nothing is found just where reply and state agree with what the model
+-- says, else the first difference of what the freedoms leave
+pub record IsJudgedFreely (w : Freedoms) (l : Layout) (before : Contents) (cpu : ℕ) (step : Step)
+    (reply : Reply) (after : Contents) (found : Option Disagreement) : Type 0 where
   pub ready : Contents
   pub from : IsReady w l before step ready
-  pub none : (found ≡ None) ↔ AgreesFreely w l before step reply after (foretell_amply l ready cpu step)
-  pub first : IfSome found (IsFirstBy w step reply (foretell_amply l ready cpu step).0 (view w l before) (view w l after) (view w l (foretell_amply l ready cpu step).1) after)
+  pub none : (found ≡ None)
+      ↔ AgreesFreely w l before step reply after (foretell_amply l ready cpu step)
+  pub first : IfSome found
+      (IsFirstBy w step reply (foretell_amply l ready cpu step).0 (view w l before)
+      (view w l after) (view w l (foretell_amply l ready cpu step).1) after)

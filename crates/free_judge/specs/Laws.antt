@@ -17,14 +17,31 @@ use Rattle.freedoms.specs.OwnTables.{OwnTables}
 use Rattle.ghost_judge.specs.declared.disagreement.Disagreement.{Disagreement}
 use Rattle.free_judge.specs.Freely.{IsJudgedFreely}
 
--- where some legal state is like the one before, nothing is found just where the call is judged to agree. A read is of the state itself
+-- where some legal state is like the one before, nothing is found just where the call is judged to
+-- agree. A read is of the state itself
 abbrev pub FoundWhere : Type 0
-FoundWhere = (w : Freedoms) (l : Layout) (before legal : Contents) (cpu : ℕ) (step : Step) (reply : Reply) (after : Contents) (found : Option Disagreement)
-    → IsUsable l → Alike w l before legal → (is_read step ≡ true → OwnTables before legal) → LegalInAnyTrees l legal → asks_pool step ≡ false
-    → IsJudgedFreely w l before cpu step reply after found → (found ≡ None) ↔ JudgedWith w l before cpu step reply after
+FoundWhere =
+    (w : Freedoms) (l : Layout) (before legal : Contents) (cpu : ℕ) (step : Step) (reply : Reply)
+    (after : Contents) (found : Option Disagreement)
+    → IsUsable l
+    → Alike w l before legal
+    → (is_read step ≡ true → OwnTables before legal)
+    → LegalInAnyTrees l legal
+    → asks_pool step ≡ false
+    → IsJudgedFreely w l before cpu step reply after found
+    → (found ≡ None) ↔ JudgedWith w l before cpu step reply after
 
--- no false alarm: nothing is found of a step of the model from a legal state, whatever tables and free frames are told of the states before and after it
+-- no false alarm: nothing is found of a step of the model from a legal state, whatever tables and
+-- free frames are told of the states before and after it
 abbrev pub NoFalseAlarm : Type 0
-NoFalseAlarm = (w : Freedoms) (l : Layout) (s t : Reference) (c : Call) (before after : Contents) (found : Option Disagreement)
-    → IsUsable l → Legal l s.contents → Steps l s c t → c.reply ≢ Refused LogFull → OwnTables before s.contents → OwnTables t.contents after → asks_pool c.step ≡ false
+NoFalseAlarm =
+    (w : Freedoms) (l : Layout) (s t : Reference) (c : Call) (before after : Contents)
+    (found : Option Disagreement)
+    → IsUsable l
+    → Legal l s.contents
+    → Steps l s c t
+    → c.reply ≢ Refused LogFull
+    → OwnTables before s.contents
+    → OwnTables t.contents after
+    → asks_pool c.step ≡ false
     → IsJudgedFreely w l before c.cpu c.step c.reply after found → found ≡ None

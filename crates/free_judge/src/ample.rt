@@ -39,7 +39,8 @@ fn open(alloc: Global, state: Ghost) -> Result<Ghost, AllocError>
 /// The state with these free frames in each pool that the step doesn't ask.
 fn filled(alloc: Global, state: &Ghost, step: Step, frames: &[u64]) -> Result<Ghost, AllocError>
     requires { AreOutside frames.now }
-    ensures contents { IfOk result (λ g. contents_in g ≡ filled_by (asks_pool_of step) frames.now (contents_in state.now)) }
+    ensures contents { IfOk result
+        (λ g. contents_in g ≡ filled_by (asks_pool_of step) frames.now (contents_in state.now)) }
     ensures layout { IfOk result (λ g. layout_of g.layout ≡ layout_of state.now.layout) }
 {
     if asks_pool(step) {
@@ -52,7 +53,8 @@ fn filled(alloc: Global, state: &Ghost, step: Step, frames: &[u64]) -> Result<Gh
 /// That state, where each log has room for a call.
 fn ready(alloc: Global, state: &Ghost, step: Step, frames: &[u64]) -> Result<Ghost, AllocError>
     requires { AreOutside frames.now }
-    ensures contents { IfOk result (λ g. contents_in g ≡ filled_by (asks_pool_of step) frames.now (contents_in state.now)) }
+    ensures contents { IfOk result
+        (λ g. contents_in g ≡ filled_by (asks_pool_of step) frames.now (contents_in state.now)) }
     ensures layout { IfOk result (λ g. layout_of g.layout ≡ layout_of state.now.layout) }
     ensures rooms { IfOk result (λ g. IsOpen state.now.layout.config.cpus (ghost_state g).rooms) }
 {
@@ -72,9 +74,15 @@ fn attempted(
     requires cpu { cpu < state.now.layout.config.cpus }
     requires generation { HasNextGeneration ((contents_in state.now).cpu cpu).ticket step }
     requires frames { AreOutside frames.now }
-    ensures told { IfOk result (λ o. IfSome o (λ r. IsToldAmply (layout_of state.now.layout) (contents_in state.now) cpu step r.0 (contents_in r.1))) }
+    ensures told { IfOk result
+        (λ o. IfSome o
+        (λ r. IsToldAmply (layout_of state.now.layout) (contents_in state.now) cpu step r.0
+        (contents_in r.1))) }
     ensures layout { IfOk result (λ o. IfSome o (λ r. layout_of r.1.layout ≡ layout_of state.now.layout)) }
-    ensures short { IfOk result (λ o. o ≡ None → length frames.now < most_needed (layout_of state.now.layout) (contents_in state.now) cpu step) }
+    ensures short { IfOk result
+        (λ o. o ≡ None
+        → length frames.now < most_needed (layout_of state.now.layout)
+        (contents_in state.now) cpu step) }
 {
     let _ = state.lists().layout.map.regions();
     let before = ready(alloc, state, step, frames)?;
@@ -97,7 +105,9 @@ pub fn predict_amply(
 ) -> Result<(Reply, Ghost), AllocError>
     requires cpu { cpu < state.now.layout.config.cpus }
     requires generation { HasNextGeneration ((contents_in state.now).cpu cpu).ticket step }
-    ensures told { IfOk result (λ r. IsToldAmply (layout_of state.now.layout) (contents_in state.now) cpu step r.0 (contents_in r.1)) }
+    ensures told { IfOk result
+        (λ r. IsToldAmply (layout_of state.now.layout) (contents_in state.now) cpu step r.0
+        (contents_in r.1)) }
     ensures layout { IfOk result (λ r. layout_of r.1.layout ≡ layout_of state.now.layout) }
 {
     let mut count: u64 = 0;

@@ -40,7 +40,9 @@ fn bare_guests(
 ) -> Result<Vec<GhostGuest>, AllocError>
     requires guests { AreKeptGuests guests.now }
     requires frames { AreOutside frames.now }
-    ensures same { IfOk result (λ v. map guest_in v.items ≡ map (λ g. filled_guest false frames.now 0 (guest_in g)) guests.now) }
+    ensures same { IfOk result
+        (λ v. map guest_in v.items
+        ≡ map (λ g. filled_guest false frames.now 0 (guest_in g)) guests.now) }
     ensures kept { IfOk result (λ v. AreKeptGuests v.items) }
 {
     let mut copies = Vec::with_capacity(alloc, guests.len())?;

@@ -57,7 +57,8 @@ fn untouched(
     wanted: &Ghost,
 ) -> Option<Disagreement>
     ensures none { (result ≡ None) ↔ (freedoms.lazy_host ≡ true → Touches step reply (contents_in post.now)) }
-    ensures told { IfSome result (IsUntouchedBy freedoms step reply (contents_in post.now) (contents_in wanted.now)) }
+    ensures told { IfSome result
+        (IsUntouchedBy freedoms step reply (contents_in post.now) (contents_in wanted.now)) }
 {
     if !freedoms.lazy_host {
         return None;
@@ -77,8 +78,12 @@ fn in_state(
     wanted: &Ghost,
     post: &Ghost,
 ) -> Option<Disagreement>
-    ensures none { (result ≡ None) ↔ IsWanted freedoms step reply (contents_in after.now) (contents_in wanted.now) (contents_in post.now) }
-    ensures first { IfSome result (IsFirstUnwanted freedoms step reply (contents_in after.now) (contents_in wanted.now) (contents_in post.now)) }
+    ensures none { (result ≡ None)
+        ↔ IsWanted freedoms step reply (contents_in after.now) (contents_in wanted.now)
+        (contents_in post.now) }
+    ensures first { IfSome result
+        (IsFirstUnwanted freedoms step reply (contents_in after.now) (contents_in wanted.now)
+        (contents_in post.now)) }
 {
     let found = differs(after, wanted);
     if found.is_some() {
@@ -124,7 +129,9 @@ fn ready(
     reply: Reply,
 ) -> Result<Ghost, AllocError>
     requires cpu { cpu < pre.now.layout.config.cpus }
-    ensures ready { IfOk result (λ g. IsReady freedoms (layout_of pre.now.layout) (contents_in pre.now) step (asked_of step (contents_in g))) }
+    ensures ready { IfOk result
+        (λ g. IsReady freedoms (layout_of pre.now.layout) (contents_in pre.now) step
+        (asked_of step (contents_in g))) }
     ensures cpu { IfOk result (λ g. (contents_in g).cpu ≡ (contents_in pre.now).cpu) }
     ensures layout { IfOk result (λ g. layout_of g.layout ≡ layout_of pre.now.layout) }
 {
@@ -152,7 +159,9 @@ pub fn told_freely(
 ) -> Result<(Reply, Ghost), AllocError>
     requires cpu { cpu < pre.now.layout.config.cpus }
     requires generation { HasNextGeneration ((contents_in pre.now).cpu cpu).ticket step }
-    ensures told { IfOk result (λ r. IsToldFreely freedoms (layout_of pre.now.layout) (contents_in pre.now) cpu step r.0 (contents_in r.1)) }
+    ensures told { IfOk result
+        (λ r. IsToldFreely freedoms (layout_of pre.now.layout)
+        (contents_in pre.now) cpu step r.0 (contents_in r.1)) }
 {
     let ready = ready(alloc, freedoms, pre, cpu, step, reply)?;
     let told = predict_amply(alloc, &ready, cpu, step)?;
@@ -174,7 +183,9 @@ pub fn judge_freely(
 ) -> Result<Option<Disagreement>, AllocError>
     requires cpu { cpu < pre.now.layout.config.cpus }
     requires generation { HasNextGeneration ((contents_in pre.now).cpu cpu).ticket step }
-    ensures { IfOk result (IsJudgedFreely freedoms (layout_of pre.now.layout) (contents_in pre.now) cpu step reply.now (contents_in post.now)) }
+    ensures { IfOk result
+        (IsJudgedFreely freedoms (layout_of pre.now.layout)
+        (contents_in pre.now) cpu step reply.now (contents_in post.now)) }
 {
     let layout = &pre.lists().layout;
     let (told, made) = told_freely(alloc, freedoms, pre, cpu, step, *reply)?;

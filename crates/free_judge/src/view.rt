@@ -24,7 +24,9 @@ fn kinds(
 ) -> Result<Vec<Run>, AllocError>
     requires runs { AreSmall runs.now }
     requires coarsest { IsCoarsest runs.now }
-    ensures map { IfOk result (λ v. map_of v.items ≡ (λ p. kind_seen freedoms (layout_of layout.now) p (map_of runs.now p))) }
+    ensures map { IfOk result
+        (λ v. map_of v.items
+        ≡ (λ p. kind_seen freedoms (layout_of layout.now) p (map_of runs.now p))) }
     ensures coarsest { IfOk result (λ v. IsCoarsest v.items) }
     ensures small { IfOk result (λ v. AreSmall v.items) }
 {
@@ -46,7 +48,9 @@ fn seen_runs(
 ) -> Result<Vec<Run>, AllocError>
     requires runs { AreSmall runs.now }
     requires coarsest { IsCoarsest runs.now }
-    ensures map { IfOk result (λ v. map_of v.items ≡ (λ p. view_entry freedoms (layout_of layout.now) p (map_of runs.now p))) }
+    ensures map { IfOk result
+        (λ v. map_of v.items
+        ≡ (λ p. view_entry freedoms (layout_of layout.now) p (map_of runs.now p))) }
     ensures coarsest { IfOk result (λ v. IsCoarsest v.items) }
     ensures small { IfOk result (λ v. AreSmall v.items) }
 {
@@ -66,7 +70,8 @@ pub(crate) fn viewed(
     layout: &Layout,
     state: &Ghost,
 ) -> Result<Ghost, AllocError>
-    ensures contents { IfOk result (λ g. contents_in g ≡ view freedoms (layout_of layout.now) (contents_in state.now)) }
+    ensures contents { IfOk result
+        (λ g. contents_in g ≡ view freedoms (layout_of layout.now) (contents_in state.now)) }
     ensures layout { IfOk result (λ g. layout_of g.layout ≡ layout_of state.now.layout) }
 {
     let lists = state.lists();

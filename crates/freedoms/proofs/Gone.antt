@@ -39,7 +39,8 @@ pub record IsClear (g : Guest) (f : ℕ) : Type 0 where
 -- lists of frames
 
 none-count : (fs : Pool) (f : ℕ) → is_free fs f ≡ false → frame_count f fs ≡ 0
-none-count fs f h = let e : nat_lt 0 (frame_count f fs) ≡ false = sym (is_free-count fs f) ∙ h in grind (arith, nat_tests)
+none-count fs f h = let e : nat_lt 0 (frame_count f fs) ≡ false = sym (is_free-count fs f) ∙ h in
+    grind (arith, nat_tests)
 
 pub count-none : (fs : Pool) (f : ℕ) → frame_count f fs ≡ 0 → is_free fs f ≡ false
 count-none fs f h = is_free-count fs f ∙ ap (nat_lt 0) h
@@ -75,7 +76,11 @@ rest-none : (fs : Pool) (f : ℕ) → is_free fs f ≡ false → is_free (rest f
 rest-none [] f h = refl
 rest-none (g ∷ gs) f h = (or-neither (g == f) (is_free gs f) h).1
 
-read-step : (t : Tree) (f : ℕ) (b : Block) (bs : List Block) (o : Option ℕ) → t.table b ≡ o → (t.table b ≡ Some f → ⊥) → is_free (filter_map t.table bs) f ≡ false → is_free (filter_map t.table (b ∷ bs)) f ≡ false
+read-step : (t : Tree) (f : ℕ) (b : Block) (bs : List Block) (o : Option ℕ)
+    → t.table b ≡ o
+    → (t.table b ≡ Some f → ⊥)
+    → is_free (filter_map t.table bs) f ≡ false
+    → is_free (filter_map t.table (b ∷ bs)) f ≡ false
 read-step t f b bs None e h more = rw e more
 read-step t f b bs (Some g) e h more = elim (both (g == f)) [
   | inl s ↦ let same : g ≡ f = grind (arith, nat_tests) in absurd (h (e ∙ ap Some same))
@@ -88,7 +93,11 @@ read-none t f (b ∷ bs) h = read-step t f b bs (t.table b) refl (h b) (read-non
 
 -- trees
 
-placed-none : (bs : List Block) (fs : Pool) (old : Block → Option ℕ) (b : Block) (f : ℕ) → is_free fs f ≡ false → (old b ≡ Some f → ⊥) → placed bs fs old b ≡ Some f → ⊥
+placed-none : (bs : List Block) (fs : Pool) (old : Block → Option ℕ) (b : Block) (f : ℕ)
+    → is_free fs f ≡ false
+    → (old b ≡ Some f → ⊥)
+    → placed bs fs old b ≡ Some f
+    → ⊥
 placed-none [] fs old b f h k e = k e
 placed-none (a ∷ bs) [] old b f h k e = k e
 placed-none (a ∷ bs) (g ∷ gs) old b f h k e = elim (both (block_eq a b)) [
@@ -100,9 +109,14 @@ placed-none (a ∷ bs) (g ∷ gs) old b f h k e = elim (both (block_eq a b)) [
   | inr t ↦ placed-none bs gs old b f (or-neither (g == f) (is_free gs f) h).1 k (rw t at e)
 ]
 
-edited-none : (depth : ℕ) (t : Tree) (e : Edit) (fs : Pool) (f : ℕ) → HasNone t f → is_free fs f ≡ false → HasNone (edited depth t e fs) f
+edited-none : (depth : ℕ) (t : Tree) (e : Edit) (fs : Pool) (f : ℕ)
+    → HasNone t f
+    → is_free fs f ≡ false
+    → HasNone (edited depth t e fs) f
 unfolding edited
-edited-none depth t e fs f h k b s = placed-none (needs depth t e) fs t.table b f k (h b) (cleared-old (freed depth t e) (placed (needs depth t e) fs t.table) b f s)
+edited-none depth t e fs f h k b s =
+    placed-none (needs depth t e) fs t.table b f k (h b)
+    (cleared-old (freed depth t e) (placed (needs depth t e) fs t.table) b f s)
 
 returned-none : (depth : ℕ) (t : Tree) (e : Edit) (f : ℕ) → HasNone t f → is_free (returned depth t e) f ≡ false
 unfolding returned
@@ -131,23 +145,34 @@ abbrev pub guest_holds : Layout → Guest → ℕ → Bool
 guest_holds l g f = is_free g.free f || is_table_frame l g.tree f
 
 -- it is not held after a change of the Shared part either
-pub still-apart : (l : Layout) (depth : ℕ) (h : Changes) (x : Shared) (f : ℕ) → IsApart x f → pool_holds l (shared_after depth h x) f ≡ false
+pub still-apart : (l : Layout) (depth : ℕ) (h : Changes) (x : Shared) (f : ℕ)
+    → IsApart x f
+    → pool_holds l (shared_after depth h x) f ≡ false
 unfolding shared_after
 still-apart l depth h x f a =
     let left = drop-none (need depth x.host (edit_of h.host)) x.free f a.free in
-    let back = both-none (returned depth x.host (edit_of h.host)) (returned depth x.hyp (edit_of h.hyp)) f (returned-none depth x.host (edit_of h.host) f a.host) (returned-none depth x.hyp (edit_of h.hyp) f a.hyp) in
+    let back =
+    both-none (returned depth x.host (edit_of h.host)) (returned depth x.hyp (edit_of h.hyp)) f
+    (returned-none depth x.host (edit_of h.host) f a.host)
+    (returned-none depth x.hyp (edit_of h.hyp) f a.hyp) in
     three-false _ _ _
     (given-none _ _ f back (drop-none (shared_need depth h x) x.free f a.free))
-    (no-frame l (edited depth x.host (edit_of h.host) x.free) f (edited-none depth x.host (edit_of h.host) x.free f a.host a.free))
-    (no-frame l (edited depth x.hyp (edit_of h.hyp) (drop (need depth x.host (edit_of h.host)) x.free)) f (edited-none depth x.hyp (edit_of h.hyp) (drop (need depth x.host (edit_of h.host)) x.free) f a.hyp left))
+    (no-frame l (edited depth x.host (edit_of h.host) x.free) f
+    (edited-none depth x.host (edit_of h.host) x.free f a.host a.free))
+    (no-frame l (edited depth x.hyp (edit_of h.hyp) (drop (need depth x.host (edit_of h.host)) x.free)) f
+    (edited-none depth x.hyp (edit_of h.hyp) (drop (need depth x.host (edit_of h.host)) x.free) f a.hyp left))
 
 -- a change of a guest brings it the frame
 abbrev pub brings : Layout → GuestChange → ℕ → Bool
-brings l (Install kind generation hand) f = is_free (rest (frames_in hand)) f || is_table_frame l (root_tree l.depth hand.first.0) f
+brings l (Install kind generation hand) f =
+    is_free (rest (frames_in hand)) f || is_table_frame l (root_tree l.depth hand.first.0) f
 brings l (Gain range) f = is_free (frames_in range) f
 brings l other f = false
 
-by-part : (l : Layout) (p : GuestChange) (g : Guest) (f : ℕ) → is_free g.free f ≡ false → is_table_frame l g.tree f ≡ false → guest_holds l (guest_by l.depth p g) f ≡ brings l p f
+by-part : (l : Layout) (p : GuestChange) (g : Guest) (f : ℕ)
+    → is_free g.free f ≡ false
+    → is_table_frame l g.tree f ≡ false
+    → guest_holds l (guest_by l.depth p g) f ≡ brings l p f
 by-part l KeepGuest g f h k = two-false _ _ h k
 by-part l (Install kind generation hand) g f h k = refl
 by-part l (Gain range) g f h k = with-none (given-only (frames_in range) g.free f h) k
@@ -159,8 +184,12 @@ by-part l Die g f h k = two-false _ _ h k
 by-part l Empty g f h k = is_table_frame-none l no_tree f (λ b. refl)
 
 -- after a change a guest that didn't hold it does just where the change brings it
-pub after-brings : (l : Layout) (h : Changes) (g : Guest) (f : ℕ) → IsClear g f → guest_holds l (guest_after l.depth h g) f ≡ brings l h.part f
+pub after-brings : (l : Layout) (h : Changes) (g : Guest) (f : ℕ)
+    → IsClear g f
+    → guest_holds l (guest_after l.depth h g) f ≡ brings l h.part f
 unfolding guest_after
 after-brings l h g f a = by-part l h.part _ f
-    (given-none _ _ f (returned-none l.depth g.tree (edit_of h.guest) f a.tree) (drop-none (guest_need l.depth h g) g.free f a.free))
-    (no-frame l (edited l.depth g.tree (edit_of h.guest) g.free) f (edited-none l.depth g.tree (edit_of h.guest) g.free f a.tree a.free))
+    (given-none _ _ f (returned-none l.depth g.tree (edit_of h.guest) f a.tree)
+    (drop-none (guest_need l.depth h g) g.free f a.free))
+    (no-frame l (edited l.depth g.tree (edit_of h.guest) g.free) f
+    (edited-none l.depth g.tree (edit_of h.guest) g.free f a.tree a.free))

@@ -76,9 +76,13 @@ guest-loose Owned v g = refl
 guest-loose SharedOwned v g = refl
 guest-loose SharedBorrowed v g = refl
 
-leaf-loose : (condition : ℕ → Condition) (v g : ℕ) (e : Entry) → GuestFits condition v g e → is_unmapped e ≡ false → is_pooled (condition (entry_frame e)) ≡ false
+leaf-loose : (condition : ℕ → Condition) (v g : ℕ) (e : Entry)
+    → GuestFits condition v g e
+    → is_unmapped e ≡ false
+    → is_pooled (condition (entry_frame e)) ≡ false
 leaf-loose condition v g e (inl h) k = let bad : true ≡ false = sym (ap is_unmapped h) ∙ k in cc
-leaf-loose condition v g e (inr h) k = ap (λ d. is_pooled (condition (entry_frame d))) h.leaf_is ∙ ap is_pooled h.named ∙ guest-loose h.state v g
+leaf-loose condition v g e (inr h) k =
+    ap (λ d. is_pooled (condition (entry_frame d))) h.leaf_is ∙ ap is_pooled h.named ∙ guest-loose h.state v g
 
 in-mapped : (state : State) (e : Entry) → is_in state e ≡ true → is_unmapped e ≡ false
 in-mapped state (Leaf frame prot kind other) h = refl
@@ -86,14 +90,21 @@ in-mapped state e h = cc
 
 -- a block that host_abort may map is all unmapped
 may-empty : (m : Map) (r : Region) (d page : ℕ) → may_map m r d page ≡ true → is_empty m (block_at d page) ≡ true
-may-empty m r d page h = last (nat_le r.pages.first.0 (first_page (block_at d page))) (nat_le (first_page (block_at d page) + span (block_at d page)) (end_of r.pages)) (is_empty m (block_at d page)) h
+may-empty m r d page h =
+    last (nat_le r.pages.first.0 (first_page (block_at d page)))
+    (nat_le (first_page (block_at d page) + span (block_at d page)) (end_of r.pages))
+    (is_empty m (block_at d page)) h
   where
     last : (a b c : Bool) → (a && b && c) ≡ true → c ≡ true
     last true true c h = h
     last true false c h = cc
     last false b c h = cc
 
-empty-page : (m : Map) (first n : ℕ) → ((i : ℕ) → i < n → m (first + i) ≡ Unmapped) → (f : ℕ) → is_within first n f ≡ true → m f ≡ Unmapped
+empty-page : (m : Map) (first n : ℕ)
+    → ((i : ℕ) → i < n → m (first + i) ≡ Unmapped)
+    → (f : ℕ)
+    → is_within first n f ≡ true
+    → m f ≡ Unmapped
 empty-page m first n h f w =
     let at = within-is first n f w in
     let low : first ≤ f = at.0 in
@@ -101,20 +112,31 @@ empty-page m first n h f w =
     let e : first + (f - first) ≡ f = omega arith in
     ap m (sym e) ∙ h (f - first) (omega arith)
 
-abort-empty : (m : Map) (r : Region) (page : ℕ) → m page ≡ Unmapped → (f : ℕ) → is_within (first_page (block_at (abort_depth m r page) page)) (span (block_at (abort_depth m r page) page)) f ≡ true → m f ≡ Unmapped
+abort-empty : (m : Map) (r : Region) (page : ℕ)
+    → m page ≡ Unmapped
+    → (f : ℕ)
+    → is_within (first_page (block_at (abort_depth m r page) page)) (span (block_at (abort_depth m r page) page)) f
+    ≡ true
+    → m f ≡ Unmapped
 abort-empty m r page bare f = elim (both (may_map m r 2 page)) [
   | inl h ↦ subst Here (sym (if-true (may_map m r 2 page) 2 (if may_map m r 1 page then 1 else 0) h)) (deep 2 h)
-  | inr h ↦ subst Here (sym (if-false (may_map m r 2 page) 2 (if may_map m r 1 page then 1 else 0) h)) (elim (both (may_map m r 1 page)) [
-    | inl k ↦ subst Here (sym (if-true (may_map m r 1 page) 1 0 k)) (deep 1 k)
-    | inr k ↦ subst Here (sym (if-false (may_map m r 1 page) 1 0 k)) flat
-  ])
+  | inr h ↦ subst Here (sym (if-false (may_map m r 2 page) 2 (if may_map m r 1 page then 1 else 0) h))
+      (elim (both (may_map m r 1 page)) [
+        | inl k ↦ subst Here (sym (if-true (may_map m r 1 page) 1 0 k)) (deep 1 k)
+        | inr k ↦ subst Here (sym (if-false (may_map m r 1 page) 1 0 k)) flat
+      ])
 ]
   where
     Here : ℕ → Type 0
     Here d = is_within (first_page (block_at d page)) (span (block_at d page)) f ≡ true → m f ≡ Unmapped
 
-    deep : (d : ℕ) → may_map m r d page ≡ true → is_within (first_page (block_at d page)) (span (block_at d page)) f ≡ true → m f ≡ Unmapped
-    deep d h w = empty-page m (first_page (block_at d page)) (span (block_at d page)) ((empty_means m (block_at d page)).0 (may-empty m r d page h)) f w
+    deep : (d : ℕ)
+        → may_map m r d page ≡ true
+        → is_within (first_page (block_at d page)) (span (block_at d page)) f ≡ true
+        → m f ≡ Unmapped
+    deep d h w =
+        empty-page m (first_page (block_at d page)) (span (block_at d page))
+        ((empty_means m (block_at d page)).0 (may-empty m r d page h)) f w
 
     flat : is_within (first_page (block_at 0 page)) (span (block_at 0 page)) f ≡ true → m f ≡ Unmapped
     flat w =
@@ -131,16 +153,26 @@ abbrev pub range_of : Option MapChange → Option PageRange
 range_of None = None
 range_of (Some c) = Some c.range
 
-chosen-loose : (m : Map) (f : ℕ) (b : Bool) (c : Option MapChange) → (b ≡ true → is_in_hand (range_of c) f ≡ true → m f ≡ Unmapped) → is_in_hand (range_of (if b then c else None)) f ≡ true → m f ≡ Unmapped
+chosen-loose : (m : Map) (f : ℕ) (b : Bool) (c : Option MapChange)
+    → (b ≡ true → is_in_hand (range_of c) f ≡ true → m f ≡ Unmapped)
+    → is_in_hand (range_of (if b then c else None)) f ≡ true
+    → m f ≡ Unmapped
 chosen-loose m f true c h k = h refl k
 chosen-loose m f false c h k = cc
 
-pub abort-loose : (m : Map) (o : Option Region) (page f : ℕ) → is_in_hand (range_of (abort_edit m o page)) f ≡ true → m f ≡ Unmapped
+pub abort-loose : (m : Map) (o : Option Region) (page f : ℕ)
+    → is_in_hand (range_of (abort_edit m o page)) f ≡ true
+    → m f ≡ Unmapped
 unfolding abort_edit
 abort-loose m None page f w = cc
-abort-loose m (Some r) page f w = chosen-loose m f (is_unmapped (m page)) (change (first_page (block_at (abort_depth m r page) page)) (span (block_at (abort_depth m r page) page)) (abort_leaf r (first_page (block_at (abort_depth m r page) page)))) (λ h k. abort-empty m r page (is-unmapped (m page) h) f k) w
+abort-loose m (Some r) page f w =
+    chosen-loose m f (is_unmapped (m page))
+    (change (first_page (block_at (abort_depth m r page) page)) (span (block_at (abort_depth m r page) page))
+    (abort_leaf r (first_page (block_at (abort_depth m r page) page))))
+    (λ h k. abort-empty m r page (is-unmapped (m page) h) f k) w
 
-pub touched-host : (o : Option MapChange) (f : ℕ) → is_in_hand (elim o [ Some c ↦ Some c.range | None ↦ None ]) f ≡ is_in_hand (range_of o) f
+pub touched-host : (o : Option MapChange) (f : ℕ)
+    → is_in_hand (elim o [ Some c ↦ Some c.range | None ↦ None ]) f ≡ is_in_hand (range_of o) f
 touched-host None f = refl
 touched-host (Some c) f = refl
 
@@ -149,25 +181,46 @@ module _ (l : Layout) (s : Contents) (legal : LegalInAnyTrees l s) (cpu : ℕ) w
   x_at slot step = used_of (names step) slot cpu s
 
   free-loose : (f : ℕ) → is_free_page (s.shared.host.map f) ≡ true → is_pooled (legal.state.frames.condition f) ≡ false
-  free-loose f h = host-loose f (legal.state.frames.condition f) (s.shared.host.map f) (legal.state.frames.maps.host f) (free-plain (s.shared.host.map f) h)
+  free-loose f h =
+      host-loose f (legal.state.frames.condition f) (s.shared.host.map f) (legal.state.frames.maps.host f)
+      (free-plain (s.shared.host.map f) h)
 
-  one-loose : (f q : ℕ) → is_pooled (legal.state.frames.condition f) ≡ false → is_within f 1 q ≡ true → is_pooled (legal.state.frames.condition q) ≡ false
+  one-loose : (f q : ℕ)
+      → is_pooled (legal.state.frames.condition f) ≡ false
+      → is_within f 1 q ≡ true
+      → is_pooled (legal.state.frames.condition q) ≡ false
   one-loose f q h w = subst (λ n. is_pooled (legal.state.frames.condition n) ≡ false) (one-within f q w) h
 
-  given-loose : (f g n : ℕ) (b : ℕ → Bool) (q : ℕ) → all_below n (λ i. is_free_page (s.shared.host.map (f + i)) && b (g + i)) ≡ true → is_within f n q ≡ true → is_pooled (legal.state.frames.condition q) ≡ false
+  given-loose : (f g n : ℕ) (b : ℕ → Bool) (q : ℕ)
+      → all_below n (λ i. is_free_page (s.shared.host.map (f + i)) && b (g + i)) ≡ true
+      → is_within f n q ≡ true
+      → is_pooled (legal.state.frames.condition q) ≡ false
   given-loose f g n b q h w = free-loose q (both-all f g n (λ p. is_free_page (s.shared.host.map p)) b h q w).0
 
   hand-loose : (q : ℕ) → is_in_hand (s.cpu cpu).hand q ≡ true → is_pooled (legal.state.frames.condition q) ≡ false
-  hand-loose q h = ap is_pooled (in_hand-hyps cpu (legal.state.frames.condition q) (sym (legal.state.frames.held.hand cpu q) ∙ h))
+  hand-loose q h =
+      ap is_pooled (in_hand-hyps cpu (legal.state.frames.condition q) (sym (legal.state.frames.held.hand cpu q) ∙ h))
 
-  page-loose : (v g q : ℕ) → is_unmapped ((s.guest v).tree.map g) ≡ false → is_within (entry_frame ((s.guest v).tree.map g)) 1 q ≡ true → is_pooled (legal.state.frames.condition q) ≡ false
-  page-loose v g q h w = one-loose (entry_frame ((s.guest v).tree.map g)) q (leaf-loose legal.state.frames.condition v g ((s.guest v).tree.map g) (legal.state.frames.maps.guest v g) h) w
+  page-loose : (v g q : ℕ)
+      → is_unmapped ((s.guest v).tree.map g) ≡ false
+      → is_within (entry_frame ((s.guest v).tree.map g)) 1 q ≡ true
+      → is_pooled (legal.state.frames.condition q) ≡ false
+  page-loose v g q h w =
+      one-loose (entry_frame ((s.guest v).tree.map g)) q
+      (leaf-loose legal.state.frames.condition v g ((s.guest v).tree.map g) (legal.state.frames.maps.guest v g) h) w
 
-  returned-loose : (f n q : ℕ) → is_memory l q ≡ true → all_below n (λ i. may_return (x_at None (HypDonateHost f n)) (f + i)) ≡ true → is_within f n q ≡ true → is_pooled (legal.state.frames.condition q) ≡ false
+  returned-loose : (f n q : ℕ)
+      → is_memory l q ≡ true
+      → all_below n (λ i. may_return (x_at None (HypDonateHost f n)) (f + i)) ≡ true
+      → is_within f n q ≡ true
+      → is_pooled (legal.state.frames.condition q) ≡ false
   unfolding used_of
   returned-loose f n q m h w =
       let t = range-all f n (λ p. may_return (x_at None (HypDonateHost f n)) p) h q w in
-      row-loose q (legal.state.frames.condition q) (ap (λ (r : Row). is_plain r.usage) (sym (legal.state.frames.rows q m)) ∙ middle ((s.shared.row q).owner.0 == 1) (is_plain (s.shared.row q).usage) (is_in Owned (s.shared.hyp.map (hyp_page q))) t)
+      row-loose q (legal.state.frames.condition q)
+      (ap (λ (r : Row). is_plain r.usage) (sym (legal.state.frames.rows q m))
+      ∙ middle ((s.shared.row q).owner.0 == 1) (is_plain (s.shared.row q).usage)
+      (is_in Owned (s.shared.hyp.map (hyp_page q))) t)
     where
       middle : (a b c : Bool) → (a && b && c) ≡ true → b ≡ true
       middle true true c h = refl
@@ -176,41 +229,72 @@ module _ (l : Layout) (s : Contents) (legal : LegalInAnyTrees l s) (cpu : ℕ) w
 
   -- the frames that a made step touches, by the step
   abbrev pub Loose : Option ℕ → Step → Type 0
-  Loose slot step = rule_fails l cpu slot step (x_at slot step) ≡ None → (q : ℕ) → is_memory l q ≡ true → is_touched (rule_of l cpu slot step (x_at slot step)).changes q ≡ true → is_pooled (legal.state.frames.condition q) ≡ false
+  Loose slot step =
+      rule_fails l cpu slot step (x_at slot step) ≡ None
+      → (q : ℕ)
+      → is_memory l q ≡ true
+      → is_touched (rule_of l cpu slot step (x_at slot step)).changes q ≡ true
+      → is_pooled (legal.state.frames.condition q) ≡ false
 
   -- a step that lacks its slot isn't made
   lacking : {P : Type 0} (r : Rule) → first_test r true ≡ None → P
   lacking r h = let bad : true ≡ false = (tested r true h).lacks_none in cc
 
-  passes : (slot : Option ℕ) (step : Step) → rule_fails l cpu slot step (x_at slot step) ≡ None → Tested (rule_of l cpu slot step (x_at slot step)) (lacks_slot (names step) slot)
+  passes : (slot : Option ℕ) (step : Step)
+      → rule_fails l cpu slot step (x_at slot step) ≡ None
+      → Tested (rule_of l cpu slot step (x_at slot step)) (lacks_slot (names step) slot)
   passes slot step h = tested (rule_of l cpu slot step (x_at slot step)) (lacks_slot (names step) slot) h
 
   pub loose : (step : Step) (slot : Option ℕ) → asks_pool step ≡ false → Loose slot step
   unfolding rule used_of
-  loose (ShareHyp f) slot a h q m w = let p = passes slot (ShareHyp f) h in one-loose f q (free-loose f (and-left _ _ p.allowed)) w
-  loose (UnshareHyp f) slot a h q m w = let p = passes slot (UnshareHyp f) h in one-loose f q (host-loose f (legal.state.frames.condition f) (s.shared.host.map f) (legal.state.frames.maps.host f) (in-plain SharedOwned (s.shared.host.map f) (and-left _ _ p.allowed))) w
-  loose (DonateHyp f n) slot a h q m w = let p = passes slot (DonateHyp f n) h in given-loose f f n (λ i. is_unmapped (s.shared.hyp.map (hyp_page i))) q p.allowed w
-  loose (HypDonateHost f n) slot a h q m w = let p = passes slot (HypDonateHost f n) h in returned-loose f n q m p.allowed w
-  loose (HostAbort page) slot a h q m w = free-loose q (ap is_free_page (abort-loose s.shared.host.map (region_of l.memory page) page q (sym (touched-host (abort_edit s.shared.host.map (region_of l.memory page) page) q) ∙ w)))
-  loose (Fund f n) slot a h q m w = let p = passes slot (Fund f n) h in given-loose f f n (λ i. is_unmapped (s.shared.hyp.map (hyp_page i))) q p.allowed w
-  loose Unfund slot a h q m w = let p = passes slot Unfund h in hand-loose q (hand-range (s.cpu cpu).hand q p.allowed ∙ w)
-  loose (ShareGuest f g r n) (Some v) a h q m w = let p = passes (Some v) (ShareGuest f g r n) h in given-loose f g n (λ i. is_unmapped ((s.guest v).tree.map i)) q (and-right _ _ p.allowed) w
-  loose (UnshareGuest vm g) (Some v) a h q m w = let p = passes (Some v) (UnshareGuest vm g) h in page-loose v g q (in-mapped SharedBorrowed _ p.allowed) w
-  loose (DonateGuest f g n) (Some v) a h q m w = let p = passes (Some v) (DonateGuest f g n) h in given-loose f g n (λ i. is_unmapped ((s.guest v).tree.map i)) q (and-right _ _ p.allowed) w
-  loose (GuestShareHost g) (Some v) a h q m w = let p = passes (Some v) (GuestShareHost g) h in page-loose v g q (in-mapped Owned _ p.allowed) w
-  loose (GuestUnshareHost g) (Some v) a h q m w = let p = passes (Some v) (GuestUnshareHost g) h in page-loose v g q (in-mapped SharedOwned _ p.allowed) w
+  loose (ShareHyp f) slot a h q m w = let p = passes slot (ShareHyp f) h in
+      one-loose f q (free-loose f (and-left _ _ p.allowed)) w
+  loose (UnshareHyp f) slot a h q m w = let p = passes slot (UnshareHyp f) h in
+      one-loose f q
+      (host-loose f (legal.state.frames.condition f) (s.shared.host.map f) (legal.state.frames.maps.host f)
+      (in-plain SharedOwned (s.shared.host.map f) (and-left _ _ p.allowed))) w
+  loose (DonateHyp f n) slot a h q m w = let p = passes slot (DonateHyp f n) h in
+      given-loose f f n (λ i. is_unmapped (s.shared.hyp.map (hyp_page i))) q p.allowed w
+  loose (HypDonateHost f n) slot a h q m w = let p = passes slot (HypDonateHost f n) h in
+      returned-loose f n q m p.allowed w
+  loose (HostAbort page) slot a h q m w =
+      free-loose q
+      (ap is_free_page
+      (abort-loose s.shared.host.map (region_of l.memory page) page q
+      (sym (touched-host (abort_edit s.shared.host.map (region_of l.memory page) page) q) ∙ w)))
+  loose (Fund f n) slot a h q m w = let p = passes slot (Fund f n) h in
+      given-loose f f n (λ i. is_unmapped (s.shared.hyp.map (hyp_page i))) q p.allowed w
+  loose Unfund slot a h q m w = let p = passes slot Unfund h in
+      hand-loose q (hand-range (s.cpu cpu).hand q p.allowed ∙ w)
+  loose (ShareGuest f g r n) (Some v) a h q m w = let p = passes (Some v) (ShareGuest f g r n) h in
+      given-loose f g n (λ i. is_unmapped ((s.guest v).tree.map i)) q (and-right _ _ p.allowed) w
+  loose (UnshareGuest vm g) (Some v) a h q m w = let p = passes (Some v) (UnshareGuest vm g) h in
+      page-loose v g q (in-mapped SharedBorrowed _ p.allowed) w
+  loose (DonateGuest f g n) (Some v) a h q m w = let p = passes (Some v) (DonateGuest f g n) h in
+      given-loose f g n (λ i. is_unmapped ((s.guest v).tree.map i)) q (and-right _ _ p.allowed) w
+  loose (GuestShareHost g) (Some v) a h q m w = let p = passes (Some v) (GuestShareHost g) h in
+      page-loose v g q (in-mapped Owned _ p.allowed) w
+  loose (GuestUnshareHost g) (Some v) a h q m w = let p = passes (Some v) (GuestUnshareHost g) h in
+      page-loose v g q (in-mapped SharedOwned _ p.allowed) w
   loose Install (Some v) a h q m w = hand-loose q w
-  loose (ReclaimPage vm g) (Some v) a h q m w = let p = passes (Some v) (ReclaimPage vm g) h in page-loose v g q (not-true _ p.allowed) w
+  loose (ReclaimPage vm g) (Some v) a h q m w = let p = passes (Some v) (ReclaimPage vm g) h in
+      page-loose v g q (not-true _ p.allowed) w
   loose (Topup vm) slot a h q m w = cc
   loose (ReclaimPool vm) slot a h q m w = cc
   loose FinishGuest slot a h q m w = cc
-  loose (ShareGuest f g r n) None a h q m w = lacking (rule_of l cpu None (ShareGuest f g r n) (x_at None (ShareGuest f g r n))) h
-  loose (UnshareGuest vm g) None a h q m w = lacking (rule_of l cpu None (UnshareGuest vm g) (x_at None (UnshareGuest vm g))) h
-  loose (DonateGuest f g n) None a h q m w = lacking (rule_of l cpu None (DonateGuest f g n) (x_at None (DonateGuest f g n))) h
-  loose (GuestShareHost g) None a h q m w = lacking (rule_of l cpu None (GuestShareHost g) (x_at None (GuestShareHost g))) h
-  loose (GuestUnshareHost g) None a h q m w = lacking (rule_of l cpu None (GuestUnshareHost g) (x_at None (GuestUnshareHost g))) h
+  loose (ShareGuest f g r n) None a h q m w =
+      lacking (rule_of l cpu None (ShareGuest f g r n) (x_at None (ShareGuest f g r n))) h
+  loose (UnshareGuest vm g) None a h q m w =
+      lacking (rule_of l cpu None (UnshareGuest vm g) (x_at None (UnshareGuest vm g))) h
+  loose (DonateGuest f g n) None a h q m w =
+      lacking (rule_of l cpu None (DonateGuest f g n) (x_at None (DonateGuest f g n))) h
+  loose (GuestShareHost g) None a h q m w =
+      lacking (rule_of l cpu None (GuestShareHost g) (x_at None (GuestShareHost g))) h
+  loose (GuestUnshareHost g) None a h q m w =
+      lacking (rule_of l cpu None (GuestUnshareHost g) (x_at None (GuestUnshareHost g))) h
   loose Install None a h q m w = lacking (rule_of l cpu None Install (x_at None Install)) h
-  loose (ReclaimPage vm g) None a h q m w = lacking (rule_of l cpu None (ReclaimPage vm g) (x_at None (ReclaimPage vm g))) h
+  loose (ReclaimPage vm g) None a h q m w =
+      lacking (rule_of l cpu None (ReclaimPage vm g) (x_at None (ReclaimPage vm g))) h
   loose step slot a h q m w = cc
 
   pub loose-topup : (vm : VmId) (slot : Option ℕ) → Loose slot (Topup vm)

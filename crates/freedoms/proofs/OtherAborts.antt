@@ -38,19 +38,26 @@ device-unmapped Malformed = refl
 device-unmapped (Annotated o) = refl
 device-unmapped (Leaf f q k s) = refl
 
-by-tests : (a d c : Bool) (own e : Entry) → c ≡ false → is_unmapped (let k = if a then (if d then as_device e else e) else e in if c then (if is_unmapped k then own else k) else k) ≡ is_unmapped e
+by-tests : (a d c : Bool) (own e : Entry)
+    → c ≡ false
+    → is_unmapped
+    (let k = if a then (if d then as_device e else e) else e in if c then (if is_unmapped k then own else k) else k)
+    ≡ is_unmapped e
 by-tests true true false own e h = device-unmapped e
 by-tests true false false own e h = refl
 by-tests false d false own e h = refl
 by-tests a d true own e h = cc
 
-unlazy-unmapped : (w : Freedoms) (l : Layout) (p : ℕ) (e : Entry) → w.lazy_host ≡ false → is_unmapped (view_entry w l p e) ≡ is_unmapped e
+unlazy-unmapped : (w : Freedoms) (l : Layout) (p : ℕ) (e : Entry)
+    → w.lazy_host ≡ false
+    → is_unmapped (view_entry w l p e) ≡ is_unmapped e
 unlazy-unmapped w l p e lazy = by-tests w.any_kind (is_device l p) w.lazy_host (own_entry l p) e lazy
 
 -- an abort's edit, by which pages are unmapped
 
 abbrev edit_by : Region → ℕ → ℕ → Bool → Option MapChange
-edit_by r page d unmapped = let b = block_at d page in if unmapped then change (first_page b) (span b) (abort_leaf r (first_page b)) else None
+edit_by r page d unmapped = let b = block_at d page in
+    if unmapped then change (first_page b) (span b) (abort_leaf r (first_page b)) else None
 
 abbrev depth_by : Bool → Bool → ℕ
 depth_by two one = if two then 2 else if one then 1 else 0
@@ -61,7 +68,9 @@ module _ (m n : Map) (same : (p : ℕ) → is_unmapped (m p) ≡ is_unmapped (n 
   empty-same b = ap (all_below (span b)) (fun_ext (λ i. same (first_page b + i)))
 
   may-same : (r : Region) (d page : ℕ) → may_map m r d page ≡ may_map n r d page
-  may-same r d page = let b = block_at d page in ap (λ t. nat_le r.pages.first.0 (first_page b) && nat_le (first_page b + span b) (end_of r.pages) && t) (empty-same b)
+  may-same r d page = let b = block_at d page in
+      ap (λ t. nat_le r.pages.first.0 (first_page b) && nat_le (first_page b + span b) (end_of r.pages) && t)
+      (empty-same b)
 
   depth-same : (r : Region) (page : ℕ) → abort_depth m r page ≡ abort_depth n r page
   depth-same r page = same2 depth_by (may-same r 2 page) (may-same r 1 page)
@@ -76,18 +85,50 @@ module _ (m n : Map) (same : (p : ℕ) → is_unmapped (m p) ≡ is_unmapped (n 
 rule-seen : (w : Freedoms) (l : Layout) (cpu p : ℕ) → w.lazy_host ≡ false → RuleIsSeen w l cpu (HostAbort p)
 unfolding rule
 rule-seen w l cpu p lazy slot x z e =
-    let at : (q : ℕ) → is_unmapped (x.shared.host.map q) ≡ is_unmapped (z.shared.host.map q) = λ q. sym (unlazy-unmapped w l q (x.shared.host.map q) lazy) ∙ ap (λ (u : Used). is_unmapped (u.shared.host.map q)) e ∙ unlazy-unmapped w l q (z.shared.host.map q) lazy in
-    let kept : is_annotated (x.shared.host.map p) ≡ is_annotated (z.shared.host.map p) = sym (view-test w l is_annotated (annotated-leaves l) p (x.shared.host.map p)) ∙ ap (λ (u : Used). is_annotated (u.shared.host.map p)) e ∙ view-test w l is_annotated (annotated-leaves l) p (z.shared.host.map p) in
-    same2 (λ (t : Bool) (c : Option MapChange). let r = host_abort p (reads l cpu slot x) in record r { allowed = record r.allowed { passes = not t }; changes = record no_changes { host = c } }) kept (edit-same x.shared.host.map z.shared.host.map at (region_of l.memory p) p)
+    let at : (q : ℕ) → is_unmapped (x.shared.host.map q) ≡ is_unmapped (z.shared.host.map q) =
+    λ q. sym (unlazy-unmapped w l q (x.shared.host.map q) lazy)
+    ∙ ap (λ (u : Used). is_unmapped (u.shared.host.map q)) e
+    ∙ unlazy-unmapped w l q (z.shared.host.map q) lazy in
+    let kept : is_annotated (x.shared.host.map p) ≡ is_annotated (z.shared.host.map p) =
+    sym (view-test w l is_annotated (annotated-leaves l) p (x.shared.host.map p))
+    ∙ ap (λ (u : Used). is_annotated (u.shared.host.map p)) e
+    ∙ view-test w l is_annotated (annotated-leaves l) p (z.shared.host.map p) in
+    same2
+    (λ (t : Bool) (c : Option MapChange). let r = host_abort p (reads l cpu slot x) in
+    record r { allowed = record r.allowed { passes = not t }; changes = record no_changes { host = c } }) kept
+    (edit-same x.shared.host.map z.shared.host.map at (region_of l.memory p) p)
 
 pub abort_of_any_kind : AbortOfAnyKind
 abort_of_any_kind w l before legal cpu p reply after lazy begins is = (
   λ j.
       let d = (alike l j.state cpu (HostAbort p) j.told j.legal refl).down j.next j.steps in
       let v = (steps-seen w l j.state cpu (HostAbort p) j.told (rule-seen w l cpu p lazy)).down d.0 d.1 in
-      record { next = v.0; told = j.told; steps = subst (λ s. StepsAmply l s cpu (HostAbort p) j.told v.0) (sym j.begins) v.1; says = j.says; ends = sym v.2 ∙ sym (viewed w l j.next d.0 d.2) ∙ j.ends },
+      record {
+        next = v.0;
+        told = j.told;
+        steps =
+            subst (λ s. StepsAmply l s cpu (HostAbort p) j.told v.0) (sym j.begins) v.1;
+        says = j.says;
+        ends = sym v.2
+            ∙ sym (viewed w l j.next d.0 d.2) ∙ j.ends;
+      },
   λ j.
-      let v = (steps-seen w l legal cpu (HostAbort p) j.told (rule-seen w l cpu p lazy)).up j.next (subst (λ s. StepsAmply l s cpu (HostAbort p) j.told j.next) begins j.steps) in
+      let v =
+      (steps-seen w l legal cpu (HostAbort p) j.told (rule-seen w l cpu p lazy)).up j.next
+      (subst (λ s. StepsAmply l s cpu (HostAbort p) j.told j.next) begins j.steps) in
       let u = (alike l legal cpu (HostAbort p) j.told is refl).up v.0 v.1 in
-      record { state = legal; next = u.0; told = j.told; begins = begins; itself = λ r. cc; legal = is; steps = u.1; says = j.says; ends = viewed w l u.0 v.0 u.2 ∙ v.2 ∙ j.ends; mapped = λ z. let bad : false ≡ true = sym lazy ∙ z in cc },
+      record {
+        state = legal;
+        next = u.0;
+        told = j.told;
+        begins = begins;
+        itself = λ r. cc;
+        legal = is;
+        steps = u.1;
+        says = j.says;
+        ends = viewed w l u.0 v.0 u.2 ∙ v.2 ∙ j.ends;
+        mapped = λ z. let bad : false ≡ true =
+            sym lazy ∙ z in
+            cc;
+      },
 )

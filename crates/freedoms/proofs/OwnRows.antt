@@ -30,7 +30,8 @@ use Rattle.freedoms.proofs.Loose.{is_pooled, pooled-shared, pooled-vm, loose}
 -- the row from scratch by its parts
 
 abbrev row_with : Layout → Contents → ℕ → Usage → Row
-row_with l s f usage = record { owner = record { 0 = owner_by l s f (s.shared.host.map f) }; lent = lent_to l s f; usage = usage }
+row_with l s f usage =
+    record { owner = record { 0 = owner_by l s f (s.shared.host.map f) }; lent = lent_to l s f; usage = usage }
 
 abbrev pub use_with : Bool → Option ℕ → Option ℕ → Usage
 use_with pool vm cpu = elim pool [
@@ -39,7 +40,11 @@ use_with pool vm cpu = elim pool [
 ]
 
 -- two states that differ in tables and free frames alone, and hold the frame for the same
-row-alike : (l : Layout) (s t : Contents) (f : ℕ) → without_tables s ≡ without_tables t → is_in_shared_pool l s f ≡ is_in_shared_pool l t f → vm_pool_of l s f ≡ vm_pool_of l t f → row_of l s f ≡ row_of l t f
+row-alike : (l : Layout) (s t : Contents) (f : ℕ)
+    → without_tables s ≡ without_tables t
+    → is_in_shared_pool l s f ≡ is_in_shared_pool l t f
+    → vm_pool_of l s f ≡ vm_pool_of l t f
+    → row_of l s f ≡ row_of l t f
 unfolding row_of
 row-alike l s t f e pool vm =
     let same : usage_of l s f ≡ usage_of l t f = same3 use_with pool vm (ap (λ (u : Contents). holding_cpu l u f) e) in
@@ -47,25 +52,39 @@ row-alike l s t f e pool vm =
 
 -- a part of a state that a call uses, and a blank one
 
-pub pick-same : (l : Layout) (f : ℕ) (b : Bool) (x y : Shared) → pool_holds l x f ≡ false → pool_holds l y f ≡ false → pool_holds l (if b then x else no_shared) f ≡ pool_holds l (if b then y else no_shared) f
+pub pick-same : (l : Layout) (f : ℕ) (b : Bool) (x y : Shared)
+    → pool_holds l x f ≡ false
+    → pool_holds l y f ≡ false
+    → pool_holds l (if b then x else no_shared) f ≡ pool_holds l (if b then y else no_shared) f
 pick-same l f true x y p q = p ∙ sym q
 pick-same l f false x y p q = refl
 
-one-same : (l : Layout) (f : ℕ) (b : Bool) (g k : Guest) → guest_holds l g f ≡ guest_holds l k f → guest_holds l (if b then g else no_guest) f ≡ guest_holds l (if b then k else no_guest) f
+one-same : (l : Layout) (f : ℕ) (b : Bool) (g k : Guest)
+    → guest_holds l g f ≡ guest_holds l k f
+    → guest_holds l (if b then g else no_guest) f ≡ guest_holds l (if b then k else no_guest) f
 one-same l f true g k e = e
 one-same l f false g k e = refl
 
-pub put-same : (l : Layout) (f : ℕ) (slot : Option ℕ) (g k : Guest) → guest_holds l g f ≡ guest_holds l k f → (v : ℕ) → guest_holds l (put_guest (λ u. no_guest) slot g v) f ≡ guest_holds l (put_guest (λ u. no_guest) slot k v) f
+pub put-same : (l : Layout) (f : ℕ) (slot : Option ℕ) (g k : Guest)
+    → guest_holds l g f ≡ guest_holds l k f
+    → (v : ℕ)
+    → guest_holds l (put_guest (λ u. no_guest) slot g v) f ≡ guest_holds l (put_guest (λ u. no_guest) slot k v) f
 put-same l f None g k e v = refl
 put-same l f (Some u) g k e v = one-same l f (v == u) g k e
 
 -- the row that a call finds again
-pub own-alike : (l : Layout) (cpu : ℕ) (slot : Option ℕ) (step : Step) (x y : Used) (f : ℕ) → bare_used x ≡ bare_used y → pool_holds l x.shared f ≡ false → pool_holds l y.shared f ≡ false → guest_holds l x.guest f ≡ guest_holds l y.guest f → own_row l cpu slot step x f ≡ own_row l cpu slot step y f
+pub own-alike : (l : Layout) (cpu : ℕ) (slot : Option ℕ) (step : Step) (x y : Used) (f : ℕ)
+    → bare_used x ≡ bare_used y
+    → pool_holds l x.shared f ≡ false
+    → pool_holds l y.shared f ≡ false
+    → guest_holds l x.guest f ≡ guest_holds l y.guest f
+    → own_row l cpu slot step x f ≡ own_row l cpu slot step y f
 unfolding own_row put_back
 own-alike l cpu slot step x y f e p q g =
     let n = names step in
     row-alike l (put_back n slot cpu blank x) (put_back n slot cpu blank y) f
-    (put-bare n slot cpu blank x ∙ ap (put_back n slot cpu (without_tables blank)) e ∙ sym (put-bare n slot cpu blank y))
+    (put-bare n slot cpu blank x ∙ ap (put_back n slot cpu (without_tables blank)) e
+    ∙ sym (put-bare n slot cpu blank y))
     (pick-same l f (uses_shared n slot) x.shared y.shared p q)
     (ap (first_below 64) (fun_ext (put-same l f slot x.guest y.guest g)))
 
@@ -80,7 +99,9 @@ one-none n true h k = cc
 one-none n false h k = h
 
 -- a frame that isn't the Shared part's by its condition
-pub apart-of : (l : Layout) (s : Contents) (legal : LegalInAnyTrees l s) (f : ℕ) → in_shared (legal.state.frames.condition f) ≡ false → IsApart s.shared f
+pub apart-of : (l : Layout) (s : Contents) (legal : LegalInAnyTrees l s) (f : ℕ)
+    → in_shared (legal.state.frames.condition f) ≡ false
+    → IsApart s.shared f
 apart-of l s legal f out =
     let none : shared_uses l.depth s.shared f ≡ 0 = one-none _ _ (legal.state.frames.held.shared f) out in
     record {
@@ -89,14 +110,19 @@ apart-of l s legal f out =
       hyp = none-of l.depth f s.shared.hyp (legal.state.inside (suc zero)) (omega arith);
     }
 
-module _ (l : Layout) (s : Contents) (legal : LegalInAnyTrees l s) (f : ℕ) (out : is_pooled (legal.state.frames.condition f) ≡ false) where
+module _ (l : Layout) (s : Contents) (legal : LegalInAnyTrees l s) (f : ℕ)
+    (out : is_pooled (legal.state.frames.condition f) ≡ false) where
   shared-apart : IsApart s.shared f
   shared-apart = apart-of l s legal f (pooled-shared (legal.state.frames.condition f) out)
 
   guest-clear : (v : ℕ) → IsClear (s.guest v) f
   guest-clear v =
-      let none : guest_uses l.depth (s.guest v) f ≡ 0 = one-none _ _ (legal.state.frames.held.vm v f) (pooled-vm (legal.state.frames.condition f) v out) in
-      record { free = count-none (s.guest v).free f (omega arith); tree = none-of l.depth f (s.guest v).tree (legal.state.inside (suc (suc v))) (omega arith) }
+      let none : guest_uses l.depth (s.guest v) f ≡ 0 =
+      one-none _ _ (legal.state.frames.held.vm v f) (pooled-vm (legal.state.frames.condition f) v out) in
+      record {
+        free = count-none (s.guest v).free f (omega arith);
+        tree = none-of l.depth f (s.guest v).tree (legal.state.inside (suc (suc v))) (omega arith);
+      }
 
 pub nothing-apart : (f : ℕ) → IsApart no_shared f
 nothing-apart f = record { free = refl; host = λ b e. cc; hyp = λ b e. cc }
@@ -128,26 +154,45 @@ module _ (l : Layout) (s : Contents) (legal : LegalInAnyTrees l s) (cpu : ℕ) (
   abbrev x_of : Used
   x_of = used_of (names step) slot cpu s
 
-  used-clear : (slot : Option ℕ) (f : ℕ) → is_pooled (legal.state.frames.condition f) ≡ false → IsClear (guest_at s.guest slot) f
+  used-clear : (slot : Option ℕ) (f : ℕ)
+      → is_pooled (legal.state.frames.condition f) ≡ false
+      → IsClear (guest_at s.guest slot) f
   used-clear None f out = nothing-clear f
   used-clear (Some v) f out = guest-clear l s legal f out v
 
   -- the row of a touched frame is found the same
-  pub own-bare : (h : Changes) (f : ℕ) → is_pooled (legal.state.frames.condition f) ≡ false → own_row l cpu slot step (changed l.depth h x_of) f ≡ own_row l cpu slot step (changed l.depth h (bare_used x_of)) f
+  pub own-bare : (h : Changes) (f : ℕ)
+      → is_pooled (legal.state.frames.condition f) ≡ false
+      → own_row l cpu slot step (changed l.depth h x_of) f
+      ≡ own_row l cpu slot step (changed l.depth h (bare_used x_of)) f
   unfolding changed used_of
   own-bare h f out =
-      own-alike l cpu slot step (changed l.depth h x_of) (changed l.depth h (bare_used x_of)) f (changed-bare l.depth h x_of)
-      (still-apart l l.depth h x_of.shared f (used-apart f (uses_shared (names step) slot) s.shared (shared-apart l s legal f out)))
+      own-alike l cpu slot step (changed l.depth h x_of) (changed l.depth h (bare_used x_of)) f
+      (changed-bare l.depth h x_of)
+      (still-apart l l.depth h x_of.shared f
+      (used-apart f (uses_shared (names step) slot) s.shared (shared-apart l s legal f out)))
       (still-apart l l.depth h (bare_shared x_of.shared) f (bare-apart x_of.shared f))
-      (after-brings l h x_of.guest f (used-clear slot f out) ∙ sym (after-brings l h (bare_guest x_of.guest) f (bare-clear x_of.guest f)))
+      (after-brings l h x_of.guest f (used-clear slot f out)
+      ∙ sym (after-brings l h (bare_guest x_of.guest) f (bare-clear x_of.guest f)))
 
-  pub rows-bare : (h : Changes) → ((f : ℕ) → is_memory l f ≡ true → is_touched h f ≡ true → is_pooled (legal.state.frames.condition f) ≡ false) → bare_used (with_rows l cpu slot step h (changed l.depth h x_of)) ≡ bare_used (with_rows l cpu slot step h (changed l.depth h (bare_used x_of)))
+  pub rows-bare : (h : Changes)
+      → ((f : ℕ) → is_memory l f ≡ true → is_touched h f ≡ true → is_pooled (legal.state.frames.condition f) ≡ false)
+      → bare_used (with_rows l cpu slot step h (changed l.depth h x_of))
+      ≡ bare_used (with_rows l cpu slot step h (changed l.depth h (bare_used x_of)))
   unfolding with_rows changed shared_after
-  rows-bare h out = same2 with_row (changed-bare l.depth h x_of) (fun_ext (λ f. choose-same (is_memory l f && is_touched h f) (own_row l cpu slot step (changed l.depth h x_of) f) (own_row l cpu slot step (changed l.depth h (bare_used x_of)) f) (x_of.shared.row f) (λ e. let t = and-both (is_memory l f) (is_touched h f) e in own-bare h f (out f t.0 t.1))))
+  rows-bare h out =
+      same2 with_row (changed-bare l.depth h x_of)
+      (fun_ext
+      (λ f. choose-same (is_memory l f && is_touched h f) (own_row l cpu slot step (changed l.depth h x_of) f)
+      (own_row l cpu slot step (changed l.depth h (bare_used x_of)) f) (x_of.shared.row f)
+      (λ e. let t = and-both (is_memory l f) (is_touched h f) e in own-bare h f (out f t.0 t.1))))
 
   -- what a made step leaves is the same but for tables and free frames
-  pub made-bare : asks_pool step ≡ false → rule_fails l cpu slot step x_of ≡ None → bare_used (made l cpu slot step x_of) ≡ bare_used (made l cpu slot step (bare_used x_of))
+  pub made-bare : asks_pool step ≡ false
+      → rule_fails l cpu slot step x_of ≡ None
+      → bare_used (made l cpu slot step x_of) ≡ bare_used (made l cpu slot step (bare_used x_of))
   unfolding made
   made-bare asks passes =
       rows-bare (rule_of l cpu slot step x_of).changes (loose l s legal cpu step slot asks passes)
-      ∙ ap (λ (r : Rule). bare_used (with_rows l cpu slot step r.changes (changed l.depth r.changes (bare_used x_of)))) (sym (rule-bare l cpu slot step x_of asks))
+      ∙ ap (λ (r : Rule). bare_used (with_rows l cpu slot step r.changes (changed l.depth r.changes (bare_used x_of))))
+      (sym (rule-bare l cpu slot step x_of asks))

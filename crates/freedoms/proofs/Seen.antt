@@ -46,7 +46,8 @@ said-want w told said want (inr h) =
     cc
 
 -- a step of a state of which the freedoms leave the same as of the one before
-module _ (w : Freedoms) (l : Layout) (before s : Contents) (cpu : ℕ) (step : Step) (reply : Reply) (after : Contents) (same : Alike w l before s) where
+module _ (w : Freedoms) (l : Layout) (before s : Contents) (cpu : ℕ) (step : Step) (reply : Reply) (after : Contents)
+    (same : Alike w l before s) where
   abbrev slot_at : Option ℕ
   slot_at = guest_slot (s.cpu cpu) step
 
@@ -57,7 +58,11 @@ module _ (w : Freedoms) (l : Layout) (before s : Contents) (cpu : ℕ) (step : S
   put y = put_back (names step) slot_at cpu s y
 
   abbrev told_for : Option Refusal → Reply × Used
-  told_for o = elim o [ Some why ↦ (Refused why, x) | None ↦ (Done (rule_of l cpu slot_at step x).changes.value, made l cpu slot_at step x) ]
+  told_for o =
+      elim o [
+        | Some why ↦ (Refused why, x)
+        | None ↦ (Done (rule_of l cpu slot_at step x).changes.value, made l cpu slot_at step x)
+      ]
 
   abbrev back : Reply × Used → Reply × Contents
   back p = (p.0, put p.1)
@@ -67,7 +72,9 @@ module _ (w : Freedoms) (l : Layout) (before s : Contents) (cpu : ℕ) (step : S
   told-is o e = ap (λ (q : Option Refusal). back (told_for q)) e
 
   own : put x ≡ s
-  own = used-self (record { cpu = cpu; number = 0; step = step; reply = reply; slot = slot_at }) (record { contents = s; rooms = all_rooms 0 })
+  own =
+      used-self (record { cpu = cpu; number = 0; step = step; reply = reply; slot = slot_at })
+      (record { contents = s; rooms = all_rooms 0 })
 
   pub Agrees : Reply × Contents → Type 0
   Agrees told = AgreesSeen w l before step reply after told
@@ -75,12 +82,38 @@ module _ (w : Freedoms) (l : Layout) (before s : Contents) (cpu : ℕ) (step : S
   says-so : (a b : Reply) → a ≡ b → SaysAs w a reply → SaysAs w b reply
   says-so a b e h = subst (λ (r : Reply). SaysAs w r reply) e h
 
-  pub down : (next : Contents) (told : Reply) → StepsAmply l s cpu step told next → SaysAs w told reply → Alike w l next after → Agrees (foretell_amply l s cpu step)
+  pub down : (next : Contents) (told : Reply)
+      → StepsAmply l s cpu step told next
+      → SaysAs w told reply
+      → Alike w l next after
+      → Agrees (foretell_amply l s cpu step)
   unfolding Agrees
   down next told steps says ends = elim (steps.answers) [
-    | inl p ↦ subst Agrees (sym (told-is None p.passes)) (inl (record { says = says-so told (Done (rule_of l cpu slot_at step x).changes.value) p.reply_is says; contents_are = ap (view w l) (ap put (sym p.next) ∙ sym steps.next) ∙ ends }))
-    | inr (inl p) ↦ subst Agrees (sym (told-is (Some p.why) p.fail)) (inl (record { says = says-so told (Refused p.why) p.reply_is says; contents_are = ap (view w l) (ap put (sym p.next) ∙ sym steps.next) ∙ ends }))
-    | inr (inr p) ↦ subst Agrees (sym (told-is None p.passes)) (inr (record { wants = record { reply_is = said-want w told reply p.reply_is says; grows = p.grows; made = refl }; contents_are = same ∙ ap (view w l) (sym own ∙ ap put (sym p.next) ∙ sym steps.next) ∙ ends }))
+    | inl p ↦ subst Agrees (sym (told-is None p.passes))
+        (inl
+        (record {
+          says = says-so told (Done (rule_of l cpu slot_at step x).changes.value) p.reply_is says;
+          contents_are = ap (view w l) (ap put (sym p.next) ∙ sym steps.next)
+              ∙ ends;
+        }))
+    | inr (inl p) ↦ subst Agrees (sym (told-is (Some p.why) p.fail))
+        (inl
+        (record {
+          says = says-so told (Refused p.why) p.reply_is says;
+          contents_are = ap (view w l) (ap put (sym p.next) ∙ sym steps.next)
+              ∙ ends;
+        }))
+    | inr (inr p) ↦ subst Agrees (sym (told-is None p.passes))
+        (inr
+        (record {
+          wants = record {
+            reply_is = said-want w told reply p.reply_is says;
+            grows = p.grows;
+            made = refl;
+          };
+          contents_are = same
+              ∙ ap (view w l) (sym own ∙ ap put (sym p.next) ∙ sym steps.next) ∙ ends;
+        }))
   ]
 
   pub record IsStep : Type 0 where
@@ -92,24 +125,69 @@ module _ (w : Freedoms) (l : Layout) (before s : Contents) (cpu : ℕ) (step : S
 
   up-by : (o : Option Refusal) → rule_fails l cpu slot_at step x ≡ o → Agrees (back (told_for o)) → IsStep
   unfolding Agrees
-  up-by (Some why) e (inl a) = record { next = put x; told = Refused why; steps = record { after = x; answers = inr (inl (record { why = why; fail = e; reply_is = refl; next = refl })); next = refl }; says = a.says; ends = a.contents_are }
-  up-by None e (inl a) = record { next = put (made l cpu slot_at step x); told = Done (rule_of l cpu slot_at step x).changes.value; steps = record { after = made l cpu slot_at step x; answers = inl (record { passes = e; reply_is = refl; next = refl }); next = refl }; says = a.says; ends = a.contents_are }
+  up-by (Some why) e (inl a) =
+      record {
+        next = put x;
+        told = Refused why;
+        steps =
+            record {
+              after = x;
+              answers = inr (inl (record { why = why; fail = e; reply_is = refl; next = refl }));
+              next = refl;
+            };
+        says = a.says;
+        ends = a.contents_are;
+      }
+  up-by None e (inl a) =
+      record {
+        next = put (made l cpu slot_at step x);
+        told = Done (rule_of l cpu slot_at step x).changes.value;
+        steps =
+            record {
+              after = made l cpu slot_at step x;
+              answers = inl (record { passes = e; reply_is = refl; next = refl });
+              next = refl;
+            };
+        says = a.says;
+        ends = a.contents_are;
+      }
   up-by (Some why) e (inr a) = refused-done why a.wants.made
-  up-by None e (inr a) = record { next = put x; told = reply; steps = record { after = x; answers = inr (inr (record { passes = e; grows = a.wants.grows; reply_is = a.wants.reply_is; next = refl })); next = refl }; says = inl refl; ends = ap (view w l) own ∙ sym same ∙ a.contents_are }
+  up-by None e (inr a) =
+      record {
+        next = put x;
+        told = reply;
+        steps =
+            record {
+              after = x;
+              answers =
+                  inr
+                  (inr
+                  (record { passes = e; grows = a.wants.grows; reply_is = a.wants.reply_is; next = refl }));
+              next = refl;
+            };
+        says = inl refl;
+        ends = ap (view w l) own
+            ∙ sym same ∙ a.contents_are;
+      }
 
   pub up : Agrees (foretell_amply l s cpu step) → IsStep
   up a = up-by (rule_fails l cpu slot_at step x) refl (subst Agrees (told-is (rule_fails l cpu slot_at step x) refl) a)
 
 -- what the freedoms leave of a state, seen again
 seen-twice : (w : Freedoms) (l : Layout) (s : Contents) → Alike w l s (view w l s)
-seen-twice w l s = ap (λ (m : Map). record (view w l s) { shared = record (bare_shared s.shared) { host = record { map = m; table = no_tree.table } } }) (fun_ext (λ p. sym (view-twice w l p (s.shared.host.map p))))
+seen-twice w l s =
+    ap
+    (λ (m : Map). record (view w l s)
+    { shared = record (bare_shared s.shared) { host = record { map = m; table = no_tree.table } } })
+    (fun_ext (λ p. sym (view-twice w l p (s.shared.host.map p))))
 
 pub seen_by_told : SeenByTold
 unfolding Agrees
 seen_by_told w l before cpu step reply after =
     let same = seen-twice w l before in (
       λ j. down w l before (view w l before) cpu step reply after same j.next j.told j.steps j.says j.ends,
-      λ a. let k = up w l before (view w l before) cpu step reply after same a in record { next = k.next; told = k.told; steps = k.steps; says = k.says; ends = k.ends },
+      λ a. let k = up w l before (view w l before) cpu step reply after same a in
+          record { next = k.next; told = k.told; steps = k.steps; says = k.says; ends = k.ends },
     )
 
 reads-pool : (step : Step) → is_read step ≡ true → asks_pool step ≡ false
@@ -129,9 +207,25 @@ reads_seen w l before legal cpu step reply after begins is reads =
     let bare : Alike w l before (without_tables before) = refl in (
       λ j.
           let u = (alike l j.state cpu step j.told j.legal asks).down j.next j.steps in
-          down w l before (without_tables before) cpu step reply after bare u.0 j.told (subst (λ (s : Contents). StepsAmply l s cpu step j.told u.0) (sym (j.itself reads)) u.1) j.says (sym (viewed w l j.next u.0 u.2) ∙ j.ends),
+          down w l before (without_tables before) cpu step reply after bare u.0 j.told
+          (subst (λ (s : Contents). StepsAmply l s cpu step j.told u.0) (sym (j.itself reads)) u.1) j.says
+          (sym (viewed w l j.next u.0 u.2) ∙ j.ends),
       λ a.
           let k = up w l before (without_tables before) cpu step reply after bare a in
-          let u = (alike l legal cpu step k.told is asks).up k.next (subst (λ (s : Contents). StepsAmply l s cpu step k.told k.next) begins k.steps) in
-          record { state = legal; next = u.0; told = k.told; begins = viewed w l before legal begins; itself = λ r. begins; legal = is; steps = u.1; says = k.says; ends = viewed w l u.0 k.next u.2 ∙ k.ends; mapped = λ lazy. reads-touch step reply after reads },
+          let u =
+          (alike l legal cpu step k.told is asks).up k.next
+          (subst (λ (s : Contents). StepsAmply l s cpu step k.told k.next) begins k.steps) in
+          record {
+            state = legal;
+            next = u.0;
+            told = k.told;
+            begins = viewed w l before legal begins;
+            itself = λ r. begins;
+            legal = is;
+            steps = u.1;
+            says = k.says;
+            ends = viewed w l u.0 k.next u.2
+                ∙ k.ends;
+            mapped = λ lazy. reads-touch step reply after reads;
+          },
     )

@@ -32,7 +32,11 @@ module _ (l : Layout) (before : Contents) (cpu : ℕ) (step : Step) (reply : Rep
   put y = put_back (names step) slot_at cpu s y
 
   abbrev told_for : Option Refusal → Reply × Used
-  told_for o = elim o [ Some why ↦ (Refused why, x) | None ↦ (Done (rule_of l cpu slot_at step x).changes.value, made l cpu slot_at step x) ]
+  told_for o =
+      elim o [
+        | Some why ↦ (Refused why, x)
+        | None ↦ (Done (rule_of l cpu slot_at step x).changes.value, made l cpu slot_at step x)
+      ]
 
   abbrev back : Reply × Used → Reply × Contents
   back p = (p.0, put p.1)
@@ -42,7 +46,9 @@ module _ (l : Layout) (before : Contents) (cpu : ℕ) (step : Step) (reply : Rep
   told-is o e = ap (λ (q : Option Refusal). back (told_for q)) e
 
   own : put x ≡ s
-  own = used-self (record { cpu = cpu; number = 0; step = step; reply = reply; slot = slot_at }) (record { contents = s; rooms = all_rooms 0 })
+  own =
+      used-self (record { cpu = cpu; number = 0; step = step; reply = reply; slot = slot_at })
+      (record { contents = s; rooms = all_rooms 0 })
 
   Agrees : Reply × Contents → Type 0
   Agrees told = AgreesBare before step reply after told
@@ -50,17 +56,73 @@ module _ (l : Layout) (before : Contents) (cpu : ℕ) (step : Step) (reply : Rep
   down : IsJudgedByMaps l before cpu step reply after → Agrees (told_bare l before cpu step)
   unfolding Agrees
   down j = elim (j.steps.answers) [
-    | inl p ↦ subst Agrees (sym (told-is None p.passes)) (inl (record { reply_is = p.reply_is; contents_are = ap without_tables (ap put (sym p.next) ∙ sym j.steps.next) ∙ j.ends }))
-    | inr (inl p) ↦ subst Agrees (sym (told-is (Some p.why) p.fail)) (inl (record { reply_is = p.reply_is; contents_are = ap without_tables (ap put (sym p.next) ∙ sym j.steps.next) ∙ j.ends }))
-    | inr (inr p) ↦ subst Agrees (sym (told-is None p.passes)) (inr (record { wants = record { reply_is = p.reply_is; grows = p.grows; made = refl }; contents_are = ap without_tables (sym own ∙ ap put (sym p.next) ∙ sym j.steps.next) ∙ j.ends }))
+    | inl p ↦ subst Agrees (sym (told-is None p.passes))
+        (inl
+        (record {
+          reply_is = p.reply_is;
+          contents_are = ap without_tables (ap put (sym p.next) ∙ sym j.steps.next)
+              ∙ j.ends;
+        }))
+    | inr (inl p) ↦ subst Agrees (sym (told-is (Some p.why) p.fail))
+        (inl
+        (record {
+          reply_is = p.reply_is;
+          contents_are = ap without_tables (ap put (sym p.next) ∙ sym j.steps.next)
+              ∙ j.ends;
+        }))
+    | inr (inr p) ↦ subst Agrees (sym (told-is None p.passes))
+        (inr
+        (record {
+          wants = record { reply_is = p.reply_is; grows = p.grows; made = refl };
+          contents_are = ap without_tables (sym own ∙ ap put (sym p.next) ∙ sym j.steps.next)
+              ∙ j.ends;
+        }))
   ]
 
-  up-by : (o : Option Refusal) → rule_fails l cpu slot_at step x ≡ o → Agrees (back (told_for o)) → IsJudgedByMaps l before cpu step reply after
+  up-by : (o : Option Refusal)
+      → rule_fails l cpu slot_at step x ≡ o
+      → Agrees (back (told_for o))
+      → IsJudgedByMaps l before cpu step reply after
   unfolding Agrees
-  up-by (Some why) e (inl a) = record { next = put x; steps = record { after = x; answers = inr (inl (record { why = why; fail = e; reply_is = a.reply_is; next = refl })); next = refl }; ends = a.contents_are }
-  up-by None e (inl a) = record { next = put (made l cpu slot_at step x); steps = record { after = made l cpu slot_at step x; answers = inl (record { passes = e; reply_is = a.reply_is; next = refl }); next = refl }; ends = a.contents_are }
+  up-by (Some why) e (inl a) =
+      record {
+        next = put x;
+        steps =
+            record {
+              after = x;
+              answers =
+                  inr (inl (record { why = why; fail = e; reply_is = a.reply_is; next = refl }));
+              next = refl;
+            };
+        ends = a.contents_are;
+      }
+  up-by None e (inl a) =
+      record {
+        next = put (made l cpu slot_at step x);
+        steps =
+            record {
+              after = made l cpu slot_at step x;
+              answers = inl (record { passes = e; reply_is = a.reply_is; next = refl });
+              next = refl;
+            };
+        ends = a.contents_are;
+      }
   up-by (Some why) e (inr a) = refused-done why a.wants.made
-  up-by None e (inr a) = record { next = put x; steps = record { after = x; answers = inr (inr (record { passes = e; grows = a.wants.grows; reply_is = a.wants.reply_is; next = refl })); next = refl }; ends = ap without_tables own ∙ a.contents_are }
+  up-by None e (inr a) =
+      record {
+        next = put x;
+        steps =
+            record {
+              after = x;
+              answers =
+                  inr
+                  (inr
+                  (record { passes = e; grows = a.wants.grows; reply_is = a.wants.reply_is; next = refl }));
+              next = refl;
+            };
+        ends = ap without_tables own
+            ∙ a.contents_are;
+      }
 
   up : Agrees (told_bare l before cpu step) → IsJudgedByMaps l before cpu step reply after
   up a = up-by (rule_fails l cpu slot_at step x) refl (subst Agrees (told-is (rule_fails l cpu slot_at step x) refl) a)

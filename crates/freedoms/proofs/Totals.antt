@@ -61,35 +61,49 @@ sum-one (suc n) k h = elim (both (k == n)) [
       omega arith
 ]
 
-sum-free : (n : ℕ) (fs : Pool) → ((f : ℕ) → 1 ≤ frame_count f fs → f < n) → sum_below n (λ f. frame_count f fs) ≡ length fs
+sum-free : (n : ℕ) (fs : Pool)
+    → ((f : ℕ) → 1 ≤ frame_count f fs → f < n)
+    → sum_below n (λ f. frame_count f fs) ≡ length fs
 sum-free n [] low = sum-none n
 sum-free n (g ∷ gs) low =
-    let here : g < n = low g (let k = count_next g g gs in let e : is_one g g ≡ 1 = ap one (eq-self g) in omega arith) in
+    let here : g < n =
+    low g (let k = count_next g g gs in let e : is_one g g ≡ 1 = ap one (eq-self g) in omega arith) in
     let rest = sum-free n gs (λ f h. low f (let k = count_next f g gs in omega arith)) in
-    let parts : sum_below n (λ f. frame_count f (g ∷ gs)) ≡ sum_below n (λ f. is_one g f + frame_count f gs) = ap (sum_below n) (fun_ext (λ f. count_next f g gs)) in
+    let parts : sum_below n (λ f. frame_count f (g ∷ gs)) ≡ sum_below n (λ f. is_one g f + frame_count f gs) =
+    ap (sum_below n) (fun_ext (λ f. count_next f g gs)) in
     let both-parts = sum-plus n (λ f. is_one g f) (λ f. frame_count f gs) in
     let first = sum-one n g here in
     omega arith
 
-sum-frame : (n : ℕ) (o : Option ℕ) → ((f : ℕ) → o ≡ Some f → f < n) → sum_below n (λ f. one (is_frame f o)) ≡ one (is_some o)
+sum-frame : (n : ℕ) (o : Option ℕ)
+    → ((f : ℕ) → o ≡ Some f → f < n)
+    → sum_below n (λ f. one (is_frame f o)) ≡ one (is_some o)
 sum-frame n None low = sum-none n
 sum-frame n (Some g) low = sum-one n g (low g refl)
 
-sum-count : (n k : ℕ) (table : ℕ → Option ℕ) → ((i f : ℕ) → table i ≡ Some f → f < n) → sum_below n (λ f. count_below k (λ i. is_frame f (table i))) ≡ count_below k (λ i. is_some (table i))
+sum-count : (n k : ℕ) (table : ℕ → Option ℕ)
+    → ((i f : ℕ) → table i ≡ Some f → f < n)
+    → sum_below n (λ f. count_below k (λ i. is_frame f (table i))) ≡ count_below k (λ i. is_some (table i))
 sum-count n zero table low = sum-none n
 sum-count n (suc k) table low =
     let both-parts = sum-plus n (λ f. one (is_frame f (table k))) (λ f. count_below k (λ i. is_frame f (table i))) in
     let first = sum-frame n (table k) (low k) in
     let rest = sum-count n k table low in
-    both-parts ∙ ap (λ m. m + sum_below n (λ f. count_below k (λ i. is_frame f (table i)))) first ∙ ap (λ m. one (is_some (table k)) + m) rest
+    both-parts ∙ ap (λ m. m + sum_below n (λ f. count_below k (λ i. is_frame f (table i)))) first
+    ∙ ap (λ m. one (is_some (table k)) + m) rest
 
-sum-blocks : (n top d : ℕ) (table : Block → Option ℕ) → ((b : Block) (f : ℕ) → table b ≡ Some f → f < n) → sum_below n (λ f. count_blocks top d (λ b. is_frame f (table b))) ≡ count_blocks top d (λ b. is_some (table b))
+sum-blocks : (n top d : ℕ) (table : Block → Option ℕ)
+    → ((b : Block) (f : ℕ) → table b ≡ Some f → f < n)
+    → sum_below n (λ f. count_blocks top d (λ b. is_frame f (table b))) ≡ count_blocks top d (λ b. is_some (table b))
 sum-blocks n top zero table low = sum-none n
 sum-blocks n top (suc d) table low =
-    let both-parts = sum-plus n (λ f. count_below (block_pages (top - suc d)) (λ i. is_frame f (table (suc d, i)))) (λ f. count_blocks top d (λ b. is_frame f (table b))) in
+    let both-parts =
+    sum-plus n (λ f. count_below (block_pages (top - suc d)) (λ i. is_frame f (table (suc d, i))))
+    (λ f. count_blocks top d (λ b. is_frame f (table b))) in
     let first = sum-count n (block_pages (top - suc d)) (λ i. table (suc d, i)) (λ i. low (suc d, i)) in
     let rest = sum-blocks n top d table low in
-    both-parts ∙ ap (λ m. m + sum_below n (λ f. count_blocks top d (λ b. is_frame f (table b)))) first ∙ ap (λ m. count_below (block_pages (top - suc d)) (λ i. is_some (table (suc d, i))) + m) rest
+    both-parts ∙ ap (λ m. m + sum_below n (λ f. count_blocks top d (λ b. is_frame f (table b)))) first
+    ∙ ap (λ m. count_below (block_pages (top - suc d)) (λ i. is_some (table (suc d, i))) + m) rest
 
 -- all that a guest holds
 abbrev pub total : Layout → Guest → ℕ
@@ -99,21 +113,31 @@ module _ (l : Layout) (usable : IsUsable l) (s : Contents) (legal : LegalInAnyTr
   -- a frame that it holds lies in the trees
   held-low : (f : ℕ) → 1 ≤ guest_uses l.depth (s.guest v) f → f < pages_below l.depth
   held-low f some =
-      let named = in_vm-is v (legal.state.frames.condition f) (one-true (in_vm v (legal.state.frames.condition f)) (guest_uses l.depth (s.guest v) f) some (legal.state.frames.held.vm v f)) in
+      let named =
+      in_vm-is v (legal.state.frames.condition f)
+      (one-true (in_vm v (legal.state.frames.condition f)) (guest_uses l.depth (s.guest v) f) some
+      (legal.state.frames.held.vm v f)) in
       let less = usable.pages f (sym (legal.state.frames.of_layout.inside f) ∙ ap is_inside named) in
       omega arith
 
-  pub total-is : total l (s.guest v) ≡ sum_below (pages_below l.depth) (λ f. one (in_vm v (legal.state.frames.condition f)))
+  pub total-is : total l (s.guest v)
+      ≡ sum_below (pages_below l.depth) (λ f. one (in_vm v (legal.state.frames.condition f)))
   unfolding table_uses uses_of
   total-is =
       let g = s.guest v in
       let n = pages_below l.depth in
       let free = sum-free n g.free (λ f h. held-low f (omega arith)) in
-      let tables = sum-blocks n (l.depth + 1) (l.depth + 1) g.tree.table (λ b f e. held-low f (let k = uses-some l.depth f b g.tree.table (legal.state.inside (suc (suc v)) b f e) e in omega arith)) in
+      let tables =
+      sum-blocks n (l.depth + 1) (l.depth + 1) g.tree.table
+      (λ b f e. held-low f
+      (let k = uses-some l.depth f b g.tree.table (legal.state.inside (suc (suc v)) b f e) e in
+      omega arith)) in
       let parts = sum-plus n (λ f. frame_count f g.free) (λ f. table_uses l.depth g.tree f) in
-      let all : sum_below n (λ f. guest_uses l.depth g f) ≡ sum_below n (λ f. one (in_vm v (legal.state.frames.condition f))) = ap (sum_below n) (fun_ext (legal.state.frames.held.vm v)) in
+      let all : sum_below n (λ f. guest_uses l.depth g f) ≡ sum_below n (λ f. one (in_vm v (legal.state.frames.condition f))) =
+      ap (sum_below n) (fun_ext (legal.state.frames.held.vm v)) in
       let swap : total l g ≡ length g.free + guest_table_count l g.tree = omega arith in
-      swap ∙ sym (ap (λ m. m + guest_table_count l g.tree) free) ∙ sym (ap (λ m. sum_below n (λ f. frame_count f g.free) + m) tables) ∙ sym parts ∙ all
+      swap ∙ sym (ap (λ m. m + guest_table_count l g.tree) free)
+      ∙ sym (ap (λ m. sum_below n (λ f. frame_count f g.free) + m) tables) ∙ sym parts ∙ all
 
 -- rows tell which frames are a guest's
 
@@ -133,12 +157,26 @@ pub out-vm : (v : ℕ) (c : Condition) → is_inside c ≡ false → in_vm v c �
 out-vm v outside h = refl
 out-vm v c h = cc
 
-pub vm-same : (l : Layout) (s t : Contents) (a : LegalInAnyTrees l s) (b : LegalInAnyTrees l t) → s.shared.row ≡ t.shared.row → (v f : ℕ) → in_vm v (a.state.frames.condition f) ≡ in_vm v (b.state.frames.condition f)
+pub vm-same : (l : Layout) (s t : Contents) (a : LegalInAnyTrees l s) (b : LegalInAnyTrees l t)
+    → s.shared.row ≡ t.shared.row
+    → (v f : ℕ)
+    → in_vm v (a.state.frames.condition f) ≡ in_vm v (b.state.frames.condition f)
 vm-same l s t a b rows v f = elim (both (is_memory l f)) [
-  | inl m ↦ vm-row v f (a.state.frames.condition f) ∙ ap (λ (r : Row). is_pool_of v r.usage) (sym (a.state.frames.rows f m) ∙ ap (λ (r : ℕ → Row). r f) rows ∙ b.state.frames.rows f m) ∙ sym (vm-row v f (b.state.frames.condition f))
-  | inr m ↦ out-vm v (a.state.frames.condition f) (a.state.frames.of_layout.inside f ∙ m) ∙ sym (out-vm v (b.state.frames.condition f) (b.state.frames.of_layout.inside f ∙ m))
+  | inl m ↦ vm-row v f (a.state.frames.condition f)
+      ∙ ap (λ (r : Row). is_pool_of v r.usage)
+      (sym (a.state.frames.rows f m) ∙ ap (λ (r : ℕ → Row). r f) rows ∙ b.state.frames.rows f m)
+      ∙ sym (vm-row v f (b.state.frames.condition f))
+  | inr m ↦ out-vm v (a.state.frames.condition f) (a.state.frames.of_layout.inside f ∙ m)
+      ∙ sym (out-vm v (b.state.frames.condition f) (b.state.frames.of_layout.inside f ∙ m))
 ]
 
 -- so two legal states with the same rows hold as many
-pub total-same : (l : Layout) (s t : Contents) → IsUsable l → (a : LegalInAnyTrees l s) (b : LegalInAnyTrees l t) → s.shared.row ≡ t.shared.row → (v : ℕ) → total l (s.guest v) ≡ total l (t.guest v)
-total-same l s t usable a b rows v = total-is l usable s a v ∙ ap (sum_below (pages_below l.depth)) (fun_ext (λ f. ap one (vm-same l s t a b rows v f))) ∙ sym (total-is l usable t b v)
+pub total-same : (l : Layout) (s t : Contents)
+    → IsUsable l
+    → (a : LegalInAnyTrees l s) (b : LegalInAnyTrees l t)
+    → s.shared.row ≡ t.shared.row
+    → (v : ℕ)
+    → total l (s.guest v) ≡ total l (t.guest v)
+total-same l s t usable a b rows v =
+    total-is l usable s a v ∙ ap (sum_below (pages_below l.depth)) (fun_ext (λ f. ap one (vm-same l s t a b rows v f)))
+    ∙ sym (total-is l usable t b v)

@@ -1,4 +1,5 @@
--- The model's step where the pools' test isn't asked, and when a judge that leaves tables and free frames out agrees.
+-- The model's step where the pools' test isn't asked, and when a judge that leaves tables and free
+-- frames out agrees.
 use Rattle.std.specs.Prelude.{◌≡◌, ◌⊎◌, ℕ, Bool, true, false, Option, Some, None}
 use Rattle.call_table.specs.declared.reply.Refusal.{Refusal}
 use Rattle.call_table.specs.declared.reply.Refusal.TheVariants.{NoMemory, NoPool}
@@ -54,7 +55,8 @@ module _ (l : Layout) (cpu : ℕ) (slot : Option ℕ) (step : Step) where
     pub reply_is : reply ≡ Refused why
     pub next : y ≡ x
 
-  -- wanting memory, of the pools or from elsewhere: no test of the rule fails, and nothing has changed
+  -- wanting memory, of the pools or from elsewhere: no test of the rule fails, and nothing has
+  -- changed
   pub record IsInWant (x : Used) (reply : Reply) (y : Used) : Type 0 where
     pub passes : rule_fails x ≡ None
     pub grows : may_grow step ≡ true
@@ -67,9 +69,14 @@ module _ (l : Layout) (cpu : ℕ) (slot : Option ℕ) (step : Step) where
 
   -- the same as a function, but for want of memory
   unfoldable pub answer_amply : Used → Reply × Used
-  answer_amply x = elim (rule_fails x) [ Some why ↦ (Refused why, x) | None ↦ (Done (rule_of l cpu slot step x).changes.value, made l cpu slot step x) ]
+  answer_amply x =
+      elim (rule_fails x) [
+        | Some why ↦ (Refused why, x)
+        | None ↦ (Done (rule_of l cpu slot step x).changes.value, made l cpu slot step x)
+      ]
 
--- the reply of a step, but for want of memory, and the state after it, where the pools may hold any number of frames and logs aren't asked
+-- the reply of a step, but for want of memory, and the state after it, where the pools may hold any
+-- number of frames and logs aren't asked
 unfoldable pub foretell_amply : Layout → Contents → ℕ → Step → Reply × Contents
 foretell_amply l s cpu step =
     let n = names step in
@@ -78,13 +85,17 @@ foretell_amply l s cpu step =
     (r.0, put_back n slot cpu s r.1)
 
 -- a step of a CPU leads from a state to another, where its pools may hold any number of frames
-pub record StepsAmply (l : Layout) (s : Contents) (cpu : ℕ) (step : Step) (reply : Reply) (t : Contents) : Type 0 where
+pub record StepsAmply (l : Layout) (s : Contents) (cpu : ℕ) (step : Step) (reply : Reply)
+    (t : Contents) : Type 0 where
   pub after : Used
-  pub answers : AnswersAmply l cpu (guest_slot (s.cpu cpu) step) step (used_of (names step) (guest_slot (s.cpu cpu) step) cpu s) reply after
+  pub answers : AnswersAmply l cpu (guest_slot (s.cpu cpu) step) step
+      (used_of (names step) (guest_slot (s.cpu cpu) step) cpu s) reply after
   pub next : t ≡ put_back (names step) (guest_slot (s.cpu cpu) step) cpu s after
 
--- judged with own tables: some legal state that differs from the one before in tables and free frames alone steps so, to one that differs so from the one after
-pub record JudgedWithOwnTables (l : Layout) (before : Contents) (cpu : ℕ) (step : Step) (reply : Reply) (after : Contents) : Type 0 where
+-- judged with own tables: some legal state that differs from the one before in tables and free
+-- frames alone steps so, to one that differs so from the one after
+pub record JudgedWithOwnTables (l : Layout) (before : Contents) (cpu : ℕ) (step : Step)
+    (reply : Reply) (after : Contents) : Type 0 where
   pub state : Contents
   pub next : Contents
   pub begins : OwnTables before state
@@ -92,8 +103,10 @@ pub record JudgedWithOwnTables (l : Layout) (before : Contents) (cpu : ℕ) (ste
   pub steps : StepsAmply l state cpu step reply next
   pub ends : OwnTables next after
 
--- what a program computes: the state before steps so without any table and free frame, and what comes of it has all but these of the state after
-pub record IsJudgedByMaps (l : Layout) (before : Contents) (cpu : ℕ) (step : Step) (reply : Reply) (after : Contents) : Type 0 where
+-- what a program computes: the state before steps so without any table and free frame, and what
+-- comes of it has all but these of the state after
+pub record IsJudgedByMaps (l : Layout) (before : Contents) (cpu : ℕ) (step : Step) (reply : Reply)
+    (after : Contents) : Type 0 where
   pub next : Contents
   pub steps : StepsAmply l (without_tables before) cpu step reply next
   pub ends : OwnTables next after
@@ -114,10 +127,12 @@ pub record IsAsToldBare (reply : Reply) (after : Contents) (told : Reply × Cont
   pub contents_are : OwnTables told.1 after
 
 -- want of memory, and nothing but tables and free frames changed
-pub record IsUnchangedBare (before : Contents) (step : Step) (reply : Reply) (after : Contents) (told : Reply × Contents) : Type 0 where
+pub record IsUnchangedBare (before : Contents) (step : Step) (reply : Reply) (after : Contents)
+    (told : Reply × Contents) : Type 0 where
   pub wants : WantsAnyMemory step reply told.0
   pub contents_are : OwnTables before after
 
 -- one of both
 abbrev pub AgreesBare : Contents → Step → Reply → Contents → Reply × Contents → Type 0
-AgreesBare before step reply after told = IsAsToldBare reply after told ⊎ IsUnchangedBare before step reply after told
+AgreesBare before step reply after told =
+    IsAsToldBare reply after told ⊎ IsUnchangedBare before step reply after told

@@ -1,4 +1,5 @@
--- Legal, whatever the policy of tables: as Legal, but a tree need not be the coarsest of its map. Only a guest with nothing mapped has no table but its root.
+-- Legal, whatever the policy of tables: as Legal, but a tree need not be the coarsest of its map.
+-- Only a guest with nothing mapped has no table but its root.
 use Rattle.std.specs.Prelude.{◌≡◌, ℕ, ◌+◌, Some}
 use Rattle.page_state.specs.declared.entry.Entry.TheVariants.{Unmapped}
 use Rattle.coarse_trees.specs.Coarsest.{IsInTree}
@@ -12,7 +13,8 @@ use Rattle.reference_model.specs.model.State.{Contents}
 abbrev pub IsInside : ℕ → Tree → Type 0
 IsInside depth t = (b : Block) (f : ℕ) → t.table b ≡ Some f → IsInTree depth b
 
--- each frame is in one condition, which decides all that the maps, the holders and the rows say of it
+-- each frame is in one condition, which decides all that the maps, the holders and the rows say of
+-- it
 pub record AreFramesLegal (l : Layout) (s : Contents) : Type 0 where
   pub condition : ℕ → Condition
   pub of_layout : IsOfLayout l condition
@@ -20,7 +22,8 @@ pub record AreFramesLegal (l : Layout) (s : Contents) : Type 0 where
   pub held : HeldFit l s condition
   pub rows : RowsFit l s condition
 
--- the state is legal, but for the tables that its trees need: they are at blocks of the trees, and that is all
+-- the state is legal, but for the tables that its trees need: they are at blocks of the trees, and
+-- that is all
 pub record IsLegalButForTrees (l : Layout) (s : Contents) : Type 0 where
   pub frames : AreFramesLegal l s
   pub inside : (t : ℕ) → IsInside l.depth (tree_at s t)
@@ -29,9 +32,11 @@ pub record IsLegalButForTrees (l : Layout) (s : Contents) : Type 0 where
 
 -- a guest that has nothing mapped has no table but its root
 abbrev pub HasRootAlone : ℕ → Tree → Type 0
-HasRootAlone depth t = ((g : ℕ) → t.map g ≡ Unmapped) → (b : Block) (f : ℕ) → t.table b ≡ Some f → b ≡ (depth + 1, 0)
+HasRootAlone depth t =
+    ((g : ℕ) → t.map g ≡ Unmapped) → (b : Block) (f : ℕ) → t.table b ≡ Some f → b ≡ (depth + 1, 0)
 
--- legal in any trees: but for the tables that trees need, and a guest that loses its last page gives its tables back
+-- legal in any trees: but for the tables that trees need, and a guest that loses its last page
+-- gives its tables back
 pub record LegalInAnyTrees (l : Layout) (s : Contents) : Type 0 where
   pub state : IsLegalButForTrees l s
   pub emptied : (v : ℕ) → HasRootAlone l.depth (s.guest v).tree

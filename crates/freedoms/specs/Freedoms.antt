@@ -1,4 +1,5 @@
--- More freedoms beside own tables: a lazy host, any kind of a device's page, any name of a refusal; and when a judge with these agrees.
+-- More freedoms beside own tables: a lazy host, any kind of a device's page, any name of a refusal;
+-- and when a judge with these agrees.
 use Rattle.std.specs.Prelude.{◌≡◌, ◌⊎◌, ℕ, Bool, true, false, not, Some, None, if◌then◌else◌}
 use Rattle.descriptor.specs.declared.Kind.TheVariants.{Device}
 use Rattle.call_table.specs.declared.reply.Refusal.{Refusal}
@@ -49,7 +50,15 @@ view_entry w l p e =
 
 -- a state, as far as the freedoms leave it to the model
 abbrev pub view : Freedoms → Layout → Contents → Contents
-view w l s = record (without_tables s) { shared = record (bare_shared s.shared) { host = record { map = λ p. view_entry w l p (s.shared.host.map p); table = no_tree.table } } }
+view w l s =
+    record (without_tables s) {
+      shared = record (bare_shared s.shared) {
+        host = record {
+          map = λ p. view_entry w l p (s.shared.host.map p);
+          table = no_tree.table;
+        };
+      };
+    }
 
 -- two states that differ as the freedoms allow
 abbrev pub Alike : Freedoms → Layout → Contents → Contents → Type 0
@@ -63,9 +72,14 @@ is_test Busy = true
 is_test Perm = true
 is_test other = false
 
--- what is said stands for what the model says: it is the same, or, by any name, a refusal where a rule's test refuses
+-- what is said stands for what the model says: it is the same, or, by any name, a refusal where a
+-- rule's test refuses
 abbrev pub SaysAs : Freedoms → Reply → Reply → Type 0
-SaysAs w told said = (said ≡ told) ⊎ ((w.any_refusal ≡ true) × ((why : Refusal) × (told ≡ Refused why) × (is_test why ≡ true)) × ((why : Refusal) × (said ≡ Refused why)))
+SaysAs w told said =
+    (said ≡ told)
+    ⊎ ((w.any_refusal ≡ true)
+    × ((why : Refusal) × (told ≡ Refused why) × (is_test why ≡ true))
+    × ((why : Refusal) × (said ≡ Refused why)))
 
 -- a step that only reads
 abbrev pub is_read : Step → Bool
@@ -83,10 +97,17 @@ reads_host other = false
 
 -- a page that the host touched is mapped
 abbrev pub Touches : Step → Reply → Contents → Type 0
-Touches step reply after = (p : ℕ) → step ≡ HostAbort p → is_done reply ≡ true → is_unmapped (after.shared.host.map p) ≡ false
+Touches step reply after =
+    (p : ℕ)
+    → step ≡ HostAbort p
+    → is_done reply ≡ true
+    → is_unmapped (after.shared.host.map p) ≡ false
 
--- judged with freedoms: some legal state like the one before steps with a reply that the given one stands for, to a state like the one after; a read is of the state itself, and a lazy host has the page that it touched
-pub record JudgedWith (w : Freedoms) (l : Layout) (before : Contents) (cpu : ℕ) (step : Step) (reply : Reply) (after : Contents) : Type 0 where
+-- judged with freedoms: some legal state like the one before steps with a reply that the given one
+-- stands for, to a state like the one after; a read is of the state itself, and a lazy host has the
+-- page that it touched
+pub record JudgedWith (w : Freedoms) (l : Layout) (before : Contents) (cpu : ℕ) (step : Step)
+    (reply : Reply) (after : Contents) : Type 0 where
   pub state : Contents
   pub next : Contents
   pub told : Reply
@@ -98,8 +119,10 @@ pub record JudgedWith (w : Freedoms) (l : Layout) (before : Contents) (cpu : ℕ
   pub ends : Alike w l next after
   pub mapped : w.lazy_host ≡ true → Touches step reply after
 
--- what a program computes: what the freedoms leave of the state before steps so, and what they leave of the state after it comes of that
-pub record IsJudgedInView (w : Freedoms) (l : Layout) (before : Contents) (cpu : ℕ) (step : Step) (reply : Reply) (after : Contents) : Type 0 where
+-- what a program computes: what the freedoms leave of the state before steps so, and what they
+-- leave of the state after it comes of that
+pub record IsJudgedInView (w : Freedoms) (l : Layout) (before : Contents) (cpu : ℕ) (step : Step)
+    (reply : Reply) (after : Contents) : Type 0 where
   pub next : Contents
   pub told : Reply
   pub steps : StepsAmply l (view w l before) cpu step told next

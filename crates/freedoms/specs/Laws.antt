@@ -29,29 +29,60 @@ use Rattle.freedoms.specs.OwnTables.{OwnTables, without_tables}
 
 -- each stored step of the model is a step where the pools aren't asked
 abbrev pub AmpleSteps : Type 0
-AmpleSteps = (l : Layout) (s t : Reference) (c : Call) → Steps l s c t → c.reply ≢ Refused LogFull → StepsAmply l s.contents c.cpu c.step c.reply t.contents
+AmpleSteps =
+    (l : Layout) (s t : Reference) (c : Call)
+    → Steps l s c t
+    → c.reply ≢ Refused LogFull
+    → StepsAmply l s.contents c.cpu c.step c.reply t.contents
 
--- such a step of a legal state does the same, but for tables and free frames, where there are none, and the other way round
-pub record StepsAlike (l : Layout) (s : Contents) (cpu : ℕ) (step : Step) (reply : Reply) : Type 0 where
-  pub down : (t : Contents) → StepsAmply l s cpu step reply t → (u : Contents) × StepsAmply l (without_tables s) cpu step reply u × OwnTables t u
-  pub up : (u : Contents) → StepsAmply l (without_tables s) cpu step reply u → (t : Contents) × StepsAmply l s cpu step reply t × OwnTables t u
+-- such a step of a legal state does the same, but for tables and free frames, where there are none,
+-- and the other way round
+pub record StepsAlike (l : Layout) (s : Contents) (cpu : ℕ) (step : Step)
+    (reply : Reply) : Type 0 where
+  pub down : (t : Contents)
+      → StepsAmply l s cpu step reply t
+      → (u : Contents) × StepsAmply l (without_tables s) cpu step reply u × OwnTables t u
+  pub up : (u : Contents)
+      → StepsAmply l (without_tables s) cpu step reply u
+      → (t : Contents) × StepsAmply l s cpu step reply t × OwnTables t u
 
 abbrev pub BareSteps : Type 0
-BareSteps = (l : Layout) (s : Contents) (cpu : ℕ) (step : Step) (reply : Reply) → LegalInAnyTrees l s → asks_pool step ≡ false → StepsAlike l s cpu step reply
+BareSteps =
+    (l : Layout) (s : Contents) (cpu : ℕ) (step : Step) (reply : Reply)
+    → LegalInAnyTrees l s
+    → asks_pool step ≡ false
+    → StepsAlike l s cpu step reply
 
--- where some legal state differs from the one before in tables and free frames alone, the judgement with own tables is the one by maps
+-- where some legal state differs from the one before in tables and free frames alone, the judgement
+-- with own tables is the one by maps
 abbrev pub JudgedByMaps : Type 0
-JudgedByMaps = (l : Layout) (before legal : Contents) (cpu : ℕ) (step : Step) (reply : Reply) (after : Contents) → OwnTables before legal → LegalInAnyTrees l legal → asks_pool step ≡ false
-    → JudgedWithOwnTables l before cpu step reply after ↔ IsJudgedByMaps l before cpu step reply after
+JudgedByMaps =
+    (l : Layout) (before legal : Contents) (cpu : ℕ) (step : Step) (reply : Reply)
+    (after : Contents)
+    → OwnTables before legal
+    → LegalInAnyTrees l legal
+    → asks_pool step ≡ false
+    → JudgedWithOwnTables l before cpu step reply after
+    ↔ IsJudgedByMaps l before cpu step reply after
 
--- each stored step of the model from a legal state is judged to agree, whatever tables and free frames are told of the states before and after it
+-- each stored step of the model from a legal state is judged to agree, whatever tables and free
+-- frames are told of the states before and after it
 abbrev pub StepsJudged : Type 0
-StepsJudged = (l : Layout) (s t : Reference) (c : Call) (before after : Contents) → Legal l s.contents → Steps l s c t → c.reply ≢ Refused LogFull → OwnTables before s.contents → OwnTables t.contents after
+StepsJudged =
+    (l : Layout) (s t : Reference) (c : Call) (before after : Contents)
+    → Legal l s.contents
+    → Steps l s c t
+    → c.reply ≢ Refused LogFull
+    → OwnTables before s.contents
+    → OwnTables t.contents after
     → JudgedWithOwnTables l before c.cpu c.step c.reply after
 
 -- the judgement by maps, by what the model says of the state before without tables and free frames
 abbrev pub JudgedByTold : Type 0
-JudgedByTold = (l : Layout) (before : Contents) (cpu : ℕ) (step : Step) (reply : Reply) (after : Contents) → IsJudgedByMaps l before cpu step reply after ↔ AgreesBare before step reply after (told_bare l before cpu step)
+JudgedByTold =
+    (l : Layout) (before : Contents) (cpu : ℕ) (step : Step) (reply : Reply) (after : Contents)
+    → IsJudgedByMaps l before cpu step reply after
+    ↔ AgreesBare before step reply after (told_bare l before cpu step)
 
 -- the row of a frame of a guest's pool, free or a table
 abbrev pub pool_row : ℕ → Row
@@ -64,54 +95,120 @@ pub record IsSpare (l : Layout) (s : Contents) (v f : ℕ) : Type 0 where
 
 -- whatever a pool's order, reclaim_pool gives a frame whose row says the pool, and not the root
 abbrev pub ReclaimsSpare : Type 0
-ReclaimsSpare = (l : Layout) (s t : Contents) (cpu v f : ℕ) (vm : VmId) → LegalInAnyTrees l s → slot_of vm ≡ Some v → StepsAmply l s cpu (ReclaimPool vm) (Done (FrameOf (record { 0 = f }))) t → IsSpare l s v f
+ReclaimsSpare =
+    (l : Layout) (s t : Contents) (cpu v f : ℕ) (vm : VmId)
+    → LegalInAnyTrees l s
+    → slot_of vm ≡ Some v
+    → StepsAmply l s cpu (ReclaimPool vm) (Done (FrameOf (record { 0 = f }))) t
+    → IsSpare l s v f
 
 -- and finish_guest is of a guest that has a root, whose row says the pool
 abbrev pub FinishesRoot : Type 0
-FinishesRoot = (l : Layout) (s : Contents) (cpu v : ℕ) → LegalInAnyTrees l s → ticket_slot dying_vm (s.cpu cpu) ≡ Some v → (root : ℕ) × ((s.guest v).tree.table (l.depth + 1, 0) ≡ Some root) × (s.shared.row root ≡ pool_row v)
+FinishesRoot =
+    (l : Layout) (s : Contents) (cpu v : ℕ)
+    → LegalInAnyTrees l s
+    → ticket_slot dying_vm (s.cpu cpu) ≡ Some v
+    → (root : ℕ)
+    × ((s.guest v).tree.table (l.depth + 1, 0) ≡ Some root)
+    × (s.shared.row root ≡ pool_row v)
 
 -- two legal states of the same rows hold as many frames for each guest, whatever their tables are
 abbrev pub HoldsAsMany : Type 0
-HoldsAsMany = (l : Layout) (s t : Contents) → IsUsable l → LegalInAnyTrees l s → LegalInAnyTrees l t → s.shared.row ≡ t.shared.row → (v : ℕ) → guest_table_count l (s.guest v).tree + length (s.guest v).free ≡ guest_table_count l (t.guest v).tree + length (t.guest v).free
+HoldsAsMany =
+    (l : Layout) (s t : Contents)
+    → IsUsable l
+    → LegalInAnyTrees l s
+    → LegalInAnyTrees l t
+    → s.shared.row ≡ t.shared.row
+    → (v : ℕ)
+    → guest_table_count l (s.guest v).tree + length (s.guest v).free
+    ≡ guest_table_count l (t.guest v).tree + length (t.guest v).free
 
 -- a step that leads from one state leads from another to the same, but for tables and free frames
 abbrev pub LeadsToo : Layout → Contents → ℕ → Step → Reply → Contents → Type 0
 LeadsToo l t cpu step reply u = (w : Contents) × StepsAmply l t cpu step reply w × OwnTables u w
 
--- two legal states that differ in tables and free frames alone make the same steps, whichever the tables are
+-- two legal states that differ in tables and free frames alone make the same steps, whichever the
+-- tables are
 abbrev pub StepsOfAny : Type 0
-StepsOfAny = (l : Layout) (s t : Contents) (cpu : ℕ) (step : Step) (reply : Reply) (u : Contents) → IsUsable l → LegalInAnyTrees l s → LegalInAnyTrees l t → OwnTables s t → is_by_order step ≡ false
+StepsOfAny =
+    (l : Layout) (s t : Contents) (cpu : ℕ) (step : Step) (reply : Reply) (u : Contents)
+    → IsUsable l
+    → LegalInAnyTrees l s
+    → LegalInAnyTrees l t
+    → OwnTables s t
+    → is_by_order step ≡ false
     → StepsAmply l s cpu step reply u → LeadsToo l t cpu step reply u
 
 -- and reclaim_pool too, where the pool of each has the same frame first
 abbrev pub ReclaimsOfAny : Type 0
-ReclaimsOfAny = (l : Layout) (s t : Contents) (cpu v f : ℕ) (vm : VmId) (fs : List ℕ) (u : Contents) → LegalInAnyTrees l s → LegalInAnyTrees l t → OwnTables s t → slot_of vm ≡ Some v → (t.guest v).free ≡ f ∷ fs
-    → StepsAmply l s cpu (ReclaimPool vm) (Done (FrameOf (record { 0 = f }))) u → LeadsToo l t cpu (ReclaimPool vm) (Done (FrameOf (record { 0 = f }))) u
+ReclaimsOfAny =
+    (l : Layout) (s t : Contents) (cpu v f : ℕ) (vm : VmId) (fs : List ℕ) (u : Contents)
+    → LegalInAnyTrees l s
+    → LegalInAnyTrees l t
+    → OwnTables s t
+    → slot_of vm ≡ Some v
+    → (t.guest v).free ≡ f ∷ fs
+    → StepsAmply l s cpu (ReclaimPool vm) (Done (FrameOf (record { 0 = f }))) u
+    → LeadsToo l t cpu (ReclaimPool vm) (Done (FrameOf (record { 0 = f }))) u
 
--- so the judgement with own tables is one step of any one legal state that differs from the one before in tables and free frames alone
+-- so the judgement with own tables is one step of any one legal state that differs from the one
+-- before in tables and free frames alone
 abbrev pub JudgedFromAny : Type 0
-JudgedFromAny = (l : Layout) (before legal : Contents) (cpu : ℕ) (step : Step) (reply : Reply) (after : Contents) → IsUsable l → OwnTables before legal → LegalInAnyTrees l legal → is_by_order step ≡ false
+JudgedFromAny =
+    (l : Layout) (before legal : Contents) (cpu : ℕ) (step : Step) (reply : Reply)
+    (after : Contents)
+    → IsUsable l
+    → OwnTables before legal
+    → LegalInAnyTrees l legal
+    → is_by_order step ≡ false
     → JudgedWithOwnTables l before cpu step reply after ↔ LeadsToo l legal cpu step reply after
 
 -- with no more freedoms the judge is the one with own tables
 abbrev pub NoMoreIsOwn : Type 0
-NoMoreIsOwn = (l : Layout) (before : Contents) (cpu : ℕ) (step : Step) (reply : Reply) (after : Contents) → JudgedWith no_more l before cpu step reply after ↔ JudgedWithOwnTables l before cpu step reply after
+NoMoreIsOwn =
+    (l : Layout) (before : Contents) (cpu : ℕ) (step : Step) (reply : Reply) (after : Contents)
+    → JudgedWith no_more l before cpu step reply after
+    ↔ JudgedWithOwnTables l before cpu step reply after
 
 -- more freedoms let all that through, where a page that the host touched is mapped
 abbrev pub MoreLetsThrough : Type 0
-MoreLetsThrough = (w : Freedoms) (l : Layout) (before : Contents) (cpu : ℕ) (step : Step) (reply : Reply) (after : Contents) → Touches step reply after → JudgedWithOwnTables l before cpu step reply after → JudgedWith w l before cpu step reply after
+MoreLetsThrough =
+    (w : Freedoms) (l : Layout) (before : Contents) (cpu : ℕ) (step : Step) (reply : Reply)
+    (after : Contents)
+    → Touches step reply after
+    → JudgedWithOwnTables l before cpu step reply after
+    → JudgedWith w l before cpu step reply after
 
--- a step of a state without tables does the same, as far as the freedoms leave it to the model, as it does of what they leave of the state
-pub record StepsInView (w : Freedoms) (l : Layout) (s : Contents) (cpu : ℕ) (step : Step) (reply : Reply) : Type 0 where
-  pub down : (t : Contents) → StepsAmply l (without_tables s) cpu step reply t → (u : Contents) × StepsAmply l (view w l s) cpu step reply u × Alike w l t u
-  pub up : (u : Contents) → StepsAmply l (view w l s) cpu step reply u → (t : Contents) × StepsAmply l (without_tables s) cpu step reply t × Alike w l t u
+-- a step of a state without tables does the same, as far as the freedoms leave it to the model, as
+-- it does of what they leave of the state
+pub record StepsInView (w : Freedoms) (l : Layout) (s : Contents) (cpu : ℕ) (step : Step)
+    (reply : Reply) : Type 0 where
+  pub down : (t : Contents)
+      → StepsAmply l (without_tables s) cpu step reply t
+      → (u : Contents) × StepsAmply l (view w l s) cpu step reply u × Alike w l t u
+  pub up : (u : Contents)
+      → StepsAmply l (view w l s) cpu step reply u
+      → (t : Contents) × StepsAmply l (without_tables s) cpu step reply t × Alike w l t u
 
 abbrev pub ViewSteps : Type 0
-ViewSteps = (w : Freedoms) (l : Layout) (s : Contents) (cpu : ℕ) (step : Step) (reply : Reply) → asks_pool step ≡ false → reads_host step ≡ false → StepsInView w l s cpu step reply
+ViewSteps =
+    (w : Freedoms) (l : Layout) (s : Contents) (cpu : ℕ) (step : Step) (reply : Reply)
+    → asks_pool step ≡ false
+    → reads_host step ≡ false
+    → StepsInView w l s cpu step reply
 
--- where some legal state is like the one before, the judgement with freedoms is the one of what they leave
+-- where some legal state is like the one before, the judgement with freedoms is the one of what
+-- they leave
 abbrev pub JudgedInView : Type 0
-JudgedInView = (w : Freedoms) (l : Layout) (before legal : Contents) (cpu : ℕ) (step : Step) (reply : Reply) (after : Contents) → Alike w l before legal → LegalInAnyTrees l legal → asks_pool step ≡ false → reads_host step ≡ false → is_read step ≡ false
+JudgedInView =
+    (w : Freedoms) (l : Layout) (before legal : Contents) (cpu : ℕ) (step : Step) (reply : Reply)
+    (after : Contents)
+    → Alike w l before legal
+    → LegalInAnyTrees l legal
+    → asks_pool step ≡ false
+    → reads_host step ≡ false
+    → is_read step ≡ false
     → JudgedWith w l before cpu step reply after ↔ IsJudgedInView w l before cpu step reply after
 
 -- a use of a guest's pool
@@ -121,34 +218,68 @@ is_pool_of v other = false
 
 -- a root and free frames are the frames whose rows say the guest's pool, each once
 abbrev pub IsPoolByRows : Layout → Contents → ℕ → ℕ → List ℕ → Type 0
-IsPoolByRows l s v root free = (f : ℕ) → frame_count f (root ∷ free) ≡ one (is_memory l f && is_pool_of v (s.shared.row f).usage)
+IsPoolByRows l s v root free =
+    (f : ℕ)
+    → frame_count f (root ∷ free) ≡ one (is_memory l f && is_pool_of v (s.shared.row f).usage)
 
 -- a guest with its root alone as a table, and these free frames
 abbrev pub with_root : ℕ → ℕ → List ℕ → Guest → Guest
-with_root depth root free g = record g { tree = record { map = g.tree.map; table = (root_tree depth root).table }; free = free }
+with_root depth root free g =
+    record g
+    { tree = record { map = g.tree.map; table = (root_tree depth root).table }; free = free }
 
 -- a state with such a guest in a slot
 abbrev pub with_pool : Layout → ℕ → ℕ → List ℕ → Contents → Contents
-with_pool l v root free s = record s { guest = put_at s.guest v (with_root l.depth root free (s.guest v)) }
+with_pool l v root free s =
+    record s { guest = put_at s.guest v (with_root l.depth root free (s.guest v)) }
 
--- so a legal state that has the pool of a guest's rows, in any order, is one of the legal states that differ in tables and free frames alone
+-- so a legal state that has the pool of a guest's rows, in any order, is one of the legal states
+-- that differ in tables and free frames alone
 abbrev pub PoolsByRows : Type 0
-PoolsByRows = (l : Layout) (s : Contents) (v root : ℕ) (free : List ℕ) → LegalInAnyTrees l s → (s.guest v).phase ≢ empty → IsPoolByRows l s v root free → LegalInAnyTrees l (with_pool l v root free s) × OwnTables s (with_pool l v root free s)
+PoolsByRows =
+    (l : Layout) (s : Contents) (v root : ℕ) (free : List ℕ)
+    → LegalInAnyTrees l s
+    → (s.guest v).phase ≢ empty
+    → IsPoolByRows l s v root free
+    → LegalInAnyTrees l (with_pool l v root free s) × OwnTables s (with_pool l v root free s)
 
 -- and reclaim_pool, where that pool has the frame first that the reply names
 abbrev pub ReclaimsByRows : Type 0
-ReclaimsByRows = (l : Layout) (before legal : Contents) (cpu v root f : ℕ) (fs : List ℕ) (vm : VmId) (after : Contents) → OwnTables before legal → LegalInAnyTrees l legal → slot_of vm ≡ Some v → (legal.guest v).phase ≢ empty → IsPoolByRows l legal v root (f ∷ fs)
-    → JudgedWithOwnTables l before cpu (ReclaimPool vm) (Done (FrameOf (record { 0 = f }))) after ↔ LeadsToo l (with_pool l v root (f ∷ fs) legal) cpu (ReclaimPool vm) (Done (FrameOf (record { 0 = f }))) after
+ReclaimsByRows =
+    (l : Layout) (before legal : Contents) (cpu v root f : ℕ) (fs : List ℕ) (vm : VmId)
+    (after : Contents)
+    → OwnTables before legal
+    → LegalInAnyTrees l legal
+    → slot_of vm ≡ Some v
+    → (legal.guest v).phase ≢ empty
+    → IsPoolByRows l legal v root (f ∷ fs)
+    → JudgedWithOwnTables l before cpu (ReclaimPool vm) (Done (FrameOf (record { 0 = f }))) after
+    ↔ LeadsToo l (with_pool l v root (f ∷ fs) legal) cpu (ReclaimPool vm)
+    (Done (FrameOf (record { 0 = f }))) after
 
 -- a lazy host's abort is judged so too, where besides the page that it touched is mapped
 abbrev pub AbortInView : Type 0
-AbortInView = (w : Freedoms) (l : Layout) (before legal : Contents) (cpu p : ℕ) (reply : Reply) (after : Contents) → w.lazy_host ≡ true → IsUsable l → Alike w l before legal → LegalInAnyTrees l legal
-    → JudgedWith w l before cpu (HostAbort p) reply after ↔ (IsJudgedInView w l before cpu (HostAbort p) reply after × Touches (HostAbort p) reply after)
+AbortInView =
+    (w : Freedoms) (l : Layout) (before legal : Contents) (cpu p : ℕ) (reply : Reply)
+    (after : Contents)
+    → w.lazy_host ≡ true
+    → IsUsable l
+    → Alike w l before legal
+    → LegalInAnyTrees l legal
+    → JudgedWith w l before cpu (HostAbort p) reply after
+    ↔ (IsJudgedInView w l before cpu (HostAbort p) reply after
+    × Touches (HostAbort p) reply after)
 
 -- and that of a host that isn't lazy, whatever the kind of devices' pages
 abbrev pub AbortOfAnyKind : Type 0
-AbortOfAnyKind = (w : Freedoms) (l : Layout) (before legal : Contents) (cpu p : ℕ) (reply : Reply) (after : Contents) → w.lazy_host ≡ false → Alike w l before legal → LegalInAnyTrees l legal
-    → JudgedWith w l before cpu (HostAbort p) reply after ↔ IsJudgedInView w l before cpu (HostAbort p) reply after
+AbortOfAnyKind =
+    (w : Freedoms) (l : Layout) (before legal : Contents) (cpu p : ℕ) (reply : Reply)
+    (after : Contents)
+    → w.lazy_host ≡ false
+    → Alike w l before legal
+    → LegalInAnyTrees l legal
+    → JudgedWith w l before cpu (HostAbort p) reply after
+    ↔ IsJudgedInView w l before cpu (HostAbort p) reply after
 
 -- no freedom tells what is refused as made, or what is made as refused
 abbrev pub RefusalsStay : Type 0

@@ -14,15 +14,29 @@ bare_shared x = record { host = bare_tree x.host; hyp = bare_tree x.hyp; free = 
 
 -- a guest without them
 abbrev pub bare_guest : Guest → Guest
-bare_guest g = record { phase = g.phase; generation = g.generation; kind = g.kind; tree = bare_tree g.tree; free = [] }
+bare_guest g =
+    record {
+      phase = g.phase;
+      generation = g.generation;
+      kind = g.kind;
+      tree = bare_tree g.tree;
+      free = [];
+    }
 
 -- what a call uses, without them
 abbrev pub bare_used : Used → Used
-bare_used x = record { vms = x.vms; shared = bare_shared x.shared; guest = bare_guest x.guest; cpu = x.cpu }
+bare_used x =
+    record { vms = x.vms; shared = bare_shared x.shared; guest = bare_guest x.guest; cpu = x.cpu }
 
 -- a state without them
 abbrev pub without_tables : Contents → Contents
-without_tables s = record { vms = s.vms; shared = bare_shared s.shared; guest = λ v. bare_guest (s.guest v); cpu = s.cpu }
+without_tables s =
+    record {
+      vms = s.vms;
+      shared = bare_shared s.shared;
+      guest = λ v. bare_guest (s.guest v);
+      cpu = s.cpu;
+    }
 
 -- own tables: the free frames and the tables may be any, and all else is the same
 abbrev pub OwnTables : Contents → Contents → Type 0

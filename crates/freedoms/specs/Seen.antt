@@ -10,26 +10,41 @@ use Rattle.freedoms.specs.AnyTrees.{LegalInAnyTrees}
 use Rattle.freedoms.specs.Freedoms.{Alike, SaysAs, is_read, view, IsJudgedInView, JudgedWith}
 use Rattle.freedoms.specs.OwnTables.{OwnTables, without_tables}
 
--- the reply stands for the model's, and what the freedoms leave of the state after it is that of the model's
-pub record IsAsSeen (w : Freedoms) (l : Layout) (reply : Reply) (after : Contents) (told : Reply × Contents) : Type 0 where
+-- the reply stands for the model's, and what the freedoms leave of the state after it is that of
+-- the model's
+pub record IsAsSeen (w : Freedoms) (l : Layout) (reply : Reply) (after : Contents)
+    (told : Reply × Contents) : Type 0 where
   pub says : SaysAs w told.0 reply
   pub contents_are : Alike w l told.1 after
 
 -- want of memory, and nothing changed but what the freedoms leave to the hypervisor
-pub record IsUnchangedSeen (w : Freedoms) (l : Layout) (before : Contents) (step : Step) (reply : Reply) (after : Contents) (told : Reply × Contents) : Type 0 where
+pub record IsUnchangedSeen (w : Freedoms) (l : Layout) (before : Contents) (step : Step)
+    (reply : Reply) (after : Contents) (told : Reply × Contents) : Type 0 where
   pub wants : WantsAnyMemory step reply told.0
   pub contents_are : Alike w l before after
 
 -- one of both
-abbrev pub AgreesSeen : Freedoms → Layout → Contents → Step → Reply → Contents → Reply × Contents → Type 0
-AgreesSeen w l before step reply after told = IsAsSeen w l reply after told ⊎ IsUnchangedSeen w l before step reply after told
+abbrev pub AgreesSeen : Freedoms → Layout → Contents → Step → Reply → Contents → Reply × Contents
+    → Type 0
+AgreesSeen w l before step reply after told =
+    IsAsSeen w l reply after told ⊎ IsUnchangedSeen w l before step reply after told
 
 -- the judgement of what the freedoms leave, by what the model says of that
 abbrev pub SeenByTold : Type 0
-SeenByTold = (w : Freedoms) (l : Layout) (before : Contents) (cpu : ℕ) (step : Step) (reply : Reply) (after : Contents)
-    → IsJudgedInView w l before cpu step reply after ↔ AgreesSeen w l before step reply after (foretell_amply l (view w l before) cpu step)
+SeenByTold =
+    (w : Freedoms) (l : Layout) (before : Contents) (cpu : ℕ) (step : Step) (reply : Reply)
+    (after : Contents)
+    → IsJudgedInView w l before cpu step reply after
+    ↔ AgreesSeen w l before step reply after (foretell_amply l (view w l before) cpu step)
 
--- where some legal state has all but tables and free frames of the one before, a read is judged by what the model says of that state without them
+-- where some legal state has all but tables and free frames of the one before, a read is judged by
+-- what the model says of that state without them
 abbrev pub ReadsSeen : Type 0
-ReadsSeen = (w : Freedoms) (l : Layout) (before legal : Contents) (cpu : ℕ) (step : Step) (reply : Reply) (after : Contents) → OwnTables before legal → LegalInAnyTrees l legal → is_read step ≡ true
-    → JudgedWith w l before cpu step reply after ↔ AgreesSeen w l before step reply after (foretell_amply l (without_tables before) cpu step)
+ReadsSeen =
+    (w : Freedoms) (l : Layout) (before legal : Contents) (cpu : ℕ) (step : Step) (reply : Reply)
+    (after : Contents)
+    → OwnTables before legal
+    → LegalInAnyTrees l legal
+    → is_read step ≡ true
+    → JudgedWith w l before cpu step reply after
+    ↔ AgreesSeen w l before step reply after (foretell_amply l (without_tables before) cpu step)

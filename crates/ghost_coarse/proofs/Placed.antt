@@ -38,11 +38,15 @@ low_block depth b h i k =
     (omega (arith, h, k), omega (arith, m, n))
 
 -- a block that has a table is the tree's
-pub inside-at : (depth : ℕ) (ts : List Table) (b : Block) (f : ℕ) → AreInside depth ts → table_of ts b ≡ Some f → IsInTree depth b
+pub inside-at : (depth : ℕ) (ts : List Table) (b : Block) (f : ℕ)
+    → AreInside depth ts
+    → table_of ts b ≡ Some f
+    → IsInTree depth b
 inside-at depth [] b f h e = absurd (cc)
 inside-at depth (t ∷ ts) b f h e = by_test (block_eq t.block b)
     (λ x. subst (IsInTree depth) (block_eq-same t.block b x) (All-head (λ t. IsInTree depth t.block) t ts h))
-    (λ x. let k : table_of ts b ≡ Some f = rw x at e in inside-at depth ts b f (All-tail (λ t. IsInTree depth t.block) t ts h) k)
+    (λ x. let k : table_of ts b ≡ Some f = rw x at e in
+    inside-at depth ts b f (All-tail (λ t. IsInTree depth t.block) t ts h) k)
 
 -- all of a list were taken
 pub all-taken : {X : Type 0} (P : X → Type 0) (xs : List X) (i : ℕ) → length xs ≤ i → All P (take i xs) → All P xs

@@ -40,7 +40,8 @@ fn indexes_of(alloc: Global, tables: &[Table], depth: u64) -> Result<Vec<u64>, A
 /// Indexes of the blocks of a depth that have a table, in order.
 fn indexes_at(alloc: Global, tables: &[Table], depth: u64) -> Result<Vec<u64>, AllocError>
     ensures rise { IfOk result (λ v. IsNonDecreasing v.items) }
-    ensures are { IfOk result (λ v. (i : ℕ) → Contains v.items i ↔ (is_some (table_of tables.now (depth, i)) ≡ true)) }
+    ensures are { IfOk result
+        (λ v. (i : ℕ) → Contains v.items i ↔ (is_some (table_of tables.now (depth, i)) ≡ true)) }
 {
     let mut indexes = indexes_of(alloc, tables, depth)?;
     indexes.sort_unstable();
@@ -93,7 +94,11 @@ fn are_words(run: Run, low: u64, high: u64, depth: u64) -> bool
     requires first_of_last { run.pages.first.0 ≤ high * block_pages depth }
     requires end { high * block_pages depth < run_end run }
     requires end_of_first { low * block_pages depth < run_end run }
-    ensures { result ≡ true → (i : ℕ) → low ≤ i → i ≤ high → fits_word depth (entry_on run (i * block_pages depth)) ≡ true }
+    ensures { result ≡ true
+        → (i : ℕ)
+        → low ≤ i
+        → i ≤ high
+        → fits_word depth (entry_on run (i * block_pages depth)) ≡ true }
 {
     if !is_said(run, low, depth) {
         return false;
@@ -108,7 +113,8 @@ fn first_unserved(runs: &[Run], indexes: &[u64], depth: u64, from: u64, to: u64)
     requires rise { IsNonDecreasing indexes.now }
     requires depth { depth ≤ 3 }
     requires low { to * block_pages depth ≤ 2 ^ 63 }
-    ensures { MatchOption result (AreServedFrom (map_of runs.now) indexes.now depth from to) (IsUnserved (map_of runs.now) indexes.now depth to) }
+    ensures { MatchOption result (AreServedFrom (map_of runs.now) indexes.now depth from to)
+        (IsUnserved (map_of runs.now) indexes.now depth to) }
 {
     for index in from..to {
         if !is_served(runs, indexes, depth, index) {
@@ -136,7 +142,8 @@ fn first_between(
     requires covers { CoversBetween (map_of runs.now) run depth low high }
     requires order { low ≤ high }
     requires small_index { high < 2 ^ 63 }
-    ensures { MatchOption result (AreServedBetween (map_of runs.now) indexes.now depth low high) (IsUnserved (map_of runs.now) indexes.now depth high) }
+    ensures { MatchOption result (AreServedBetween (map_of runs.now) indexes.now depth low high)
+        (IsUnserved (map_of runs.now) indexes.now depth high) }
 {
     if high <= low + 1 {
         return None;
@@ -173,7 +180,8 @@ fn lacking_on(runs: &[Run], indexes: &[u64], run: Run, depth: u64, count: u64) -
     requires some { 0 < run.pages.count }
     requires depth { depth ≤ 3 }
     requires low { count * block_pages depth ≤ 2 ^ 63 }
-    ensures { MatchOption result (AreServedOn (map_of runs.now) indexes.now depth count run) (IsUnserved (map_of runs.now) indexes.now depth count) }
+    ensures { MatchOption result (AreServedOn (map_of runs.now) indexes.now depth count run)
+        (IsUnserved (map_of runs.now) indexes.now depth count) }
 {
     let size = span(depth);
     let low = run.pages.first.0 / size;
@@ -197,7 +205,8 @@ fn lacking_of(runs: &[Run], indexes: &[u64], depth: u64, count: u64) -> Option<u
     requires rise { IsNonDecreasing indexes.now }
     requires depth { depth ≤ 3 }
     requires low { count * block_pages depth ≤ 2 ^ 63 }
-    ensures { MatchOption result (AreAllServed (map_of runs.now) indexes.now depth count) (IsUnserved (map_of runs.now) indexes.now depth count) }
+    ensures { MatchOption result (AreAllServed (map_of runs.now) indexes.now depth count)
+        (IsUnserved (map_of runs.now) indexes.now depth count) }
 {
     for i in 0..runs.len() {
         if let Some(index) = lacking_on(runs, indexes, runs[i], depth, count) {
@@ -212,7 +221,9 @@ fn lacking_at(alloc: Global, tree: &Tree, depth: u64, count: u64) -> Result<Opti
     requires kept { IsKeptTree tree.now }
     requires depth { depth ≤ 3 }
     requires low { count * block_pages depth ≤ 2 ^ 63 }
-    ensures { IfOk result (λ o. MatchOption o (HasWantedAt (tree_in_lists tree.now) depth count) (IsWantingAt (tree_in_lists tree.now) depth count)) }
+    ensures { IfOk result
+        (λ o. MatchOption o (HasWantedAt (tree_in_lists tree.now) depth count)
+        (IsWantingAt (tree_in_lists tree.now) depth count)) }
 {
     let indexes = indexes_at(alloc, tree.tables.as_slice(), depth)?;
     Ok(lacking_of(tree.runs.as_slice(), indexes.as_slice(), depth, count))
@@ -226,7 +237,9 @@ pub(crate) fn first_lacking(
 ) -> Result<Option<Block>, AllocError>
     requires kept { IsKeptTree tree.now }
     requires depth { depth ≤ 3 }
-    ensures { IfOk result (λ o. MatchOption o (HasAllWanted depth (tree_in_lists tree.now)) (IsLacking depth (tree_in_lists tree.now))) }
+    ensures { IfOk result
+        (λ o. MatchOption o (HasAllWanted depth (tree_in_lists tree.now))
+        (IsLacking depth (tree_in_lists tree.now))) }
 {
     for d in 1..depth + 1 {
         if let Some(index) = lacking_at(alloc, tree, d, span(depth + 1 - d))? {

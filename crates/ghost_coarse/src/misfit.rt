@@ -25,7 +25,9 @@ pub fn first_misfit(alloc: Global, tree: &Tree, depth: u64) -> Result<Option<Mis
     requires depth { depth ≤ 3 }
     requires kept { IsKeptTree tree.now }
     requires inside { AreInside depth tree.now.tables.items }
-    ensures { IfOk result (λ o. MatchOption o (IsCoarsest depth (tree_in_lists tree.now)) (IsMisfit depth (tree_in_lists tree.now))) }
+    ensures { IfOk result
+        (λ o. MatchOption o (IsCoarsest depth (tree_in_lists tree.now))
+        (IsMisfit depth (tree_in_lists tree.now))) }
 {
     if let Some(block) = first_needless(tree.runs.as_slice(), tree.tables.as_slice(), depth) {
         return Ok(Some(Misfit::Needless(block)));

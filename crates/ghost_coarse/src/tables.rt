@@ -65,7 +65,8 @@ pub(crate) fn first_needless(runs: &[Run], tables: &[Table], depth: u64) -> Opti
     requires coarsest { IsCoarsest runs.now }
     requires depth { depth ≤ 3 }
     requires inside { AreInside depth tables.now }
-    ensures { MatchOption result (AreNeeded depth (map_of runs.now) tables.now) (IsNeedless depth (tree_with runs.now tables.now)) }
+    ensures { MatchOption result (AreNeeded depth (map_of runs.now) tables.now)
+        (IsNeedless depth (tree_with runs.now tables.now)) }
 {
     for i in 0..tables.len() {
         let block = tables[i].block;

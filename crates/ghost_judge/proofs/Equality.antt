@@ -20,5 +20,6 @@ cpus_tell a b =
     let hand = options_tell range_type.the_row ranges.ghosts ranges.dict ranges_tell in
     let ticket = options_tell ticket_type.the_row tickets.ghosts tickets.dict tickets_tell in
     let rest = more _ hand _ (one _ ticket) in
-    Decides-like (cpus.ghosts.eq a b) (λ p i. record { loaded = p.0 i; hand = (p.1 i).0; ticket = (p.1 i).1.0 }) (λ e. ((λ i. (e i).loaded), (λ i. ((e i).hand, ((e i).ticket, tt)))))
+    Decides-like (cpus.ghosts.eq a b) (λ p i. record { loaded = p.0 i; hand = (p.1 i).0; ticket = (p.1 i).1.0 })
+    (λ e. ((λ i. (e i).loaded), (λ i. ((e i).hand, ((e i).ticket, tt)))))
     (both_tell _ _ loaded rest a.loaded b.loaded (a.hand, (a.ticket, tt)) (b.hand, (b.ticket, tt)))

@@ -23,10 +23,18 @@ use Rattle.ghost_judge.specs.inner.Same.{unloaded, HasSameFrame}
 
 -- two functions, place by place
 
-pub below_next : {X : Type 0} (f g : ℕ → X) (i : ℕ) → ((u : ℕ) → u < i → f u ≡ g u) → f i ≡ g i → (u : ℕ) → u < i + 1 → f u ≡ g u
-below_next f g i below here u l = by_lt u i (λ k. below u k) (λ k. let e : i ≡ u = omega arith in subst (λ w. f w ≡ g w) e here)
+pub below_next : {X : Type 0} (f g : ℕ → X) (i : ℕ)
+    → ((u : ℕ) → u < i → f u ≡ g u)
+    → f i ≡ g i
+    → (u : ℕ)
+    → u < i + 1
+    → f u ≡ g u
+below_next f g i below here u l =
+    by_lt u i (λ k. below u k) (λ k. let e : i ≡ u = omega arith in subst (λ w. f w ≡ g w) e here)
 
-pub past_end : {S X : Type 0} (view : S → X) (blank : X) (xs : List S) (u : ℕ) → length xs ≤ u → get_or (map view xs) u blank ≡ blank
+pub past_end : {S X : Type 0} (view : S → X) (blank : X) (xs : List S) (u : ℕ)
+    → length xs ≤ u
+    → get_or (map view xs) u blank ≡ blank
 past_end view blank [] u h = refl
 past_end view blank (x ∷ xs) zero h = absurd (omega arith)
 past_end view blank (x ∷ xs) (suc u) h = past_end view blank xs u (omega arith)
@@ -36,10 +44,18 @@ end_of_list blank [] u h = refl
 end_of_list blank (x ∷ xs) zero h = absurd (omega arith)
 end_of_list blank (x ∷ xs) (suc u) h = end_of_list blank xs u (omega arith)
 
-pub everywhere : {X : Type 0} (f g : ℕ → X) (blank : X) (n : ℕ) → ((u : ℕ) → n ≤ u → f u ≡ blank) → ((u : ℕ) → n ≤ u → g u ≡ blank) → ((u : ℕ) → u < n → f u ≡ g u) → (u : ℕ) → f u ≡ g u
+pub everywhere : {X : Type 0} (f g : ℕ → X) (blank : X) (n : ℕ)
+    → ((u : ℕ) → n ≤ u → f u ≡ blank)
+    → ((u : ℕ) → n ≤ u → g u ≡ blank)
+    → ((u : ℕ) → u < n → f u ≡ g u)
+    → (u : ℕ)
+    → f u ≡ g u
 everywhere f g blank n h k below u = by_lt u n (λ l. below u l) (λ l. h u l ∙ sym (k u l))
 
-pub apart_here : {X : Type 0} (f g : ℕ → X) (i : ℕ) → ((u : ℕ) → u < i → f u ≡ g u) → (f i ≡ g i → ⊥) → IsFirstApart f g i
+pub apart_here : {X : Type 0} (f g : ℕ → X) (i : ℕ)
+    → ((u : ℕ) → u < i → f u ≡ g u)
+    → (f i ≡ g i → ⊥)
+    → IsFirstApart f g i
 apart_here f g i below differ = record { differ = differ; before = below }
 
 -- tables
@@ -48,7 +64,10 @@ no-some : (f : ℕ) → None ≡ Some f → ⊥
 no-some f e = cc
 
 -- a block with a frame is that of a table of the list
-at_block : (a b ts : List Table) (x : Block) (f : ℕ) → All (HasSameFrame a b) ts → table_of ts x ≡ Some f → table_of a x ≡ table_of b x
+at_block : (a b ts : List Table) (x : Block) (f : ℕ)
+    → All (HasSameFrame a b) ts
+    → table_of ts x ≡ Some f
+    → table_of a x ≡ table_of b x
 at_block a b [] x f h e = absurd (no-some f e)
 at_block a b (t ∷ ts) x f h e = by_test (block_eq t.block x)
     (λ k. subst (λ y. table_of a y ≡ table_of b y) (block_eq-same t.block x k) (h 0 t (omega arith)))
@@ -68,14 +87,30 @@ all_alike a b ts e = λ n d l. ap (λ f. f (get_or ts n d).block) e
 pub not_both : (b : Bool) → b ≡ true → b ≡ false → ⊥
 not_both b e f = let g : true ≡ false = sym e ∙ f in cc
 
-pub place_same : {S X Y : Type 0} (view : S → X) (blank : X) (rest : X → Y) (xs ys : List S) (i : ℕ) (x y : S) → i < length xs → i < length ys → rest (view (get_or xs i x)) ≡ rest (view (get_or ys i y)) → rest (get_or (map view xs) i blank) ≡ rest (get_or (map view ys) i blank)
-place_same view blank rest xs ys i x y l k e = ap rest (get_or-map view xs i x blank l) ∙ e ∙ sym (ap rest (get_or-map view ys i y blank k))
+pub place_same : {S X Y : Type 0} (view : S → X) (blank : X) (rest : X → Y) (xs ys : List S) (i : ℕ) (x y : S)
+    → i < length xs
+    → i < length ys
+    → rest (view (get_or xs i x)) ≡ rest (view (get_or ys i y))
+    → rest (get_or (map view xs) i blank) ≡ rest (get_or (map view ys) i blank)
+place_same view blank rest xs ys i x y l k e =
+    ap rest (get_or-map view xs i x blank l) ∙ e ∙ sym (ap rest (get_or-map view ys i y blank k))
 
-pub place_view : {S X : Type 0} (view : S → X) (blank : X) (xs ys : List S) (i : ℕ) (x y : S) → i < length xs → i < length ys → get_or (map view xs) i blank ≡ get_or (map view ys) i blank → view (get_or xs i x) ≡ view (get_or ys i y)
+pub place_view : {S X : Type 0} (view : S → X) (blank : X) (xs ys : List S) (i : ℕ) (x y : S)
+    → i < length xs
+    → i < length ys
+    → get_or (map view xs) i blank ≡ get_or (map view ys) i blank
+    → view (get_or xs i x) ≡ view (get_or ys i y)
 place_view view blank xs ys i x y l k e = sym (get_or-map view xs i x blank l) ∙ e ∙ get_or-map view ys i y blank k
 
-pub place_told : {S X Y : Type 0} (view : S → X) (blank : X) (rest : X → Y) (xs ys : List S) (i : ℕ) (x y : S) → i < length xs → i < length ys → x ≡ get_or xs i x → y ≡ get_or ys i y → rest (view x) ≡ rest (view y) → rest (get_or (map view xs) i blank) ≡ rest (get_or (map view ys) i blank)
-place_told view blank rest xs ys i x y l k e f g = place_same view blank rest xs ys i x y l k (sym (ap (λ z. rest (view z)) e) ∙ g ∙ ap (λ z. rest (view z)) f)
+pub place_told : {S X Y : Type 0} (view : S → X) (blank : X) (rest : X → Y) (xs ys : List S) (i : ℕ) (x y : S)
+    → i < length xs
+    → i < length ys
+    → x ≡ get_or xs i x
+    → y ≡ get_or ys i y
+    → rest (view x) ≡ rest (view y)
+    → rest (get_or (map view xs) i blank) ≡ rest (get_or (map view ys) i blank)
+place_told view blank rest xs ys i x y l k e f g =
+    place_same view blank rest xs ys i x y l k (sym (ap (λ z. rest (view z)) e) ∙ g ∙ ap (λ z. rest (view z)) f)
 
 pub slot_same : (s t : Slot) → unloaded s ≡ unloaded t → s.loaded ≡ t.loaded → s ≡ t
 slot_same s t e h = ap (λ x. record s { loaded = x }) h ∙ ap (λ (x : Slot). record x { loaded = t.loaded }) e
@@ -83,7 +118,9 @@ slot_same s t e h = ap (λ x. record s { loaded = x }) h ∙ ap (λ (x : Slot). 
 -- contents from their parts
 
 guest_same : (g h : Guest) → g.tree.map ≡ h.tree.map → without_map g ≡ without_map h → g ≡ h
-guest_same g h m w = ap (λ t. record g { tree = record g.tree { map = t } }) m ∙ ap (λ (x : Guest). record x { tree = record x.tree { map = h.tree.map } }) w
+guest_same g h m w =
+    ap (λ t. record g { tree = record g.tree { map = t } }) m
+    ∙ ap (λ (x : Guest). record x { tree = record x.tree { map = h.tree.map } }) w
 
 shared_same : (s t : Shared) → s.host.map ≡ t.host.map → s.hyp.map ≡ t.hyp.map → s.row ≡ t.row → IsSamePool s t → s ≡ t
 shared_same s t m n r p =
@@ -98,8 +135,10 @@ pub contents_same : (a b : Contents) → SlotsAgree a b → ((c : ℕ) → a.cpu
 contents_same a b h k =
     let maps = h.guests.pool.audit.maps in
     ap (λ x. record { vms = record { slot = x }; shared = a.shared; guest = a.guest; cpu = a.cpu }) (fun_ext h.slots)
-    ∙ ap (λ x. record { vms = b.vms; shared = x; guest = a.guest; cpu = a.cpu }) (shared_same a.shared b.shared maps.host maps.hyp h.guests.pool.audit.rows h.guests.pool.pool)
-    ∙ ap (λ x. record { vms = b.vms; shared = b.shared; guest = x; cpu = a.cpu }) (fun_ext (λ v. guest_same (a.guest v) (b.guest v) (maps.guests v) (h.guests.guests v)))
+    ∙ ap (λ x. record { vms = b.vms; shared = x; guest = a.guest; cpu = a.cpu })
+    (shared_same a.shared b.shared maps.host maps.hyp h.guests.pool.audit.rows h.guests.pool.pool)
+    ∙ ap (λ x. record { vms = b.vms; shared = b.shared; guest = x; cpu = a.cpu })
+    (fun_ext (λ v. guest_same (a.guest v) (b.guest v) (maps.guests v) (h.guests.guests v)))
     ∙ ap (λ x. record { vms = b.vms; shared = b.shared; guest = b.guest; cpu = x }) (fun_ext k)
 
 -- a first difference is one
@@ -113,7 +152,13 @@ module _ (a b : Contents) where
   pub refutes : (d : Disagreement) → IsFirstOfState a b d → a ≡ b → ⊥
   refutes (MapDiffers tree page x y) h e = refutes_map tree page x y h e
   refutes (OwnerDiffers frame x y) h e = h.1.first.differ (ap (λ (c : Contents). c.shared.row frame) e)
-  refutes Free h e = h.1 (record { free = ap (λ (c : Contents). c.shared.free) e; host = ap (λ (c : Contents). c.shared.host.table) e; hyp = ap (λ (c : Contents). c.shared.hyp.table) e })
+  refutes Free h e =
+      h.1
+      (record {
+        free = ap (λ (c : Contents). c.shared.free) e;
+        host = ap (λ (c : Contents). c.shared.host.table) e;
+        hyp = ap (λ (c : Contents). c.shared.hyp.table) e;
+      })
   refutes (GuestFree v) h e = h.1.differ (ap (λ (c : Contents). without_map (c.guest v)) e)
   refutes (Vm v) h e = h.1.differ (ap (λ (c : Contents). c.vms.slot v) e)
   refutes (Cpu k) h e = h.1.differ (ap (λ (c : Contents). c.cpu k) e)

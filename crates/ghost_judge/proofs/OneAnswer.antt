@@ -19,25 +19,38 @@ use Rattle.ghost_judge.specs.OneAnswer.{AuditElse, AuditOnce, JudgedElse, Judged
 -- functions of numbers
 
 apart_once : {X : Type 0} (f g : ℕ → X) (n m : ℕ) → IsFirstApart f g n → IsFirstApart f g m → n ≡ m
-apart_once f g n m a b = by_lt n m (λ l. absurd (a.differ (b.before n l))) (λ l. by_lt m n (λ k. absurd (b.differ (a.before m k))) (λ k. omega arith))
+apart_once f g n m a b =
+    by_lt n m (λ l. absurd (a.differ (b.before n l)))
+    (λ l. by_lt m n (λ k. absurd (b.differ (a.before m k))) (λ k. omega arith))
 
 apart_else : {X : Type 0} (f g : ℕ → X) (n : ℕ) → f ≡ g → IsFirstApart f g n → ⊥
 apart_else f g n e a = a.differ (ap (λ h. h n) e)
 
 -- maps
 
-map_once : (tree : TreeOf) (f g : ℕ → Entry) (n m : ℕ) (x y z w : Entry) → IsTold f g n x y → IsTold f g m z w → MapDiffers tree n x y ≡ MapDiffers tree m z w
+map_once : (tree : TreeOf) (f g : ℕ → Entry) (n m : ℕ) (x y z w : Entry)
+    → IsTold f g n x y
+    → IsTold f g m z w
+    → MapDiffers tree n x y ≡ MapDiffers tree m z w
 map_once tree f g n m x y z w a b =
     let e = apart_once f g n m a.first b.first in
-    ap (λ k. MapDiffers tree k x y) e ∙ ap (λ u. MapDiffers tree m u y) (a.kept_is ∙ ap f e ∙ sym b.kept_is) ∙ ap (λ u. MapDiffers tree m z u) (a.walked_is ∙ ap g e ∙ sym b.walked_is)
+    ap (λ k. MapDiffers tree k x y) e ∙ ap (λ u. MapDiffers tree m u y) (a.kept_is ∙ ap f e ∙ sym b.kept_is)
+    ∙ ap (λ u. MapDiffers tree m z u) (a.walked_is ∙ ap g e ∙ sym b.walked_is)
 
-row_once : (f g : ℕ → Row) (n m : ℕ) (x y z w : Row) → IsTold f g n x y → IsTold f g m z w → OwnerDiffers n x y ≡ OwnerDiffers m z w
+row_once : (f g : ℕ → Row) (n m : ℕ) (x y z w : Row)
+    → IsTold f g n x y
+    → IsTold f g m z w
+    → OwnerDiffers n x y ≡ OwnerDiffers m z w
 row_once f g n m x y z w a b =
     let e = apart_once f g n m a.first b.first in
-    ap (λ k. OwnerDiffers k x y) e ∙ ap (λ u. OwnerDiffers m u y) (a.kept_is ∙ ap f e ∙ sym b.kept_is) ∙ ap (λ u. OwnerDiffers m z u) (a.walked_is ∙ ap g e ∙ sym b.walked_is)
+    ap (λ k. OwnerDiffers k x y) e ∙ ap (λ u. OwnerDiffers m u y) (a.kept_is ∙ ap f e ∙ sym b.kept_is)
+    ∙ ap (λ u. OwnerDiffers m z u) (a.walked_is ∙ ap g e ∙ sym b.walked_is)
 
 module _ (kept walked : Contents) where
-  maps_once : (s t : TreeOf) (n m : ℕ) (x y z w : Entry) → IsFirstMap kept walked s n x y → IsFirstMap kept walked t m z w → MapDiffers s n x y ≡ MapDiffers t m z w
+  maps_once : (s t : TreeOf) (n m : ℕ) (x y z w : Entry)
+      → IsFirstMap kept walked s n x y
+      → IsFirstMap kept walked t m z w
+      → MapDiffers s n x y ≡ MapDiffers t m z w
   maps_once Host Host n m x y z w h k = map_once Host _ _ n m x y z w h k
   maps_once Host Hyp n m x y z w h k = absurd (apart_else _ _ n k.0 h.first)
   maps_once Host (Guest u) n m x y z w h k = absurd (apart_else _ _ n k.0.host h.first)
@@ -46,9 +59,13 @@ module _ (kept walked : Contents) where
   maps_once Hyp (Guest u) n m x y z w h k = absurd (apart_else _ _ n k.0.hyp h.1.first)
   maps_once (Guest v) Host n m x y z w h k = absurd (apart_else _ _ m h.0.host k.first)
   maps_once (Guest v) Hyp n m x y z w h k = absurd (apart_else _ _ m h.0.hyp k.1.first)
-  maps_once (Guest v) (Guest u) n m x y z w h k = by_lt v u (λ l. absurd (apart_else _ _ n (k.0.guests v l) h.1.first)) (λ l. by_lt u v
+  maps_once (Guest v) (Guest u) n m x y z w h k =
+      by_lt v u (λ l. absurd (apart_else _ _ n (k.0.guests v l) h.1.first)) (λ l. by_lt u v
       (λ r. absurd (apart_else _ _ m (h.0.guests u r) k.1.first))
-      (λ r. let e : v ≡ u = omega arith in subst (λ i. IsFirstMap kept walked (Guest i) m z w → MapDiffers (Guest v) n x y ≡ MapDiffers (Guest i) m z w) e (λ j. map_once (Guest v) _ _ n m x y z w h.1 j.1) k))
+      (λ r. let e : v ≡ u = omega arith in
+      subst
+      (λ i. IsFirstMap kept walked (Guest i) m z w → MapDiffers (Guest v) n x y ≡ MapDiffers (Guest i) m z w) e
+      (λ j. map_once (Guest v) _ _ n m x y z w h.1 j.1) k))
 
   maps_else : (s : TreeOf) (n : ℕ) (x y : Entry) → MapsAgree kept walked → IsFirstMap kept walked s n x y → ⊥
   maps_else Host n x y a h = apart_else _ _ n a.host h.first
@@ -58,14 +75,17 @@ module _ (kept walked : Contents) where
 -- audits
 
 pub audit_once : AuditOnce
-audit_once kept walked (MapDiffers at an ax ay) (MapDiffers bt bn bx by) h k = maps_once kept walked at bt an bn ax ay bx by h k
-audit_once kept walked (MapDiffers at an ax ay) (OwnerDiffers bn bx by) h k = absurd (maps_else kept walked at an ax ay k.0 h)
+audit_once kept walked (MapDiffers at an ax ay) (MapDiffers bt bn bx by) h k =
+    maps_once kept walked at bt an bn ax ay bx by h k
+audit_once kept walked (MapDiffers at an ax ay) (OwnerDiffers bn bx by) h k =
+    absurd (maps_else kept walked at an ax ay k.0 h)
 audit_once kept walked (MapDiffers at an ax ay) (ReplyDiffers br bq) h k = absurd k
 audit_once kept walked (MapDiffers at an ax ay) Free h k = absurd k
 audit_once kept walked (MapDiffers at an ax ay) (GuestFree bv) h k = absurd k
 audit_once kept walked (MapDiffers at an ax ay) (Vm bv) h k = absurd k
 audit_once kept walked (MapDiffers at an ax ay) (Cpu bv) h k = absurd k
-audit_once kept walked (OwnerDiffers an ax ay) (MapDiffers bt bn bx by) h k = absurd (maps_else kept walked bt bn bx by h.0 k)
+audit_once kept walked (OwnerDiffers an ax ay) (MapDiffers bt bn bx by) h k =
+    absurd (maps_else kept walked bt bn bx by h.0 k)
 audit_once kept walked (OwnerDiffers an ax ay) (OwnerDiffers bn bx by) h k = row_once _ _ an bn ax ay bx by h.1 k.1
 audit_once kept walked (OwnerDiffers an ax ay) (ReplyDiffers br bq) h k = absurd k
 audit_once kept walked (OwnerDiffers an ax ay) Free h k = absurd k
@@ -90,20 +110,30 @@ audit_else kept walked (Cpu av) a h = absurd h
 -- states
 
 pub state_once : StateOnce
-state_once post spec (MapDiffers at an ax ay) (MapDiffers bt bn bx by) h k = audit_once post spec (MapDiffers at an ax ay) (MapDiffers bt bn bx by) h k
-state_once post spec (MapDiffers at an ax ay) (OwnerDiffers bn bx by) h k = audit_once post spec (MapDiffers at an ax ay) (OwnerDiffers bn bx by) h k
+state_once post spec (MapDiffers at an ax ay) (MapDiffers bt bn bx by) h k =
+    audit_once post spec (MapDiffers at an ax ay) (MapDiffers bt bn bx by) h k
+state_once post spec (MapDiffers at an ax ay) (OwnerDiffers bn bx by) h k =
+    audit_once post spec (MapDiffers at an ax ay) (OwnerDiffers bn bx by) h k
 state_once post spec (MapDiffers at an ax ay) (ReplyDiffers br bq) h k = absurd k
 state_once post spec (MapDiffers at an ax ay) Free h k = absurd (audit_else post spec (MapDiffers at an ax ay) k.0 h)
-state_once post spec (MapDiffers at an ax ay) (GuestFree bv) h k = absurd (audit_else post spec (MapDiffers at an ax ay) k.0.audit h)
-state_once post spec (MapDiffers at an ax ay) (Vm bv) h k = absurd (audit_else post spec (MapDiffers at an ax ay) k.0.pool.audit h)
-state_once post spec (MapDiffers at an ax ay) (Cpu bv) h k = absurd (audit_else post spec (MapDiffers at an ax ay) k.0.guests.pool.audit h)
-state_once post spec (OwnerDiffers an ax ay) (MapDiffers bt bn bx by) h k = audit_once post spec (OwnerDiffers an ax ay) (MapDiffers bt bn bx by) h k
-state_once post spec (OwnerDiffers an ax ay) (OwnerDiffers bn bx by) h k = audit_once post spec (OwnerDiffers an ax ay) (OwnerDiffers bn bx by) h k
+state_once post spec (MapDiffers at an ax ay) (GuestFree bv) h k =
+    absurd (audit_else post spec (MapDiffers at an ax ay) k.0.audit h)
+state_once post spec (MapDiffers at an ax ay) (Vm bv) h k =
+    absurd (audit_else post spec (MapDiffers at an ax ay) k.0.pool.audit h)
+state_once post spec (MapDiffers at an ax ay) (Cpu bv) h k =
+    absurd (audit_else post spec (MapDiffers at an ax ay) k.0.guests.pool.audit h)
+state_once post spec (OwnerDiffers an ax ay) (MapDiffers bt bn bx by) h k =
+    audit_once post spec (OwnerDiffers an ax ay) (MapDiffers bt bn bx by) h k
+state_once post spec (OwnerDiffers an ax ay) (OwnerDiffers bn bx by) h k =
+    audit_once post spec (OwnerDiffers an ax ay) (OwnerDiffers bn bx by) h k
 state_once post spec (OwnerDiffers an ax ay) (ReplyDiffers br bq) h k = absurd k
 state_once post spec (OwnerDiffers an ax ay) Free h k = absurd (audit_else post spec (OwnerDiffers an ax ay) k.0 h)
-state_once post spec (OwnerDiffers an ax ay) (GuestFree bv) h k = absurd (audit_else post spec (OwnerDiffers an ax ay) k.0.audit h)
-state_once post spec (OwnerDiffers an ax ay) (Vm bv) h k = absurd (audit_else post spec (OwnerDiffers an ax ay) k.0.pool.audit h)
-state_once post spec (OwnerDiffers an ax ay) (Cpu bv) h k = absurd (audit_else post spec (OwnerDiffers an ax ay) k.0.guests.pool.audit h)
+state_once post spec (OwnerDiffers an ax ay) (GuestFree bv) h k =
+    absurd (audit_else post spec (OwnerDiffers an ax ay) k.0.audit h)
+state_once post spec (OwnerDiffers an ax ay) (Vm bv) h k =
+    absurd (audit_else post spec (OwnerDiffers an ax ay) k.0.pool.audit h)
+state_once post spec (OwnerDiffers an ax ay) (Cpu bv) h k =
+    absurd (audit_else post spec (OwnerDiffers an ax ay) k.0.guests.pool.audit h)
 state_once post spec (ReplyDiffers ar aq) e h k = absurd h
 state_once post spec Free (MapDiffers bt bn bx by) h k = absurd (audit_else post spec (MapDiffers bt bn bx by) h.0 k)
 state_once post spec Free (OwnerDiffers bn bx by) h k = absurd (audit_else post spec (OwnerDiffers bn bx by) h.0 k)
@@ -112,22 +142,28 @@ state_once post spec Free Free h k = refl
 state_once post spec Free (GuestFree bv) h k = absurd (h.1 k.0.pool)
 state_once post spec Free (Vm bv) h k = absurd (h.1 k.0.pool.pool)
 state_once post spec Free (Cpu bv) h k = absurd (h.1 k.0.guests.pool.pool)
-state_once post spec (GuestFree av) (MapDiffers bt bn bx by) h k = absurd (audit_else post spec (MapDiffers bt bn bx by) h.0.audit k)
-state_once post spec (GuestFree av) (OwnerDiffers bn bx by) h k = absurd (audit_else post spec (OwnerDiffers bn bx by) h.0.audit k)
+state_once post spec (GuestFree av) (MapDiffers bt bn bx by) h k =
+    absurd (audit_else post spec (MapDiffers bt bn bx by) h.0.audit k)
+state_once post spec (GuestFree av) (OwnerDiffers bn bx by) h k =
+    absurd (audit_else post spec (OwnerDiffers bn bx by) h.0.audit k)
 state_once post spec (GuestFree av) (ReplyDiffers br bq) h k = absurd k
 state_once post spec (GuestFree av) Free h k = absurd (k.1 h.0.pool)
 state_once post spec (GuestFree av) (GuestFree bv) h k = ap GuestFree (apart_once _ _ av bv h.1 k.1)
 state_once post spec (GuestFree av) (Vm bv) h k = absurd (h.1.differ (k.0.guests av))
 state_once post spec (GuestFree av) (Cpu bv) h k = absurd (h.1.differ (k.0.guests.guests av))
-state_once post spec (Vm av) (MapDiffers bt bn bx by) h k = absurd (audit_else post spec (MapDiffers bt bn bx by) h.0.pool.audit k)
-state_once post spec (Vm av) (OwnerDiffers bn bx by) h k = absurd (audit_else post spec (OwnerDiffers bn bx by) h.0.pool.audit k)
+state_once post spec (Vm av) (MapDiffers bt bn bx by) h k =
+    absurd (audit_else post spec (MapDiffers bt bn bx by) h.0.pool.audit k)
+state_once post spec (Vm av) (OwnerDiffers bn bx by) h k =
+    absurd (audit_else post spec (OwnerDiffers bn bx by) h.0.pool.audit k)
 state_once post spec (Vm av) (ReplyDiffers br bq) h k = absurd k
 state_once post spec (Vm av) Free h k = absurd (k.1 h.0.pool.pool)
 state_once post spec (Vm av) (GuestFree bv) h k = absurd (k.1.differ (h.0.guests bv))
 state_once post spec (Vm av) (Vm bv) h k = ap Vm (apart_once _ _ av bv h.1 k.1)
 state_once post spec (Vm av) (Cpu bv) h k = absurd (h.1.differ (k.0.slots av))
-state_once post spec (Cpu av) (MapDiffers bt bn bx by) h k = absurd (audit_else post spec (MapDiffers bt bn bx by) h.0.guests.pool.audit k)
-state_once post spec (Cpu av) (OwnerDiffers bn bx by) h k = absurd (audit_else post spec (OwnerDiffers bn bx by) h.0.guests.pool.audit k)
+state_once post spec (Cpu av) (MapDiffers bt bn bx by) h k =
+    absurd (audit_else post spec (MapDiffers bt bn bx by) h.0.guests.pool.audit k)
+state_once post spec (Cpu av) (OwnerDiffers bn bx by) h k =
+    absurd (audit_else post spec (OwnerDiffers bn bx by) h.0.guests.pool.audit k)
 state_once post spec (Cpu av) (ReplyDiffers br bq) h k = absurd k
 state_once post spec (Cpu av) Free h k = absurd (k.1 h.0.guests.pool.pool)
 state_once post spec (Cpu av) (GuestFree bv) h k = absurd (k.1.differ (h.0.guests.guests bv))
@@ -135,7 +171,9 @@ state_once post spec (Cpu av) (Vm bv) h k = absurd (k.1.differ (h.0.slots bv))
 state_once post spec (Cpu av) (Cpu bv) h k = ap Cpu (apart_once _ _ av bv h.1 k.1)
 
 same_else : (s : Contents) (d : Disagreement) → IsFirstOfState s s d → ⊥
-same_else s (MapDiffers at an ax ay) h = audit_else s s (MapDiffers at an ax ay) (record { maps = record { host = refl; hyp = refl; guests = λ v. refl }; rows = refl }) h
+same_else s (MapDiffers at an ax ay) h =
+    audit_else s s (MapDiffers at an ax ay)
+    (record { maps = record { host = refl; hyp = refl; guests = λ v. refl }; rows = refl }) h
 same_else s (OwnerDiffers an ax ay) h = h.1.first.differ refl
 same_else s (ReplyDiffers ar aq) h = h
 same_else s Free h = h.1 (record { free = refl; host = refl; hyp = refl })
@@ -170,7 +208,9 @@ module _ (pre : Contents) (step : Step) (reply : Reply) (post : Contents) (told 
   view (Cpu av) h = inr h
 
   viewed_once : (d e : Disagreement) → OfReply d ⊎ OfState d → OfReply e ⊎ OfState e → d ≡ e
-  viewed_once d e (inl a) (inl b) = a.2 ∙ ap (λ r. ReplyDiffers r a.1) (a.3.said_is ∙ sym b.3.said_is) ∙ ap (ReplyDiffers b.0) (a.3.spec_is ∙ sym b.3.spec_is) ∙ sym b.2
+  viewed_once d e (inl a) (inl b) =
+      a.2 ∙ ap (λ r. ReplyDiffers r a.1) (a.3.said_is ∙ sym b.3.said_is)
+      ∙ ap (ReplyDiffers b.0) (a.3.spec_is ∙ sym b.3.spec_is) ∙ sym b.2
   viewed_once d e (inl a) (inr (inl b)) = absurd (a.3.is_no_want b.wants)
   viewed_once d e (inl a) (inr (inr b)) = absurd (a.3.differ b.reply_is)
   viewed_once d e (inr (inl a)) (inl b) = absurd (b.3.is_no_want a.wants)
@@ -189,7 +229,9 @@ module _ (pre : Contents) (step : Step) (reply : Reply) (post : Contents) (told 
   viewed_else d (inr a) (inr (inr b)) = not_both step reply told.0 a.wants b.reply_is
 
 pub judged_once : JudgedOnce
-judged_once pre step reply post told d e h k = viewed_once pre step reply post told d e (view pre step reply post told d h) (view pre step reply post told e k)
+judged_once pre step reply post told d e h k =
+    viewed_once pre step reply post told d e (view pre step reply post told d h) (view pre step reply post told e k)
 
 pub judged_else : JudgedElse
-judged_else pre step reply post told d a h = viewed_else pre step reply post told d a (view pre step reply post told d h)
+judged_else pre step reply post told d a h =
+    viewed_else pre step reply post told d a (view pre step reply post told d h)

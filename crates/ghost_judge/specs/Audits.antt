@@ -1,5 +1,5 @@
--- What an audit compares, and the first difference in its order: the host's map, the hypervisor's, those of the guests by
--- slot, and the owner rows.
+-- What an audit compares, and the first difference in its order: the host's map, the hypervisor's,
+-- those of the guests by slot, and the owner rows.
 use Rattle.std.specs.Prelude.{◌≡◌, ℕ, ◌<◌, All, length}
 use Rattle.page_state.specs.declared.entry.Entry.{Entry}
 use Rattle.page_state.specs.Rows.{HasPageBelow}
@@ -39,16 +39,21 @@ pub record IsTold {X : Type 0} (kept walked : ℕ → X) (n : ℕ) (x y : X) : T
 -- the first difference is one of this tree's map
 abbrev pub IsFirstMap : Contents → Contents → TreeOf → ℕ → Entry → Entry → Type 0
 IsFirstMap kept walked Host page x y = IsTold kept.shared.host.map walked.shared.host.map page x y
-IsFirstMap kept walked Hyp page x y = (kept.shared.host.map ≡ walked.shared.host.map) × IsTold kept.shared.hyp.map walked.shared.hyp.map page x y
-IsFirstMap kept walked (Guest v) page x y = MapsAgreeBelow kept walked v × IsTold (kept.guest v).tree.map (walked.guest v).tree.map page x y
+IsFirstMap kept walked Hyp page x y =
+    (kept.shared.host.map ≡ walked.shared.host.map)
+    × IsTold kept.shared.hyp.map walked.shared.hyp.map page x y
+IsFirstMap kept walked (Guest v) page x y =
+    MapsAgreeBelow kept walked v × IsTold (kept.guest v).tree.map (walked.guest v).tree.map page x y
 
 -- the first difference: all that comes before it is equal
 abbrev pub IsFirstDifference : Contents → Contents → Disagreement → Type 0
 IsFirstDifference kept walked (MapDiffers tree page x y) = IsFirstMap kept walked tree page x y
-IsFirstDifference kept walked (OwnerDiffers frame x y) = MapsAgree kept walked × IsTold kept.shared.row walked.shared.row frame x y
+IsFirstDifference kept walked (OwnerDiffers frame x y) =
+    MapsAgree kept walked × IsTold kept.shared.row walked.shared.row frame x y
 IsFirstDifference kept walked other = ⊥
 
--- the maps are coarsest lists of runs of small numbers, of 64 guests, and the rows' numbers are small
+-- the maps are coarsest lists of runs of small numbers, of 64 guests, and the rows' numbers are
+-- small
 pub record AreMapsKept (g : GhostLists) : Type 0 where
   pub host : IsKeptTree g.shared.host
   pub hyp : IsKeptTree g.shared.hyp

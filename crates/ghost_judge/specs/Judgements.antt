@@ -1,6 +1,7 @@
--- When a reply and the state after a call are those that the model says, and the first difference where they aren't. The
--- order: the reply, the host's map, the hypervisor's, those of the guests by slot, the owner rows, the shared pool and the
--- tables of its trees, all of each guest but its map, the slots, and the CPUs.
+-- When a reply and the state after a call are those that the model says, and the first difference
+-- where they aren't. The order: the reply, the host's map, the hypervisor's, those of the guests by
+-- slot, the owner rows, the shared pool and the tables of its trees, all of each guest but its map,
+-- the slots, and the CPUs.
 use Rattle.std.specs.Prelude.{◌≡◌, ◌⊎◌, ℕ, Bool, true, false}
 use Rattle.call_table.specs.declared.reply.Call.{Call}
 use Rattle.call_table.specs.declared.reply.Refusal.TheVariants.{NoMemory}
@@ -20,7 +21,8 @@ use Rattle.ghost_judge.specs.declared.disagreement.Disagreement.TheVariants.{Map
 use Rattle.ghost_judge.specs.Apart.{IsFirstApart}
 use Rattle.ghost_judge.specs.Audits.{AuditAgrees, IsFirstDifference}
 
--- a guest with nothing mapped, and else the same: its phase, generation, kind, tables and free frames
+-- a guest with nothing mapped, and else the same: its phase, generation, kind, tables and free
+-- frames
 abbrev pub without_map : Guest → Guest
 without_map g = record g { tree = record g.tree { map = no_tree.map } }
 
@@ -47,11 +49,16 @@ pub record SlotsAgree (post spec : Contents) : Type 0 where
 
 -- the first difference of two states: all that comes before it is equal
 abbrev pub IsFirstOfState : Contents → Contents → Disagreement → Type 0
-IsFirstOfState post spec (MapDiffers tree page x y) = IsFirstDifference post spec (MapDiffers tree page x y)
-IsFirstOfState post spec (OwnerDiffers frame x y) = IsFirstDifference post spec (OwnerDiffers frame x y)
+IsFirstOfState post spec (MapDiffers tree page x y) =
+    IsFirstDifference post spec (MapDiffers tree page x y)
+IsFirstOfState post spec (OwnerDiffers frame x y) =
+    IsFirstDifference post spec (OwnerDiffers frame x y)
 IsFirstOfState post spec Free = AuditAgrees post spec × (IsSamePool post.shared spec.shared → ⊥)
-IsFirstOfState post spec (GuestFree slot) = PoolAgrees post spec × IsFirstApart (λ v. without_map (post.guest v)) (λ v. without_map (spec.guest v)) slot
-IsFirstOfState post spec (Vm slot) = GuestsAgree post spec × IsFirstApart post.vms.slot spec.vms.slot slot
+IsFirstOfState post spec (GuestFree slot) =
+    PoolAgrees post spec
+    × IsFirstApart (λ v. without_map (post.guest v)) (λ v. without_map (spec.guest v)) slot
+IsFirstOfState post spec (Vm slot) =
+    GuestsAgree post spec × IsFirstApart post.vms.slot spec.vms.slot slot
 IsFirstOfState post spec (Cpu cpu) = SlotsAgree post spec × IsFirstApart post.cpu spec.cpu cpu
 IsFirstOfState post spec (ReplyDiffers said told) = ⊥
 
@@ -72,39 +79,52 @@ pub record IsAsTold (reply : Reply) (post : Contents) (told : Reply × Reference
   pub contents_are : post ≡ told.1.contents
 
 -- a step that wants memory changed nothing
-pub record IsUnchanged (pre : Contents) (step : Step) (reply : Reply) (post : Contents) (told : Reply × Reference) : Type 0 where
+pub record IsUnchanged (pre : Contents) (step : Step) (reply : Reply) (post : Contents)
+    (told : Reply × Reference) : Type 0 where
   pub wants : WantsMemory step reply told.0
   pub contents_are : post ≡ pre
 
 -- one of both
 abbrev pub JudgeAgrees : Contents → Step → Reply → Contents → Reply × Reference → Type 0
-JudgeAgrees pre step reply post told = IsAsTold reply post told ⊎ IsUnchanged pre step reply post told
+JudgeAgrees pre step reply post told =
+    IsAsTold reply post told ⊎ IsUnchanged pre step reply post told
 
--- the judgement agrees with each step of the model: with its reply, the contents before it and those after it
+-- the judgement agrees with each step of the model: with its reply, the contents before it and
+-- those after it
 abbrev pub StepsAgree : Type 0
-StepsAgree = (l : Layout) (s t : Reference) (c : Call) → Steps l s c t → JudgeAgrees s.contents c.step c.reply t.contents (foretell l s c.cpu c.step)
+StepsAgree =
+    (l : Layout) (s t : Reference) (c : Call)
+    → Steps l s c t
+    → JudgeAgrees s.contents c.step c.reply t.contents (foretell l s c.cpu c.step)
 
 -- a step that wants memory changed something: the first difference from the state before
-pub record IsFirstChange (pre : Contents) (step : Step) (reply : Reply) (post : Contents) (told : Reply × Reference) (d : Disagreement) : Type 0 where
+pub record IsFirstChange (pre : Contents) (step : Step) (reply : Reply) (post : Contents)
+    (told : Reply × Reference) (d : Disagreement) : Type 0 where
   pub wants : WantsMemory step reply told.0
   pub first : IsFirstOfState post pre d
 
--- the reply is the model's, and the contents aren't: the first difference from the state that the model says
-pub record IsFirstUntold (reply : Reply) (post : Contents) (told : Reply × Reference) (d : Disagreement) : Type 0 where
+-- the reply is the model's, and the contents aren't: the first difference from the state that the
+-- model says
+pub record IsFirstUntold (reply : Reply) (post : Contents) (told : Reply × Reference)
+    (d : Disagreement) : Type 0 where
   pub reply_is : reply ≡ told.0
   pub first : IsFirstOfState post told.1.contents d
 
 -- the reply is neither the model's nor one of a step that wants memory
-pub record IsOtherReply (step : Step) (reply : Reply) (told : Reply × Reference) (said spec : Reply) : Type 0 where
+pub record IsOtherReply (step : Step) (reply : Reply) (told : Reply × Reference)
+    (said spec : Reply) : Type 0 where
   pub said_is : said ≡ reply
   pub spec_is : spec ≡ told.0
   pub differ : reply ≡ told.0 → ⊥
   pub is_no_want : WantsMemory step reply told.0 → ⊥
 
 -- the first difference
-abbrev pub IsFirstJudged : Contents → Step → Reply → Contents → Reply × Reference → Disagreement → Type 0
-IsFirstJudged pre step reply post told (ReplyDiffers said spec) = IsOtherReply step reply told said spec
-IsFirstJudged pre step reply post told d = IsFirstChange pre step reply post told d ⊎ IsFirstUntold reply post told d
+abbrev pub IsFirstJudged : Contents → Step → Reply → Contents → Reply × Reference → Disagreement
+    → Type 0
+IsFirstJudged pre step reply post told (ReplyDiffers said spec) =
+    IsOtherReply step reply told said spec
+IsFirstJudged pre step reply post told d =
+    IsFirstChange pre step reply post told d ⊎ IsFirstUntold reply post told d
 
 -- what the model says of a step of a state
 abbrev pub told_of : Ghost → ℕ → Step → Reply × Reference

@@ -1,5 +1,6 @@
--- An audit and a judgement have one answer: one disagreement at most is the first, and none is where all agrees. So nothing of
--- what 'first' says can be left out: two disagreements would be first then, or one where there is none.
+-- An audit and a judgement have one answer: one disagreement at most is the first, and none is
+-- where all agrees. So nothing of what 'first' says can be left out: two disagreements would be
+-- first then, or one where there is none.
 use Rattle.std.specs.Prelude.{◌≡◌}
 use Rattle.call_table.specs.declared.reply.Reply.{Reply}
 use Rattle.call_table.specs.declared.step.Step.{Step}
@@ -10,23 +11,39 @@ use Rattle.ghost_judge.specs.Judgements.{IsFirstJudged, IsFirstOfState, JudgeAgr
 
 -- of an audit
 abbrev pub AuditOnce : Type 0
-AuditOnce = (kept walked : Contents) (d e : Disagreement) → IsFirstDifference kept walked d → IsFirstDifference kept walked e → d ≡ e
+AuditOnce =
+    (kept walked : Contents) (d e : Disagreement)
+    → IsFirstDifference kept walked d
+    → IsFirstDifference kept walked e
+    → d ≡ e
 
 abbrev pub AuditElse : Type 0
-AuditElse = (kept walked : Contents) (d : Disagreement) → AuditAgrees kept walked → IsFirstDifference kept walked d → ⊥
+AuditElse =
+    (kept walked : Contents) (d : Disagreement)
+    → AuditAgrees kept walked
+    → IsFirstDifference kept walked d
+    → ⊥
 
 -- of two states
 abbrev pub StateOnce : Type 0
-StateOnce = (post spec : Contents) (d e : Disagreement) → IsFirstOfState post spec d → IsFirstOfState post spec e → d ≡ e
+StateOnce =
+    (post spec : Contents) (d e : Disagreement)
+    → IsFirstOfState post spec d
+    → IsFirstOfState post spec e
+    → d ≡ e
 
 abbrev pub StateElse : Type 0
 StateElse = (post spec : Contents) (d : Disagreement) → post ≡ spec → IsFirstOfState post spec d → ⊥
 
 -- of a judgement
 abbrev pub JudgedOnce : Type 0
-JudgedOnce = (pre : Contents) (step : Step) (reply : Reply) (post : Contents) (told : Reply × Reference) (d e : Disagreement)
+JudgedOnce =
+    (pre : Contents) (step : Step) (reply : Reply) (post : Contents) (told : Reply × Reference)
+    (d e : Disagreement)
     → IsFirstJudged pre step reply post told d → IsFirstJudged pre step reply post told e → d ≡ e
 
 abbrev pub JudgedElse : Type 0
-JudgedElse = (pre : Contents) (step : Step) (reply : Reply) (post : Contents) (told : Reply × Reference) (d : Disagreement)
+JudgedElse =
+    (pre : Contents) (step : Step) (reply : Reply) (post : Contents) (told : Reply × Reference)
+    (d : Disagreement)
     → JudgeAgrees pre step reply post told → IsFirstJudged pre step reply post told d → ⊥

@@ -10,18 +10,26 @@ use Rattle.ghost_judge.specs.declared.disagreement.Disagreement.TheVariants.{Map
 use Rattle.ghost_judge.specs.declared.disagreement.TreeOf.TheVariants.{Guest}
 
 abbrev pub MapWritten : Type 0
-MapWritten = text_of_disagreement (MapDiffers (Guest 3) 262403 (Annotated (record { 0 = 1 })) Unmapped) ≡ codes "disagree guest 3 0x40103 kept annot 1 walked unmapped"
+MapWritten =
+    text_of_disagreement (MapDiffers (Guest 3) 262403 (Annotated (record { 0 = 1 })) Unmapped)
+    ≡ codes "disagree guest 3 0x40103 kept annot 1 walked unmapped"
 
 abbrev pub OwnerWritten : Type 0
 OwnerWritten =
-    text_of_disagreement (OwnerDiffers 262656 (record { owner = record { 0 = 0 }; lent = None; usage = Plain }) (record { owner = record { 0 = 1 }; lent = None; usage = Plain }))
+    text_of_disagreement
+    (OwnerDiffers 262656 (record { owner = record { 0 = 0 }; lent = None; usage = Plain })
+    (record { owner = record { 0 = 1 }; lent = None; usage = Plain }))
     ≡ codes "disagree owner 0x40200 kept owner 0 lent - use plain walked owner 1 lent - use plain"
 
 abbrev pub ReplyWritten : Type 0
-ReplyWritten = text_of_disagreement (ReplyDiffers (Done Nothing) (Refused Perm)) ≡ codes "disagree reply said ok spec perm"
+ReplyWritten =
+    text_of_disagreement (ReplyDiffers (Done Nothing) (Refused Perm))
+    ≡ codes "disagree reply said ok spec perm"
 
 abbrev pub FreeWritten : Type 0
 FreeWritten = text_of_disagreement (GuestFree 2) ≡ codes "disagree guest_free 2"
 
 abbrev pub JudgementWritten : Type 0
-JudgementWritten = text_of_judgement (MapDiffers (Guest 3) 262403 (Annotated (record { 0 = 1 })) Unmapped) ≡ codes "disagree guest 3 0x40103 post annot 1 spec unmapped"
+JudgementWritten =
+    text_of_judgement (MapDiffers (Guest 3) 262403 (Annotated (record { 0 = 1 })) Unmapped)
+    ≡ codes "disagree guest 3 0x40103 post annot 1 spec unmapped"

@@ -21,10 +21,13 @@ text_of_told_row row = text_of_row row
 -- a disagreement, with the words before its first side and before its second
 abbrev pub text_of_sides : List ℕ → List ℕ → Disagreement → List ℕ
 text_of_sides first second (MapDiffers tree page one other) =
-    codes "disagree " ++ text_of_tree tree ++ codes " " ++ text_of_page page ++ first ++ text_of_entry one ++ second ++ text_of_entry other
+    codes "disagree " ++ text_of_tree tree ++ codes " " ++ text_of_page page ++ first
+    ++ text_of_entry one ++ second ++ text_of_entry other
 text_of_sides first second (OwnerDiffers frame one other) =
-    codes "disagree owner " ++ text_of_page frame ++ first ++ text_of_told_row one ++ second ++ text_of_told_row other
-text_of_sides _ _ (ReplyDiffers said spec) = codes "disagree reply said " ++ text_of_reply said ++ codes " spec " ++ text_of_reply spec
+    codes "disagree owner " ++ text_of_page frame ++ first ++ text_of_told_row one ++ second
+    ++ text_of_told_row other
+text_of_sides _ _ (ReplyDiffers said spec) =
+    codes "disagree reply said " ++ text_of_reply said ++ codes " spec " ++ text_of_reply spec
 text_of_sides _ _ Free = codes "disagree free"
 text_of_sides _ _ (GuestFree slot) = codes "disagree guest_free " ++ decimal slot
 text_of_sides _ _ (Vm slot) = codes "disagree vm " ++ decimal slot

@@ -78,7 +78,8 @@ pub(crate) fn in_guests(kept: &[GhostGuest], walked: &[GhostGuest]) -> Option<Di
     requires walked { All (λ g. IsKeptTree g.tree) walked.now }
     requires kept_count { length kept.now ≡ 64 }
     requires walked_count { length walked.now ≡ 64 }
-    ensures { IsFound ((v : ℕ) → guest_map kept.now v ≡ guest_map walked.now v) (IsGuestDifference kept.now walked.now) result }
+    ensures { IsFound ((v : ℕ) → guest_map kept.now v ≡ guest_map walked.now v)
+        (IsGuestDifference kept.now walked.now) result }
 {
     for v in 0..64usize {
         let guest = in_trees(TreeOf::Guest(v as u64), &kept[v].tree, &walked[v].tree);
@@ -93,7 +94,8 @@ pub(crate) fn in_guests(kept: &[GhostGuest], walked: &[GhostGuest]) -> Option<Di
 pub(crate) fn in_rows(kept: &RunList<Row>, walked: &RunList<Row>) -> Option<Disagreement>
     requires kept { AreInReach HasPageBelow kept.now.runs }
     requires walked { AreInReach HasPageBelow walked.now.runs }
-    ensures { IsFound (row_in kept.now.runs ≡ row_in walked.now.runs) (IsRowDifference (row_in kept.now.runs) (row_in walked.now.runs)) result }
+    ensures { IsFound (row_in kept.now.runs ≡ row_in walked.now.runs)
+        (IsRowDifference (row_in kept.now.runs) (row_in walked.now.runs)) result }
 {
     match first_row_apart(kept.runs(), walked.runs()) {
         Some(frame) => Some(Disagreement::Owner {

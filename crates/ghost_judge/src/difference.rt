@@ -60,7 +60,8 @@ pub(crate) fn parted<V: Advance>(a: Run<V>, b: Run<V>) -> Option<u64>
 pub(crate) fn first_apart<V: Advance, T: Told<V>>(a: &[T], b: &[T]) -> Option<u64>
     requires a { IsKept V.advance V.CanAdvance (map T.told a.now) }
     requires b { IsKept V.advance V.CanAdvance (map T.told b.now) }
-    ensures { IsFoundApart (run_map V.advance (map T.told a.now)) (run_map V.advance (map T.told b.now)) result }
+    ensures { IsFoundApart (run_map V.advance (map T.told a.now))
+        (run_map V.advance (map T.told b.now)) result }
 {
     let both = a.len().min(b.len());
     for i in 0..both {

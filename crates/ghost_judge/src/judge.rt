@@ -25,7 +25,8 @@ use std::alloc::{AllocError, Global};
 fn guest_apart(post: &[GhostGuest], spec: &[GhostGuest]) -> Option<u64>
     requires post { length post.now ≡ 64 }
     requires spec { length spec.now ≡ 64 }
-    ensures { IsFoundApart (λ v. without_map (guests_in post.now v)) (λ v. without_map (guests_in spec.now v)) result }
+    ensures { IsFoundApart (λ v. without_map (guests_in post.now v))
+        (λ v. without_map (guests_in spec.now v)) result }
 {
     for v in 0..64usize {
         if !is_same_guest(&post[v], &spec[v]) {
@@ -62,7 +63,8 @@ fn cpu_at(cpus: &[GhostCpu], cpu: usize) -> GhostCpu
 
 /// The first CPU that differs.
 fn cpu_apart(post: &[GhostCpu], spec: &[GhostCpu]) -> Option<u64>
-    ensures { IsFoundApart (λ c. get_or (map cpu_in post.now) c no_cpu) (λ c. get_or (map cpu_in spec.now) c no_cpu) result }
+    ensures { IsFoundApart (λ c. get_or (map cpu_in post.now) c no_cpu)
+        (λ c. get_or (map cpu_in spec.now) c no_cpu) result }
 {
     for c in 0..post.len().max(spec.len()) {
         if cpu_at(post, c) != cpu_at(spec, c) {
@@ -75,7 +77,8 @@ fn cpu_apart(post: &[GhostCpu], spec: &[GhostCpu]) -> Option<u64>
 /// The first CPU that differs, where all else is equal.
 fn in_cpus(post: &GhostLists, spec: &GhostLists) -> Option<Disagreement>
     requires { SlotsAgree (contents_in post.now) (contents_in spec.now) }
-    ensures { IsFound (contents_in post.now ≡ contents_in spec.now) (IsFirstOfState (contents_in post.now) (contents_in spec.now)) result }
+    ensures { IsFound (contents_in post.now ≡ contents_in spec.now)
+        (IsFirstOfState (contents_in post.now) (contents_in spec.now)) result }
 {
     match cpu_apart(post.cpus.as_slice(), spec.cpus.as_slice()) {
         Some(cpu) => Some(Disagreement::Cpu(cpu)),
@@ -88,7 +91,8 @@ fn in_slots(post: &GhostLists, spec: &GhostLists) -> Option<Disagreement>
     requires post { IsKept post.now }
     requires spec { IsKept spec.now }
     requires guests { GuestsAgree (contents_in post.now) (contents_in spec.now) }
-    ensures { IsFound (contents_in post.now ≡ contents_in spec.now) (IsFirstOfState (contents_in post.now) (contents_in spec.now)) result }
+    ensures { IsFound (contents_in post.now ≡ contents_in spec.now)
+        (IsFirstOfState (contents_in post.now) (contents_in spec.now)) result }
 {
     match slot_apart(post.vms.as_slice(), spec.vms.as_slice()) {
         Some(slot) => Some(Disagreement::Vm(slot)),
@@ -101,7 +105,8 @@ fn in_parts(post: &GhostLists, spec: &GhostLists) -> Option<Disagreement>
     requires post { IsKept post.now }
     requires spec { IsKept spec.now }
     requires pool { PoolAgrees (contents_in post.now) (contents_in spec.now) }
-    ensures { IsFound (contents_in post.now ≡ contents_in spec.now) (IsFirstOfState (contents_in post.now) (contents_in spec.now)) result }
+    ensures { IsFound (contents_in post.now ≡ contents_in spec.now)
+        (IsFirstOfState (contents_in post.now) (contents_in spec.now)) result }
 {
     match guest_apart(post.guests.as_slice(), spec.guests.as_slice()) {
         Some(slot) => Some(Disagreement::GuestFree(slot)),
@@ -114,7 +119,8 @@ fn in_rest(post: &GhostLists, spec: &GhostLists) -> Option<Disagreement>
     requires post { IsKept post.now }
     requires spec { IsKept spec.now }
     requires audit { AuditAgrees (contents_in post.now) (contents_in spec.now) }
-    ensures { IsFound (contents_in post.now ≡ contents_in spec.now) (IsFirstOfState (contents_in post.now) (contents_in spec.now)) result }
+    ensures { IsFound (contents_in post.now ≡ contents_in spec.now)
+        (IsFirstOfState (contents_in post.now) (contents_in spec.now)) result }
 {
     if !is_same_pool(&post.shared, &spec.shared) {
         return Some(Disagreement::Free);
@@ -126,7 +132,8 @@ fn in_rest(post: &GhostLists, spec: &GhostLists) -> Option<Disagreement>
 fn in_maps(post: &GhostLists, spec: &GhostLists) -> Option<Disagreement>
     requires post { IsKept post.now }
     requires spec { IsKept spec.now }
-    ensures { IsFound (MapsAgree (contents_in post.now) (contents_in spec.now)) (IsFirstOfState (contents_in post.now) (contents_in spec.now)) result }
+    ensures { IsFound (MapsAgree (contents_in post.now) (contents_in spec.now))
+        (IsFirstOfState (contents_in post.now) (contents_in spec.now)) result }
 {
     let host = in_trees(TreeOf::Host, &post.shared.host, &spec.shared.host);
     if host.is_some() {
@@ -143,7 +150,8 @@ fn in_maps(post: &GhostLists, spec: &GhostLists) -> Option<Disagreement>
 fn in_states(post: &GhostLists, spec: &GhostLists) -> Option<Disagreement>
     requires post { IsKept post.now }
     requires spec { IsKept spec.now }
-    ensures { IsFound (contents_in post.now ≡ contents_in spec.now) (IsFirstOfState (contents_in post.now) (contents_in spec.now)) result }
+    ensures { IsFound (contents_in post.now ≡ contents_in spec.now)
+        (IsFirstOfState (contents_in post.now) (contents_in spec.now)) result }
 {
     let maps = in_maps(post, spec);
     if maps.is_some() {
@@ -197,8 +205,10 @@ fn wants_memory(step: Step, reply: Reply, told: Reply) -> bool
 
 /// Where the reply is want of memory, the first difference from the state before; else none.
 fn changed_since(pre: &Ghost, reply: Reply, post: &Ghost) -> Option<Disagreement>
-    ensures none { reply ≡ Reply.Refused Refusal.NoMemory → (result ≡ None) ↔ (contents_in post.now ≡ contents_in pre.now) }
-    ensures first { reply ≡ Reply.Refused Refusal.NoMemory → IfSome result (IsFirstOfState (contents_in post.now) (contents_in pre.now)) }
+    ensures none { reply ≡ Reply.Refused Refusal.NoMemory
+        → (result ≡ None) ↔ (contents_in post.now ≡ contents_in pre.now) }
+    ensures first { reply ≡ Reply.Refused Refusal.NoMemory
+        → IfSome result (IsFirstOfState (contents_in post.now) (contents_in pre.now)) }
 {
     match reply {
         Reply::Refused(Refusal::NoMemory) => differs(post, pre),
@@ -217,8 +227,14 @@ pub fn judge_last(
 ) -> Result<Option<Disagreement>, AllocError>
     requires cpu { cpu < pre.layout.config.cpus }
     requires generation { HasNextGeneration ((contents_in pre).cpu cpu).ticket step }
-    ensures none { IfOk result (λ o. (o ≡ None) ↔ JudgeAgrees (contents_in pre) step reply.now (contents_in post.now) (told_of pre cpu step)) }
-    ensures first { IfOk result (λ o. IfSome o (IsFirstJudged (contents_in pre) step reply.now (contents_in post.now) (told_of pre cpu step))) }
+    ensures none { IfOk result
+        (λ o. (o ≡ None)
+        ↔ JudgeAgrees (contents_in pre) step reply.now (contents_in post.now)
+        (told_of pre cpu step)) }
+    ensures first { IfOk result
+        (λ o. IfSome o
+        (IsFirstJudged (contents_in pre) step reply.now (contents_in post.now)
+        (told_of pre cpu step))) }
 {
     let changed = changed_since(&pre, *reply, post);
     let (told, spec) = predict_last(alloc, pre, cpu, step)?;
@@ -250,8 +266,14 @@ pub fn judge(
 ) -> Result<Option<Disagreement>, AllocError>
     requires cpu { cpu < pre.now.layout.config.cpus }
     requires generation { HasNextGeneration ((contents_in pre.now).cpu cpu).ticket step }
-    ensures none { IfOk result (λ o. (o ≡ None) ↔ JudgeAgrees (contents_in pre.now) step reply.now (contents_in post.now) (told_of pre.now cpu step)) }
-    ensures first { IfOk result (λ o. IfSome o (IsFirstJudged (contents_in pre.now) step reply.now (contents_in post.now) (told_of pre.now cpu step))) }
+    ensures none { IfOk result
+        (λ o. (o ≡ None)
+        ↔ JudgeAgrees (contents_in pre.now) step reply.now (contents_in post.now)
+        (told_of pre.now cpu step)) }
+    ensures first { IfOk result
+        (λ o. IfSome o
+        (IsFirstJudged (contents_in pre.now) step reply.now (contents_in post.now)
+        (told_of pre.now cpu step))) }
 {
     let again = pre.copied(alloc)?;
     judge_last(alloc, again, cpu, step, reply, post)

@@ -45,7 +45,8 @@ fn begin_from(runs: &[Run<Row>], from: usize) -> Option<u64>
 pub(crate) fn first_row_apart(a: &[Run<Row>], b: &[Run<Row>]) -> Option<u64>
     requires a { IsKept advance_row HasPageBelow a.now }
     requires b { IsKept advance_row HasPageBelow b.now }
-    ensures { IsFoundApart (run_map advance_row (marked a.now)) (run_map advance_row (marked b.now)) result }
+    ensures { IsFoundApart (run_map advance_row (marked a.now))
+        (run_map advance_row (marked b.now)) result }
 {
     let mut i = 0;
     let mut j = 0;

@@ -84,13 +84,27 @@ three : (a b c x y z s t : ℕ) → s ≡ a + t → t ≡ b + c → a ≡ x → 
 three a b c x y z s t p q i j k = omega (arith, p, q, i, j, k)
 
 module _ (T : Condition → Bool) (f : ℕ) (no : (u p : ℕ) (s : State) → T (guest_condition s u p) ≡ false) where
-  guest-sum : (u : ℕ) (x : GhostGuest) (a b : ℕ) → held_count (λ h. T (held_in h)) f (tables_held (2 + u) x.tree.tables.items) ≡ a → held_count (λ h. T (held_in h)) f (free_held (VmPool u) x.free.items) ≡ b → held_count (λ h. T (held_in h)) f (guest_held u x) ≡ a + (b + 0)
-  guest-sum u x a b p q = three _ _ _ a b 0 _ _ (count-append T f (tables_held (2 + u) x.tree.tables.items) (free_held (VmPool u) x.free.items ++ runs_held u x.tree.runs.items)) (count-append T f (free_held (VmPool u) x.free.items) (runs_held u x.tree.runs.items)) p q (runs-none T f no u x.tree.runs.items)
+  guest-sum : (u : ℕ) (x : GhostGuest) (a b : ℕ)
+      → held_count (λ h. T (held_in h)) f (tables_held (2 + u) x.tree.tables.items) ≡ a
+      → held_count (λ h. T (held_in h)) f (free_held (VmPool u) x.free.items) ≡ b
+      → held_count (λ h. T (held_in h)) f (guest_held u x) ≡ a + (b + 0)
+  guest-sum u x a b p q =
+      three _ _ _ a b 0 _ _
+      (count-append T f (tables_held (2 + u) x.tree.tables.items)
+      (free_held (VmPool u) x.free.items ++ runs_held u x.tree.runs.items))
+      (count-append T f (free_held (VmPool u) x.free.items) (runs_held u x.tree.runs.items)) p q
+      (runs-none T f no u x.tree.runs.items)
 
-  guest-empty : (u : ℕ) (x : GhostGuest) → T (hyps (VmPoolUse u)) ≡ false → held_count (λ h. T (held_in h)) f (guest_held u x) ≡ 0
-  guest-empty u x t = guest-sum u x 0 0 (tables-none T f (2 + u) x.tree.tables.items (ap (λ k. T (hyps k)) (use-of u) ∙ t)) (free-none T f (VmPool u) x.free.items (λ n. refl) t)
+  guest-empty : (u : ℕ) (x : GhostGuest)
+      → T (hyps (VmPoolUse u)) ≡ false
+      → held_count (λ h. T (held_in h)) f (guest_held u x) ≡ 0
+  guest-empty u x t =
+      guest-sum u x 0 0 (tables-none T f (2 + u) x.tree.tables.items (ap (λ k. T (hyps k)) (use-of u) ∙ t))
+      (free-none T f (VmPool u) x.free.items (λ n. refl) t)
 
-  pub guests-empty : (from : ℕ) (gs : List GhostGuest) → ((u : ℕ) → T (hyps (VmPoolUse u)) ≡ false) → held_count (λ h. T (held_in h)) f (guests_held from gs) ≡ 0
+  pub guests-empty : (from : ℕ) (gs : List GhostGuest)
+      → ((u : ℕ) → T (hyps (VmPoolUse u)) ≡ false)
+      → held_count (λ h. T (held_in h)) f (guests_held from gs) ≡ 0
   guests-empty from [] t = refl
   guests-empty from (x ∷ gs) t =
       let all = count-append T f (guest_held from x) (guests_held (suc from) gs) in
@@ -99,35 +113,52 @@ module _ (T : Condition → Bool) (f : ℕ) (no : (u p : ℕ) (s : State) → T 
       omega (arith, all, a, b)
 
 module _ (depth f v : ℕ) where
-  guest-own : (x : GhostGuest) → HasOwnBlocks depth x.tree.tables.items → held_count (λ h. in_vm v (held_in h)) f (guest_held v x) ≡ guest_uses depth (guest_in x) f
+  guest-own : (x : GhostGuest)
+      → HasOwnBlocks depth x.tree.tables.items
+      → held_count (λ h. in_vm v (held_in h)) f (guest_held v x) ≡ guest_uses depth (guest_in x) f
   guest-own x own =
       let t : in_vm v (hyps (VmPoolUse v)) ≡ true = eq-self v in
-      let sum = guest-sum (in_vm v) f (vm-guest v) v x _ _ (tables-count (in_vm v) f depth (2 + v) x.tree own (ap (λ k. in_vm v (hyps k)) (use-of v) ∙ t)) (free-count (in_vm v) f (VmPool v) x.free.items (λ n. refl) t) in
+      let sum =
+      guest-sum (in_vm v) f (vm-guest v) v x _ _
+      (tables-count (in_vm v) f depth (2 + v) x.tree own (ap (λ k. in_vm v (hyps k)) (use-of v) ∙ t))
+      (free-count (in_vm v) f (VmPool v) x.free.items (λ n. refl) t) in
       omega (arith, sum)
 
-  guests-picked : (from : ℕ) (gs : List GhostGuest) → HaveOwnBlocks depth gs → held_count (λ h. in_vm v (held_in h)) f (guests_held from gs) ≡ picked (λ x. guest_uses depth (guest_in x) f) v from gs
+  guests-picked : (from : ℕ) (gs : List GhostGuest)
+      → HaveOwnBlocks depth gs
+      → held_count (λ h. in_vm v (held_in h)) f (guests_held from gs)
+      ≡ picked (λ x. guest_uses depth (guest_in x) f) v from gs
   guests-picked from [] own = refl
   guests-picked from (x ∷ gs) own =
       let all = count-append (in_vm v) f (guest_held from x) (guests_held (suc from) gs) in
       let b = guests-picked (suc from) gs own.1 in
-      let a : held_count (λ h. in_vm v (held_in h)) f (guest_held from x) ≡ cond (from == v) (guest_uses depth (guest_in x) f) 0 = by_eq from v
+      let a : held_count (λ h. in_vm v (held_in h)) f (guest_held from x) ≡ cond (from == v) (guest_uses depth (guest_in x) f) 0 =
+      by_eq from v
       (λ e. let t : (from == v) ≡ true = grind (arith, nat_tests) in
-      ap (λ (n : ℕ). held_count (λ h. in_vm v (held_in h)) f (guest_held n x)) e ∙ guest-own x own.0 ∙ sym (ap (λ b. cond b (guest_uses depth (guest_in x) f) 0) t))
+      ap (λ (n : ℕ). held_count (λ h. in_vm v (held_in h)) f (guest_held n x)) e ∙ guest-own x own.0
+      ∙ sym (ap (λ b. cond b (guest_uses depth (guest_in x) f) 0) t))
       (λ e. let t : (from == v) ≡ false = eq-other from v e in
       guest-empty (in_vm v) f (vm-guest v) from x t ∙ sym (ap (λ b. cond b (guest_uses depth (guest_in x) f) 0) t)) in
       omega (arith, all, a, b)
 
   pub no-uses : guest_uses depth no_guest f ≡ 0
   unfolding table_uses
-  no-uses = let none = count_blocks-none (depth + 1) (depth + 1) (λ b. is_frame f (no_tree.table b)) (λ b. refl) in omega (arith, none)
+  no-uses = let none = count_blocks-none (depth + 1) (depth + 1) (λ b. is_frame f (no_tree.table b)) (λ b. refl) in
+      omega (arith, none)
 
-  value-guest : (gs : List GhostGuest) (k : ℕ) → value_at (λ x. guest_uses depth (guest_in x) f) gs k ≡ guest_uses depth (get_or (map guest_in gs) k no_guest) f
+  value-guest : (gs : List GhostGuest) (k : ℕ)
+      → value_at (λ x. guest_uses depth (guest_in x) f) gs k ≡ guest_uses depth (get_or (map guest_in gs) k no_guest) f
   value-guest [] k = sym no-uses
   value-guest (x ∷ gs) zero = refl
   value-guest (x ∷ gs) (suc k) = value-guest gs k
 
-  pub guests-vm : (gs : List GhostGuest) → HaveOwnBlocks depth gs → held_count (λ h. in_vm v (held_in h)) f (guests_held 0 gs) ≡ guest_uses depth (get_or (map guest_in gs) v no_guest) f
-  guests-vm gs own = let n : v ≡ 0 + v = omega arith in guests-picked 0 gs own ∙ ap (λ (u : ℕ). picked (λ x. guest_uses depth (guest_in x) f) u 0 gs) n ∙ picked-at (λ x. guest_uses depth (guest_in x) f) 0 v gs ∙ value-guest gs v
+  pub guests-vm : (gs : List GhostGuest)
+      → HaveOwnBlocks depth gs
+      → held_count (λ h. in_vm v (held_in h)) f (guests_held 0 gs)
+      ≡ guest_uses depth (get_or (map guest_in gs) v no_guest) f
+  guests-vm gs own = let n : v ≡ 0 + v = omega arith in
+      guests-picked 0 gs own ∙ ap (λ (u : ℕ). picked (λ x. guest_uses depth (guest_in x) f) u 0 gs) n
+      ∙ picked-at (λ x. guest_uses depth (guest_in x) f) 0 v gs ∙ value-guest gs v
 
 -- hands
 
@@ -140,7 +171,8 @@ and-one false false = refl
 zero-more : (x : ℕ) → 0 + x ≡ x
 zero-more x = omega arith
 
-hand-one : (c d f : ℕ) (o : Option PageRange) → held_count (λ h. in_hand c (held_in h)) f (hand_held d o) ≡ cond (d == c) (one (is_in_hand o f)) 0
+hand-one : (c d f : ℕ) (o : Option PageRange)
+    → held_count (λ h. in_hand c (held_in h)) f (hand_held d o) ≡ cond (d == c) (one (is_in_hand o f)) 0
 hand-one c d f None = none (d == c)
   where
     none : (b : Bool) → 0 ≡ cond b (one false) 0
@@ -149,11 +181,15 @@ hand-one c d f None = none (d == c)
 hand-one c d f (Some r) = zero-more _ ∙ and-one (is_in_range r f) (d == c)
 
 module _ (T : Condition → Bool) (f : ℕ) where
-  hand-none : (d : ℕ) (o : Option PageRange) → T (held_in (Hand d)) ≡ false → held_count (λ h. T (held_in h)) f (hand_held d o) ≡ 0
+  hand-none : (d : ℕ) (o : Option PageRange)
+      → T (held_in (Hand d)) ≡ false
+      → held_count (λ h. T (held_in h)) f (hand_held d o) ≡ 0
   hand-none d None t = refl
   hand-none d (Some r) t = zero-more _ ∙ ap (λ b. one (is_in_range r f && b)) t ∙ and-one (is_in_range r f) false
 
-  pub hands-none : (from : ℕ) (ks : List GhostCpu) → ((d : ℕ) → T (held_in (Hand d)) ≡ false) → held_count (λ h. T (held_in h)) f (hands_held from ks) ≡ 0
+  pub hands-none : (from : ℕ) (ks : List GhostCpu)
+      → ((d : ℕ) → T (held_in (Hand d)) ≡ false)
+      → held_count (λ h. T (held_in h)) f (hands_held from ks) ≡ 0
   hands-none from [] t = refl
   hands-none from (k ∷ ks) t =
       let all = count-append T f (hand_held from k.hand) (hands_held (suc from) ks) in
@@ -162,7 +198,9 @@ module _ (T : Condition → Bool) (f : ℕ) where
       omega (arith, all, a, b)
 
 module _ (f c : ℕ) where
-  hands-picked : (from : ℕ) (ks : List GhostCpu) → held_count (λ h. in_hand c (held_in h)) f (hands_held from ks) ≡ picked (λ k. one (is_in_hand k.hand f)) c from ks
+  hands-picked : (from : ℕ) (ks : List GhostCpu)
+      → held_count (λ h. in_hand c (held_in h)) f (hands_held from ks)
+      ≡ picked (λ k. one (is_in_hand k.hand f)) c from ks
   hands-picked from [] = refl
   hands-picked from (k ∷ ks) =
       let all = count-append (in_hand c) f (hand_held from k.hand) (hands_held (suc from) ks) in
@@ -170,13 +208,18 @@ module _ (f c : ℕ) where
       let b = hands-picked (suc from) ks in
       omega (arith, all, a, b)
 
-  value-hand : (ks : List GhostCpu) (d : ℕ) → value_at (λ k. one (is_in_hand k.hand f)) ks d ≡ one (is_in_hand (get_or (map cpu_in ks) d no_cpu).hand f)
+  value-hand : (ks : List GhostCpu) (d : ℕ)
+      → value_at (λ k. one (is_in_hand k.hand f)) ks d ≡ one (is_in_hand (get_or (map cpu_in ks) d no_cpu).hand f)
   value-hand [] d = refl
   value-hand (k ∷ ks) zero = refl
   value-hand (k ∷ ks) (suc d) = value-hand ks d
 
-  pub hands-hand : (ks : List GhostCpu) → held_count (λ h. in_hand c (held_in h)) f (hands_held 0 ks) ≡ one (is_in_hand (get_or (map cpu_in ks) c no_cpu).hand f)
-  hands-hand ks = let n : c ≡ 0 + c = omega arith in hands-picked 0 ks ∙ ap (λ (u : ℕ). picked (λ k. one (is_in_hand k.hand f)) u 0 ks) n ∙ picked-at (λ k. one (is_in_hand k.hand f)) 0 c ks ∙ value-hand ks c
+  pub hands-hand : (ks : List GhostCpu)
+      → held_count (λ h. in_hand c (held_in h)) f (hands_held 0 ks)
+      ≡ one (is_in_hand (get_or (map cpu_in ks) c no_cpu).hand f)
+  hands-hand ks = let n : c ≡ 0 + c = omega arith in
+      hands-picked 0 ks ∙ ap (λ (u : ℕ). picked (λ k. one (is_in_hand k.hand f)) u 0 ks) n
+      ∙ picked-at (λ k. one (is_in_hand k.hand f)) 0 c ks ∙ value-hand ks c
 
 -- all
 
@@ -184,27 +227,58 @@ module _ (g : GhostLists) (own : TreesHaveOwnBlocks (layout_of g.layout).depth g
   abbrev d : ℕ
   d = (layout_of g.layout).depth
 
-  all-sum : (T : Condition → Bool) (x y z : ℕ) → held_count (λ h. T (held_in h)) f (shared_held g.shared) ≡ x → held_count (λ h. T (held_in h)) f (guests_held 0 g.guests.items) ≡ y → held_count (λ h. T (held_in h)) f (hands_held 0 g.cpus.items) ≡ z → held_count (λ h. T (held_in h)) f (all_held_in g) ≡ x + (y + z)
-  all-sum T x y z p q r = three _ _ _ x y z _ _ (count-append T f (shared_held g.shared) (guests_held 0 g.guests.items ++ hands_held 0 g.cpus.items)) (count-append T f (guests_held 0 g.guests.items) (hands_held 0 g.cpus.items)) p q r
+  all-sum : (T : Condition → Bool) (x y z : ℕ)
+      → held_count (λ h. T (held_in h)) f (shared_held g.shared) ≡ x
+      → held_count (λ h. T (held_in h)) f (guests_held 0 g.guests.items) ≡ y
+      → held_count (λ h. T (held_in h)) f (hands_held 0 g.cpus.items) ≡ z
+      → held_count (λ h. T (held_in h)) f (all_held_in g) ≡ x + (y + z)
+  all-sum T x y z p q r =
+      three _ _ _ x y z _ _
+      (count-append T f (shared_held g.shared) (guests_held 0 g.guests.items ++ hands_held 0 g.cpus.items))
+      (count-append T f (guests_held 0 g.guests.items) (hands_held 0 g.cpus.items)) p q r
 
-  shared-sum : (T : Condition → Bool) (x y z : ℕ) → held_count (λ h. T (held_in h)) f (tables_held 0 g.shared.host.tables.items) ≡ x → held_count (λ h. T (held_in h)) f (tables_held 1 g.shared.hyp.tables.items) ≡ y → held_count (λ h. T (held_in h)) f (free_held SharedPool g.shared.free.items) ≡ z → held_count (λ h. T (held_in h)) f (shared_held g.shared) ≡ x + (y + z)
-  shared-sum T x y z p q r = three _ _ _ x y z _ _ (count-append T f (tables_held 0 g.shared.host.tables.items) (tables_held 1 g.shared.hyp.tables.items ++ free_held SharedPool g.shared.free.items)) (count-append T f (tables_held 1 g.shared.hyp.tables.items) (free_held SharedPool g.shared.free.items)) p q r
+  shared-sum : (T : Condition → Bool) (x y z : ℕ)
+      → held_count (λ h. T (held_in h)) f (tables_held 0 g.shared.host.tables.items) ≡ x
+      → held_count (λ h. T (held_in h)) f (tables_held 1 g.shared.hyp.tables.items) ≡ y
+      → held_count (λ h. T (held_in h)) f (free_held SharedPool g.shared.free.items) ≡ z
+      → held_count (λ h. T (held_in h)) f (shared_held g.shared) ≡ x + (y + z)
+  shared-sum T x y z p q r =
+      three _ _ _ x y z _ _
+      (count-append T f (tables_held 0 g.shared.host.tables.items)
+      (tables_held 1 g.shared.hyp.tables.items ++ free_held SharedPool g.shared.free.items))
+      (count-append T f (tables_held 1 g.shared.hyp.tables.items) (free_held SharedPool g.shared.free.items)) p
+      q r
 
-  shared-none : (T : Condition → Bool) → T (held_in SharedPool) ≡ false → held_count (λ h. T (held_in h)) f (shared_held g.shared) ≡ 0
-  shared-none T t = shared-sum T 0 0 0 (tables-none T f 0 g.shared.host.tables.items t) (tables-none T f 1 g.shared.hyp.tables.items t) (free-none T f SharedPool g.shared.free.items (λ n. refl) t)
+  shared-none : (T : Condition → Bool)
+      → T (held_in SharedPool) ≡ false
+      → held_count (λ h. T (held_in h)) f (shared_held g.shared) ≡ 0
+  shared-none T t =
+      shared-sum T 0 0 0 (tables-none T f 0 g.shared.host.tables.items t)
+      (tables-none T f 1 g.shared.hyp.tables.items t) (free-none T f SharedPool g.shared.free.items (λ n. refl) t)
 
   pub all-shared : shared_uses d (contents_in g).shared f ≡ held_count (λ h. in_shared (held_in h)) f (all_held_in g)
   all-shared =
-      let s = shared-sum in_shared _ _ _ (tables-count in_shared f d 0 g.shared.host own.host refl) (tables-count in_shared f d 1 g.shared.hyp own.hyp refl) (free-count in_shared f SharedPool g.shared.free.items (λ n. refl) refl) in
-      let a = all-sum in_shared _ 0 0 s (guests-empty in_shared f shared-guest 0 g.guests.items (λ u. refl)) (hands-none in_shared f 0 g.cpus.items (λ u. refl)) in
+      let s =
+      shared-sum in_shared _ _ _ (tables-count in_shared f d 0 g.shared.host own.host refl)
+      (tables-count in_shared f d 1 g.shared.hyp own.hyp refl)
+      (free-count in_shared f SharedPool g.shared.free.items (λ n. refl) refl) in
+      let a =
+      all-sum in_shared _ 0 0 s (guests-empty in_shared f shared-guest 0 g.guests.items (λ u. refl))
+      (hands-none in_shared f 0 g.cpus.items (λ u. refl)) in
       omega (arith, a)
 
-  pub all-vm : (v : ℕ) → guest_uses d ((contents_in g).guest v) f ≡ held_count (λ h. in_vm v (held_in h)) f (all_held_in g)
+  pub all-vm : (v : ℕ)
+      → guest_uses d ((contents_in g).guest v) f ≡ held_count (λ h. in_vm v (held_in h)) f (all_held_in g)
   all-vm v =
-      let a = all-sum (in_vm v) 0 _ 0 (shared-none (in_vm v) refl) (guests-vm d f v g.guests.items own.guests) (hands-none (in_vm v) f 0 g.cpus.items (λ u. refl)) in
+      let a =
+      all-sum (in_vm v) 0 _ 0 (shared-none (in_vm v) refl) (guests-vm d f v g.guests.items own.guests)
+      (hands-none (in_vm v) f 0 g.cpus.items (λ u. refl)) in
       omega (arith, a)
 
-  pub all-hand : (c : ℕ) → one (is_in_hand ((contents_in g).cpu c).hand f) ≡ held_count (λ h. in_hand c (held_in h)) f (all_held_in g)
+  pub all-hand : (c : ℕ)
+      → one (is_in_hand ((contents_in g).cpu c).hand f) ≡ held_count (λ h. in_hand c (held_in h)) f (all_held_in g)
   all-hand c =
-      let a = all-sum (in_hand c) 0 0 _ (shared-none (in_hand c) refl) (guests-empty (in_hand c) f (hand-guest c) 0 g.guests.items (λ u. refl)) (hands-hand f c g.cpus.items) in
+      let a =
+      all-sum (in_hand c) 0 0 _ (shared-none (in_hand c) refl)
+      (guests-empty (in_hand c) f (hand-guest c) 0 g.guests.items (λ u. refl)) (hands-hand f c g.cpus.items) in
       omega (arith, a)

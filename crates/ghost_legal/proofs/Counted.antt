@@ -25,10 +25,16 @@ module _ (test : Holder → Bool) (f : ℕ) where
   none_here : (h : Held) → is_in_range h.frames f ≡ false → one (is_in_range h.frames f && test (holder_on h f)) ≡ 0
   none_here h t = rw t refl
 
-  some_here : (h : Held) → is_in_range h.frames f ≡ true → one (is_in_range h.frames f && test (holder_on h f)) ≡ one (test (holder_on h f))
+  some_here : (h : Held)
+      → is_in_range h.frames f ≡ true
+      → one (is_in_range h.frames f && test (holder_on h f)) ≡ one (test (holder_on h f))
   some_here h t = rw t refl
 
-  none_from : (hs : List Held) (low : ℕ) → AreInOrder held_frames hs → BeginsFrom held_frames low hs → f < low → held_count test f hs ≡ 0
+  none_from : (hs : List Held) (low : ℕ)
+      → AreInOrder held_frames hs
+      → BeginsFrom held_frames low hs
+      → f < low
+      → held_count test f hs ≡ 0
   none_from [] low o b less = refl
   none_from (h ∷ hs) low o b less =
       let more = none_from hs (end_of h.frames) o.1 o.0 (omega (arith, b, less)) in
@@ -51,22 +57,36 @@ module _ (test : Holder → Bool) (f : ℕ) where
       let is : one (passes test (held_at (h ∷ hs) f)) ≡ one (passes test (held_at hs f)) = rw t refl in
       omega (arith, all, first, more, is))
 
-begins_at : (hs : List Held) (low k : ℕ) (d : Held) → AreInOrder held_frames hs → BeginsFrom held_frames low hs → k < length hs → low ≤ (get_or hs k d).frames.first.0
+begins_at : (hs : List Held) (low k : ℕ) (d : Held)
+    → AreInOrder held_frames hs
+    → BeginsFrom held_frames low hs
+    → k < length hs
+    → low ≤ (get_or hs k d).frames.first.0
 begins_at [] low k d o b less = absurd (omega (arith, less))
 begins_at (h ∷ hs) low zero d o b less = b
-begins_at (h ∷ hs) low (suc k) d o b less = let more = begins_at hs (end_of h.frames) k d o.1 o.0 (omega (arith, less)) in omega (arith, b, more)
+begins_at (h ∷ hs) low (suc k) d o b less = let more =
+    begins_at hs (end_of h.frames) k d o.1 o.0 (omega (arith, less)) in
+    omega (arith, b, more)
 
-found : (hs : List Held) (k : ℕ) (d : Held) (f : ℕ) → AreInOrder held_frames hs → k < length hs → is_in_range (get_or hs k d).frames f ≡ true → at held_frames hs f ≡ Some (get_or hs k d)
+found : (hs : List Held) (k : ℕ) (d : Held) (f : ℕ)
+    → AreInOrder held_frames hs
+    → k < length hs
+    → is_in_range (get_or hs k d).frames f ≡ true
+    → at held_frames hs f ≡ Some (get_or hs k d)
 found [] k d f o less t = absurd (omega (arith, less))
 found (h ∷ hs) zero d f o less t = rw t refl
 found (h ∷ hs) (suc k) d f o less t =
     let behind = begins_at hs (end_of h.frames) k d o.1 o.0 (omega (arith, less)) in
     let r = (get_or hs k d).frames in
     let w = within_means r.first.0 r.count f t in
-    rw (outside_behind h.frames.first.0 h.frames.count f (omega (arith, behind, w.0))) (found hs k d f o.1 (omega (arith, less)) t)
+    rw (outside_behind h.frames.first.0 h.frames.count f (omega (arith, behind, w.0)))
+    (found hs k d f o.1 (omega (arith, less)) t)
 
 -- what a piece has is found there
-pub held-found : (hs : List Held) (h : Holder) (f : ℕ) → AreInOrder held_frames hs → IsHeldIn hs h f → held_at hs f ≡ Some h
+pub held-found : (hs : List Held) (h : Holder) (f : ℕ)
+    → AreInOrder held_frames hs
+    → IsHeldIn hs h f
+    → held_at hs f ≡ Some h
 held-found hs h f o a =
     let x = a.1 in
     let e = a.3 in

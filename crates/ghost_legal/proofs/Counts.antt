@@ -49,18 +49,23 @@ first-self t ts = rw (block-self t.block) refl
 sum-up : (x y a b c d : ℕ) → x + a ≡ y + b → a ≡ 0 → b ≡ c → y ≡ d → x ≡ c + d
 sum-up x y a b c d p q r s = omega (arith, p, q, r, s)
 
-table-sum : (depth f : ℕ) (ts : List TableOf) → HasOwnBlocks depth ts → uses_of depth (table_of ts) f ≡ sum_by (λ t. one (t.frame == f)) ts
+table-sum : (depth f : ℕ) (ts : List TableOf)
+    → HasOwnBlocks depth ts
+    → uses_of depth (table_of ts) f ≡ sum_by (λ t. one (t.frame == f)) ts
 table-sum depth f [] h = none-uses depth f
 table-sum depth f (t ∷ ts) h =
     let put = uses-put depth f t.block (table_of (t ∷ ts)) (table_of ts) h.0 (λ b apart. first-other t ts b apart) in
-    sum-up _ _ _ _ (one (t.frame == f)) (sum_by (λ t. one (t.frame == f)) ts) put (ap (λ o. one (is_frame f o)) h.1) (ap (λ o. one (is_frame f o)) (first-self t ts)) (table-sum depth f ts h.2)
+    sum-up _ _ _ _ (one (t.frame == f)) (sum_by (λ t. one (t.frame == f)) ts) put (ap (λ o. one (is_frame f o)) h.1)
+    (ap (λ o. one (is_frame f o)) (first-self t ts)) (table-sum depth f ts h.2)
     ∙ sym (sum_by-cons (λ t. one (t.frame == f)) t ts)
 
 -- pieces of one frame
 
 within-one : (a f : ℕ) → is_within a 1 f ≡ (a == f)
 within-one a f = by_eq a f
-    (λ e. let t : is_within a 1 f ≡ true = grind (arith, nat_tests) in let u : (a == f) ≡ true = grind (arith, nat_tests) in t ∙ sym u)
+    (λ e. let t : is_within a 1 f ≡ true = grind (arith, nat_tests) in
+    let u : (a == f) ≡ true = grind (arith, nat_tests) in
+    t ∙ sym u)
     (λ e. let t : is_within a 1 f ≡ false = outside a f e in t ∙ sym (eq-other a f e))
   where
     outside : (a f : ℕ) → (a ≡ f → ⊥) → is_within a 1 f ≡ false
@@ -78,20 +83,32 @@ module _ (T : Condition → Bool) (f : ℕ) where
   abbrev count : List Held → ℕ
   count hs = held_count (λ h. T (held_in h)) f hs
 
-  count-cons : (h : Held) (hs : List Held) → held_count (λ h. T (held_in h)) f (h ∷ hs) ≡ one (is_in_range h.frames f && T (held_in (holder_on h f))) + held_count (λ h. T (held_in h)) f hs
+  count-cons : (h : Held) (hs : List Held)
+      → held_count (λ h. T (held_in h)) f (h ∷ hs)
+      ≡ one (is_in_range h.frames f && T (held_in (holder_on h f))) + held_count (λ h. T (held_in h)) f hs
   count-cons h hs = sum_by-cons (λ h. one (is_in_range h.frames f && T (held_in (holder_on h f)))) h hs
 
-  pub count-append : (xs ys : List Held) → held_count (λ h. T (held_in h)) f (xs ++ ys) ≡ held_count (λ h. T (held_in h)) f xs + held_count (λ h. T (held_in h)) f ys
+  pub count-append : (xs ys : List Held)
+      → held_count (λ h. T (held_in h)) f (xs ++ ys)
+      ≡ held_count (λ h. T (held_in h)) f xs + held_count (λ h. T (held_in h)) f ys
   count-append xs ys = sum_by-append (λ h. one (is_in_range h.frames f && T (held_in (holder_on h f)))) xs ys
 
-  one-piece : (frame : ℕ) (h : Holder) → later h (f - frame) ≡ h → T (held_in h) ≡ true → one (is_in_range (piece frame h).frames f && T (held_in (holder_on (piece frame h) f))) ≡ one (frame == f)
+  one-piece : (frame : ℕ) (h : Holder)
+      → later h (f - frame) ≡ h
+      → T (held_in h) ≡ true
+      → one (is_in_range (piece frame h).frames f && T (held_in (holder_on (piece frame h) f))) ≡ one (frame == f)
   one-piece frame h e t = ap one (and-true (is_within frame 1 f) _ (ap (λ k. T (held_in k)) e ∙ t) ∙ within-one frame f)
 
-  no-piece : (p : Held) → T (held_in (holder_on p f)) ≡ false → one (is_in_range p.frames f && T (held_in (holder_on p f))) ≡ 0
+  no-piece : (p : Held)
+      → T (held_in (holder_on p f)) ≡ false
+      → one (is_in_range p.frames f && T (held_in (holder_on p f))) ≡ 0
   no-piece p t = ap one (and-false (is_in_range p.frames f) _ t)
 
   -- free frames
-  pub free-count : (h : Holder) (fs : List ℕ) → ((n : ℕ) → later h n ≡ h) → T (held_in h) ≡ true → held_count (λ h. T (held_in h)) f (free_held h fs) ≡ frame_count f fs
+  pub free-count : (h : Holder) (fs : List ℕ)
+      → ((n : ℕ) → later h n ≡ h)
+      → T (held_in h) ≡ true
+      → held_count (λ h. T (held_in h)) f (free_held h fs) ≡ frame_count f fs
   free-count h [] e t = refl
   free-count h (x ∷ fs) e t =
       let all = count-cons (piece x h) (free_held h fs) in
@@ -100,7 +117,10 @@ module _ (T : Condition → Bool) (f : ℕ) where
       let is = sum_by-cons (λ g. is_one g f) x fs in
       omega (arith, all, first, more, is)
 
-  pub free-none : (h : Holder) (fs : List ℕ) → ((n : ℕ) → later h n ≡ h) → T (held_in h) ≡ false → held_count (λ h. T (held_in h)) f (free_held h fs) ≡ 0
+  pub free-none : (h : Holder) (fs : List ℕ)
+      → ((n : ℕ) → later h n ≡ h)
+      → T (held_in h) ≡ false
+      → held_count (λ h. T (held_in h)) f (free_held h fs) ≡ 0
   free-none h [] e t = refl
   free-none h (x ∷ fs) e t =
       let all = count-cons (piece x h) (free_held h fs) in
@@ -109,7 +129,9 @@ module _ (T : Condition → Bool) (f : ℕ) where
       omega (arith, all, first, more)
 
   -- tables
-  tables-sum : (tree : ℕ) (ts : List TableOf) → T (hyps (table_use tree)) ≡ true → held_count (λ h. T (held_in h)) f (tables_held tree ts) ≡ sum_by (λ t. one (t.frame == f)) ts
+  tables-sum : (tree : ℕ) (ts : List TableOf)
+      → T (hyps (table_use tree)) ≡ true
+      → held_count (λ h. T (held_in h)) f (tables_held tree ts) ≡ sum_by (λ t. one (t.frame == f)) ts
   tables-sum tree [] t = refl
   tables-sum tree (x ∷ ts) t =
       let h : Holder = Table (record { tree = tree; block = x.block }) in
@@ -119,10 +141,16 @@ module _ (T : Condition → Bool) (f : ℕ) where
       let is = sum_by-cons (λ t. one (t.frame == f)) x ts in
       omega (arith, all, first, more, is)
 
-  pub tables-count : (depth tree : ℕ) (t : Tree) → HasOwnBlocks depth t.tables.items → T (hyps (table_use tree)) ≡ true → held_count (λ h. T (held_in h)) f (tables_held tree t.tables.items) ≡ table_uses depth (tree_in_lists t) f
-  tables-count depth tree t own h = tables-sum tree t.tables.items h ∙ sym (table-sum depth f t.tables.items own) ∙ sym (same-uses depth f t)
+  pub tables-count : (depth tree : ℕ) (t : Tree)
+      → HasOwnBlocks depth t.tables.items
+      → T (hyps (table_use tree)) ≡ true
+      → held_count (λ h. T (held_in h)) f (tables_held tree t.tables.items) ≡ table_uses depth (tree_in_lists t) f
+  tables-count depth tree t own h =
+      tables-sum tree t.tables.items h ∙ sym (table-sum depth f t.tables.items own) ∙ sym (same-uses depth f t)
 
-  pub tables-none : (tree : ℕ) (ts : List TableOf) → T (hyps (table_use tree)) ≡ false → held_count (λ h. T (held_in h)) f (tables_held tree ts) ≡ 0
+  pub tables-none : (tree : ℕ) (ts : List TableOf)
+      → T (hyps (table_use tree)) ≡ false
+      → held_count (λ h. T (held_in h)) f (tables_held tree ts) ≡ 0
   tables-none tree [] t = refl
   tables-none tree (x ∷ ts) t =
       let h : Holder = Table (record { tree = tree; block = x.block }) in
@@ -132,17 +160,25 @@ module _ (T : Condition → Bool) (f : ℕ) where
       omega (arith, all, first, more)
 
   -- guests' pages
-  guest-none : ((v p : ℕ) (s : State) → T (guest_condition s v p) ≡ false) → (slot : ℕ) (pages : PageRange) (t : Target) → held_count (λ h. T (held_in h)) f (option_list (target_held slot pages t)) ≡ 0
+  guest-none : ((v p : ℕ) (s : State) → T (guest_condition s v p) ≡ false)
+      → (slot : ℕ) (pages : PageRange) (t : Target)
+      → held_count (λ h. T (held_in h)) f (option_list (target_held slot pages t)) ≡ 0
   guest-none n slot pages Malformed = refl
   guest-none n slot pages (Annotated owner) = refl
   guest-none n slot pages (Leaf frame prot kind state) =
-      let p : Held = record { frames = record { first = record { 0 = frame.0 }; count = pages.count }; holder = Guest slot pages.first.0 state } in
+      let p : Held =
+      record {
+        frames = record { first = record { 0 = frame.0 }; count = pages.count };
+        holder = Guest slot pages.first.0 state;
+      } in
       let all = count-cons p [] in
       let first = no-piece p (n slot (pages.first.0 + (f - frame.0)) state) in
       let nil : held_count (λ h. T (held_in h)) f [] ≡ 0 = refl in
       omega (arith, all, first, nil)
 
-  pub runs-none : ((v p : ℕ) (s : State) → T (guest_condition s v p) ≡ false) → (slot : ℕ) (rs : List Run) → held_count (λ h. T (held_in h)) f (runs_held slot rs) ≡ 0
+  pub runs-none : ((v p : ℕ) (s : State) → T (guest_condition s v p) ≡ false)
+      → (slot : ℕ) (rs : List Run)
+      → held_count (λ h. T (held_in h)) f (runs_held slot rs) ≡ 0
   runs-none n slot [] = refl
   runs-none n slot (r ∷ rs) =
       let all = count-append (option_list (mapped_of slot r)) (runs_held slot rs) in

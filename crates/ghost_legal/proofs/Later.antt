@@ -29,17 +29,23 @@ held-later (Guest slot page Owned) n = refl
 held-later (Guest slot page SharedOwned) n = refl
 held-later (Guest slot page SharedBorrowed) n = refl
 
-unheld-later : (b : Bool) (o : Option Lent) (n : ℕ) → cond b (hyps Plain) (elim (advance_lent o n) [ Some l ↦ with_hyp | None ↦ hosts ]) ≡ condition_later (cond b (hyps Plain) (elim o [ Some l ↦ with_hyp | None ↦ hosts ])) n
+unheld-later : (b : Bool) (o : Option Lent) (n : ℕ)
+    → cond b (hyps Plain) (elim (advance_lent o n) [ Some l ↦ with_hyp | None ↦ hosts ])
+    ≡ condition_later (cond b (hyps Plain) (elim o [ Some l ↦ with_hyp | None ↦ hosts ])) n
 unheld-later true o n = refl
 unheld-later false None n = refl
 unheld-later false (Some l) n = refl
 
-by-later : (m : Bool) (r : Row) (o : Option Holder) (n : ℕ) → elim (option_later o n) [ Some h ↦ held_in h | None ↦ cond m (unheld_in (advance_row r n)) outside ] ≡ condition_later (elim o [ Some h ↦ held_in h | None ↦ cond m (unheld_in r) outside ]) n
+by-later : (m : Bool) (r : Row) (o : Option Holder) (n : ℕ)
+    → elim (option_later o n) [ Some h ↦ held_in h | None ↦ cond m (unheld_in (advance_row r n)) outside ]
+    ≡ condition_later (elim o [ Some h ↦ held_in h | None ↦ cond m (unheld_in r) outside ]) n
 by-later m r (Some h) n = held-later h n
 by-later false r None n = refl
 by-later true r None n = unheld-later (r.owner.0 == 1) r.lent n
 
-host-later : (f : ℕ) (c : Condition) (e : Entry) (n : ℕ) → HostFits f c e → HostFits (f + n) (condition_later c n) (advance e n)
+host-later : (f : ℕ) (c : Condition) (e : Entry) (n : ℕ)
+    → HostFits f c e
+    → HostFits (f + n) (condition_later c n) (advance e n)
 host-later f outside e n (inl h) = inl (ap (λ e. advance e n) h)
 host-later f outside e n (inr h) = inr (ap (λ e. advance e n) h)
 host-later f hosts e n (inl h) = inl (ap (λ e. advance e n) h)
@@ -62,7 +68,14 @@ hyp-later f (lent_back v g) n = refl
 row-later : (f : ℕ) (c : Condition) (n : ℕ) → advance_row (row_in f c) n ≡ row_in (f + n) (condition_later c n)
 row-later f outside n = refl
 row-later f hosts n = refl
-row-later f with_hyp n = ap (λ p. record { owner = record { 0 = 0 }; lent = Some (record { owner = record { 0 = 1 }; page = p }); usage = Plain }) (omega arith)
+row-later f with_hyp n =
+    ap
+    (λ p. record {
+      owner = record { 0 = 0 };
+      lent = Some (record { owner = record { 0 = 1 }; page = p });
+      usage = Plain;
+    })
+    (omega arith)
 row-later f (hyps u) n = refl
 row-later f (with_guest v g) n = refl
 row-later f (guests v g) n = refl

@@ -25,11 +25,15 @@ use Rattle.ghost_legal.proofs.InOrder.{outside_behind}
 
 past-runs : (rs : List Run) (p : ℕ) → AreSmall rs → 2 ^ 63 ≤ p → map_of rs p ≡ Unmapped
 past-runs [] p s h = refl
-past-runs (r ∷ rs) p s h = let low : IsSmall r = All-head IsSmall r rs s in rw (outside_behind r.pages.first.0 r.pages.count p (omega (arith, low.0, h))) (past-runs rs p (All-tail IsSmall r rs s) h)
+past-runs (r ∷ rs) p s h = let low : IsSmall r = All-head IsSmall r rs s in
+    rw (outside_behind r.pages.first.0 r.pages.count p (omega (arith, low.0, h)))
+    (past-runs rs p (All-tail IsSmall r rs s) h)
 
 past-held : (hs : List Held) (p : ℕ) → All IsSmallHeld hs → 2 ^ 63 ≤ p → at held_frames hs p ≡ None
 past-held [] p s h = refl
-past-held (x ∷ hs) p s h = let low : IsSmallHeld x = All-head IsSmallHeld x hs s in rw (outside_behind x.frames.first.0 x.frames.count p (omega (arith, low.frames, h))) (past-held hs p (All-tail IsSmallHeld x hs s) h)
+past-held (x ∷ hs) p s h = let low : IsSmallHeld x = All-head IsSmallHeld x hs s in
+    rw (outside_behind x.frames.first.0 x.frames.count p (omega (arith, low.frames, h)))
+    (past-held hs p (All-tail IsSmallHeld x hs s) h)
 
 low-small : (h : Holder) (n : ℕ) → IsSmallHolder h n → IsLowHolder (Some h)
 low-small SharedPool n k = tt
@@ -49,10 +53,17 @@ low-later (Guest slot page state) n k = k
 pub low-at : (hs : List Held) (f : ℕ) → All IsSmallHeld hs → IsLowHolder (held_at hs f)
 low-at [] f s = tt
 low-at (x ∷ hs) f s = by_test (is_in_range x.frames f)
-    (λ t. rw t (low-later x.holder (f - x.frames.first.0) (low-small x.holder x.frames.count (All-head IsSmallHeld x hs s).holder)))
+    (λ t. rw t
+    (low-later x.holder (f - x.frames.first.0)
+    (low-small x.holder x.frames.count (All-head IsSmallHeld x hs s).holder)))
     (λ t. rw t (low-at hs f (All-tail IsSmallHeld x hs s)))
 
-nothing : (f : ℕ) (x : Facts) → x.memory ≡ false → x.host ≡ Unmapped → x.hyp ≡ Unmapped → x.holder ≡ None → IsCondition f x
+nothing : (f : ℕ) (x : Facts)
+    → x.memory ≡ false
+    → x.host ≡ Unmapped
+    → x.hyp ≡ Unmapped
+    → x.holder ≡ None
+    → IsCondition f x
 nothing f x m e h o = by x.memory x.holder m o
   where
     by : (b : Bool) (p : Option Holder) → b ≡ false → p ≡ None → IsCondition f (record x { memory = b; holder = p })
@@ -61,7 +72,12 @@ nothing f x m e h o = by x.memory x.holder m o
     by false None k l = record { inside = λ q r. cc; fits = record { host = inl e; hyp = h; row = λ r. cc } }
 
 -- past all of them a frame is outside
-pub past : (g : GhostLists) (hs : List Held) (f : ℕ) → IsAccepted g.layout.map → IsKeptShared g.shared → IsHeldList hs → 2 ^ 63 ≤ f → IsCondition f (facts_in g hs f)
+pub past : (g : GhostLists) (hs : List Held) (f : ℕ)
+    → IsAccepted g.layout.map
+    → IsKeptShared g.shared
+    → IsHeldList hs
+    → 2 ^ 63 ≤ f
+    → IsCondition f (facts_in g hs f)
 past g hs f a k h less = nothing f (facts_in g hs f)
     (not-holds (has_memory g.layout.map f) (λ t. let low = memory_below g.layout.map f a t in omega (arith, low, less)))
     (past-runs g.shared.host.runs.items f k.host.small less)

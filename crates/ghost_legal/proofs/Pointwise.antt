@@ -70,24 +70,55 @@ record IsAlone (c : Condition) : Type 0 where
   hand : (k : ℕ) → in_hand k c ≡ false
   guest : (v g : ℕ) (s : State) → c ≡ guest_condition s v g → ⊥
 
-no-guest : (c : Condition) → ((v g : ℕ) → c ≡ guests v g → ⊥) → ((v g : ℕ) → c ≡ lent_back v g → ⊥) → ((v g : ℕ) → c ≡ with_guest v g → ⊥) → (v g : ℕ) (s : State) → c ≡ guest_condition s v g → ⊥
+no-guest : (c : Condition)
+    → ((v g : ℕ) → c ≡ guests v g → ⊥)
+    → ((v g : ℕ) → c ≡ lent_back v g → ⊥)
+    → ((v g : ℕ) → c ≡ with_guest v g → ⊥)
+    → (v g : ℕ) (s : State)
+    → c ≡ guest_condition s v g
+    → ⊥
 no-guest c a b d v g Owned e = a v g e
 no-guest c a b d v g SharedOwned e = b v g e
 no-guest c a b d v g SharedBorrowed e = d v g e
 
 alone-outside : IsAlone outside
-alone-outside = record { shared = refl; vm = λ v. refl; hand = λ k. refl; guest = no-guest outside (λ v g e. absurd (cc)) (λ v g e. absurd (cc)) (λ v g e. absurd (cc)) }
+alone-outside =
+    record {
+      shared = refl;
+      vm = λ v. refl;
+      hand = λ k. refl;
+      guest = no-guest outside (λ v g e. absurd (cc)) (λ v g e. absurd (cc)) (λ v g e. absurd (cc));
+    }
 
 alone-hosts : IsAlone hosts
-alone-hosts = record { shared = refl; vm = λ v. refl; hand = λ k. refl; guest = no-guest hosts (λ v g e. absurd (cc)) (λ v g e. absurd (cc)) (λ v g e. absurd (cc)) }
+alone-hosts =
+    record {
+      shared = refl;
+      vm = λ v. refl;
+      hand = λ k. refl;
+      guest = no-guest hosts (λ v g e. absurd (cc)) (λ v g e. absurd (cc)) (λ v g e. absurd (cc));
+    }
 
 alone-hyp : IsAlone with_hyp
-alone-hyp = record { shared = refl; vm = λ v. refl; hand = λ k. refl; guest = no-guest with_hyp (λ v g e. absurd (cc)) (λ v g e. absurd (cc)) (λ v g e. absurd (cc)) }
+alone-hyp =
+    record {
+      shared = refl;
+      vm = λ v. refl;
+      hand = λ k. refl;
+      guest = no-guest with_hyp (λ v g e. absurd (cc)) (λ v g e. absurd (cc)) (λ v g e. absurd (cc));
+    }
 
 alone-plain : IsAlone (hyps Plain)
-alone-plain = record { shared = refl; vm = λ v. refl; hand = λ k. refl; guest = no-guest (hyps Plain) (λ v g e. absurd (cc)) (λ v g e. absurd (cc)) (λ v g e. absurd (cc)) }
+alone-plain =
+    record {
+      shared = refl;
+      vm = λ v. refl;
+      hand = λ k. refl;
+      guest = no-guest (hyps Plain) (λ v g e. absurd (cc)) (λ v g e. absurd (cc)) (λ v g e. absurd (cc));
+    }
 
-unheld-alone : (b : Bool) (o : Option Lent) → IsAlone (cond b (hyps Plain) (elim o [ Some l ↦ with_hyp | None ↦ hosts ]))
+unheld-alone : (b : Bool) (o : Option Lent)
+    → IsAlone (cond b (hyps Plain) (elim o [ Some l ↦ with_hyp | None ↦ hosts ]))
 unheld-alone true o = alone-plain
 unheld-alone false None = alone-hosts
 unheld-alone false (Some l) = alone-hyp
@@ -96,7 +127,8 @@ is-alone : (m : Bool) (r : Row) → IsAlone (alone m r)
 is-alone false r = alone-outside
 is-alone true r = unheld-alone (r.owner.0 == 1) r.lent
 
-unheld-inside : (b : Bool) (o : Option Lent) → is_inside (cond b (hyps Plain) (elim o [ Some l ↦ with_hyp | None ↦ hosts ])) ≡ true
+unheld-inside : (b : Bool) (o : Option Lent)
+    → is_inside (cond b (hyps Plain) (elim o [ Some l ↦ with_hyp | None ↦ hosts ])) ≡ true
 unheld-inside true o = refl
 unheld-inside false None = refl
 unheld-inside false (Some l) = refl
@@ -105,7 +137,8 @@ alone-inside : (m : Bool) (r : Row) → is_inside (alone m r) ≡ m
 alone-inside false r = refl
 alone-inside true r = unheld-inside (r.owner.0 == 1) r.lent
 
-unheld-good : (l : _) (b : Bool) (o : Option Lent) → IsGood l (cond b (hyps Plain) (elim o [ Some x ↦ with_hyp | None ↦ hosts ]))
+unheld-good : (l : _) (b : Bool) (o : Option Lent)
+    → IsGood l (cond b (hyps Plain) (elim o [ Some x ↦ with_hyp | None ↦ hosts ]))
 unheld-good l true o = tt
 unheld-good l false None = tt
 unheld-good l false (Some x) = tt
@@ -118,7 +151,9 @@ alone-good l true r = unheld-good l (r.owner.0 == 1) r.lent
 by-holder : (o : Option Holder) (m : Bool) (r : Row) → Condition
 by-holder o m r = elim o [ Some h ↦ held_in h | None ↦ alone m r ]
 
-passed : (test : Condition → Bool) (o : Option Holder) (m : Bool) (r : Row) → test (alone m r) ≡ false → one (passes (λ h. test (held_in h)) o) ≡ one (test (elim o [ Some h ↦ held_in h | None ↦ alone m r ]))
+passed : (test : Condition → Bool) (o : Option Holder) (m : Bool) (r : Row)
+    → test (alone m r) ≡ false
+    → one (passes (λ h. test (held_in h)) o) ≡ one (test (elim o [ Some h ↦ held_in h | None ↦ alone m r ]))
 passed test None m r e = ap one (sym e)
 passed test (Some h) m r e = refl
 
@@ -175,7 +210,8 @@ hand-is (lent_back u g) k e = cc
 
 module _ (g : GhostLists) (hs : List Held) (o : AreInOrder held_frames hs) (a : AreAllHeld g hs) where
   -- from each frame's one condition to the state
-  module _ (each : (f : ℕ) → IsCondition f (facts_in g hs f)) (pages : GuestPagesFit (layout_of g.layout) (contents_in g)) (low : IsHypBelow (contents_in g)) where
+  module _ (each : (f : ℕ) → IsCondition f (facts_in g hs f))
+      (pages : GuestPagesFit (layout_of g.layout) (contents_in g)) (low : IsHypBelow (contents_in g)) where
     abbrev c : ℕ → Condition
     c f = condition_by (facts_in g hs f)
 
@@ -185,15 +221,21 @@ module _ (g : GhostLists) (hs : List Held) (o : AreInOrder held_frames hs) (a : 
     abbrev r : ℕ → Row
     r f = (facts_in g hs f).row
 
-    inside-by : (f : ℕ) (x : Option Holder) → held_at hs f ≡ x → is_inside (elim x [ Some h ↦ held_in h | None ↦ alone (m f) (r f) ]) ≡ m f
+    inside-by : (f : ℕ) (x : Option Holder)
+        → held_at hs f ≡ x
+        → is_inside (elim x [ Some h ↦ held_in h | None ↦ alone (m f) (r f) ]) ≡ m f
     inside-by f None e = alone-inside (m f) (r f)
     inside-by f (Some h) e = held-inside h ∙ sym ((each f).inside h e)
 
-    good-by : (f : ℕ) (x : Option Holder) → held_at hs f ≡ x → IsGood (layout_of g.layout) (elim x [ Some h ↦ held_in h | None ↦ alone (m f) (r f) ])
+    good-by : (f : ℕ) (x : Option Holder)
+        → held_at hs f ≡ x
+        → IsGood (layout_of g.layout) (elim x [ Some h ↦ held_in h | None ↦ alone (m f) (r f) ])
     good-by f None e = alone-good (layout_of g.layout) (m f) (r f)
     good-by f (Some h) e = a.good f h e
 
-    leaf-held : (v p f : ℕ) (s : State) → IsMemoryLeaf f s (((contents_in g).guest v).tree.map p) → c f ≡ guest_condition s v p
+    leaf-held : (v p f : ℕ) (s : State)
+        → IsMemoryLeaf f s (((contents_in g).guest v).tree.map p)
+        → c f ≡ guest_condition s v p
     leaf-held v p f s k =
         let e = held-found hs (Guest v p s) f o ((a.guest v p f s).0 k) in
         ap (λ x. elim x [ Some h ↦ held_in h | None ↦ alone (m f) (r f) ]) e ∙ at-state s
@@ -203,16 +245,32 @@ module _ (g : GhostLists) (hs : List Held) (o : AreInOrder held_frames hs) (a : 
         at-state SharedOwned = refl
         at-state SharedBorrowed = refl
 
-    held-leaf : (v p f : ℕ) (s : State) → c f ≡ guest_condition s v p → IsMemoryLeaf f s (((contents_in g).guest v).tree.map p)
+    held-leaf : (v p f : ℕ) (s : State)
+        → c f ≡ guest_condition s v p
+        → IsMemoryLeaf f s (((contents_in g).guest v).tree.map p)
     held-leaf v p f s e = by (held_at hs f) refl e
       where
-        by : (x : Option Holder) → held_at hs f ≡ x → elim x [ Some h ↦ held_in h | None ↦ alone (m f) (r f) ] ≡ guest_condition s v p → IsMemoryLeaf f s (((contents_in g).guest v).tree.map p)
+        by : (x : Option Holder)
+            → held_at hs f ≡ x
+            → elim x [ Some h ↦ held_in h | None ↦ alone (m f) (r f) ] ≡ guest_condition s v p
+            → IsMemoryLeaf f s (((contents_in g).guest v).tree.map p)
         by None k e = absurd ((is-alone (m f) (r f)).guest v p s e)
         by (Some h) k e = (a.guest v p f s).1 (found-held hs (Guest v p s) f (k ∙ ap Some (is-guest h v p s e)))
 
-    fits-page : (v p : ℕ) → (((contents_in g).guest v).tree.map p ≡ Unmapped) ⊎ IsGuestPage (layout_of g.layout) v p (((contents_in g).guest v).tree.map p) → GuestFits c v p (((contents_in g).guest v).tree.map p)
+    fits-page : (v p : ℕ)
+        → (((contents_in g).guest v).tree.map p ≡ Unmapped)
+        ⊎ IsGuestPage (layout_of g.layout) v p (((contents_in g).guest v).tree.map p)
+        → GuestFits c v p (((contents_in g).guest v).tree.map p)
     fits-page v p (inl e) = inl e
-    fits-page v p (inr k) = inr (record { frame = k.frame; prot = k.prot; state = k.state; leaf_is = k.leaf_is; named = leaf-held v p k.frame k.state (k.prot, k.leaf_is) })
+    fits-page v p (inr k) =
+        inr
+        (record {
+          frame = k.frame;
+          prot = k.prot;
+          state = k.state;
+          leaf_is = k.leaf_is;
+          named = leaf-held v p k.frame k.state (k.prot, k.leaf_is);
+        })
 
     pub frames-legal : AreFramesLegal (layout_of g.layout) (contents_in g)
     frames-legal = record {
@@ -226,34 +284,64 @@ module _ (g : GhostLists) (hs : List Held) (o : AreInOrder held_frames hs) (a : 
         guest_has = λ v p f s e. held-leaf v p f s e;
       };
       held = record {
-        shared = λ f. a.counted.shared f ∙ counted (λ h. in_shared (held_in h)) f hs o ∙ passed in_shared (held_at hs f) (m f) (r f) (is-alone (m f) (r f)).shared;
-        vm = λ v f. a.counted.vm v f ∙ counted (λ h. in_vm v (held_in h)) f hs o ∙ passed (in_vm v) (held_at hs f) (m f) (r f) ((is-alone (m f) (r f)).vm v);
-        hand = λ k f. one-same _ _ (a.counted.hand k f ∙ counted (λ h. in_hand k (held_in h)) f hs o ∙ passed (in_hand k) (held_at hs f) (m f) (r f) ((is-alone (m f) (r f)).hand k));
+        shared =
+            λ f. a.counted.shared f ∙ counted (λ h. in_shared (held_in h)) f hs o
+            ∙ passed in_shared (held_at hs f) (m f) (r f) (is-alone (m f) (r f)).shared;
+        vm =
+            λ v f. a.counted.vm v f ∙ counted (λ h. in_vm v (held_in h)) f hs o
+            ∙ passed (in_vm v) (held_at hs f) (m f) (r f) ((is-alone (m f) (r f)).vm v);
+        hand =
+            λ k f. one-same _ _
+            (a.counted.hand k f ∙ counted (λ h. in_hand k (held_in h)) f hs o
+            ∙ passed (in_hand k) (held_at hs f) (m f) (r f) ((is-alone (m f) (r f)).hand k));
       };
       rows = λ f e. (each f).fits.row e;
     }
 
   -- from the state to each frame's one condition
   module _ (k : AreFramesLegal (layout_of g.layout) (contents_in g)) where
-    held-by : (h : Holder) (f : ℕ) → held_at hs f ≡ Some h → (test : Condition → Bool) → test (held_in h) ≡ true → held_count (λ h. test (held_in h)) f hs ≡ 1
-    held-by h f e test t = counted (λ h. test (held_in h)) f hs o ∙ ap (λ x. one (passes (λ h. test (held_in h)) x)) e ∙ ap one t
+    held-by : (h : Holder) (f : ℕ)
+        → held_at hs f ≡ Some h
+        → (test : Condition → Bool)
+        → test (held_in h) ≡ true
+        → held_count (λ h. test (held_in h)) f hs ≡ 1
+    held-by h f e test t =
+        counted (λ h. test (held_in h)) f hs o ∙ ap (λ x. one (passes (λ h. test (held_in h)) x)) e ∙ ap one t
 
-    by-table : (t f u : ℕ) → u ≡ t → (h : Holder) → held_in h ≡ hyps (table_use u) → held_at hs f ≡ Some h → k.condition f ≡ hyps (table_use u)
-    by-table t f zero e h i at = shared-is (k.condition f) (sym (k.held.shared f) ∙ a.counted.shared f ∙ held-by h f at in_shared (ap in_shared i))
-    by-table t f (suc zero) e h i at = shared-is (k.condition f) (sym (k.held.shared f) ∙ a.counted.shared f ∙ held-by h f at in_shared (ap in_shared i))
-    by-table t f (suc (suc v)) e h i at = vm-is (k.condition f) v (sym (k.held.vm v f) ∙ a.counted.vm v f ∙ held-by h f at (in_vm v) (ap (in_vm v) i ∙ eq-self v))
+    by-table : (t f u : ℕ)
+        → u ≡ t
+        → (h : Holder)
+        → held_in h ≡ hyps (table_use u)
+        → held_at hs f ≡ Some h
+        → k.condition f ≡ hyps (table_use u)
+    by-table t f zero e h i at =
+        shared-is (k.condition f)
+        (sym (k.held.shared f) ∙ a.counted.shared f ∙ held-by h f at in_shared (ap in_shared i))
+    by-table t f (suc zero) e h i at =
+        shared-is (k.condition f)
+        (sym (k.held.shared f) ∙ a.counted.shared f ∙ held-by h f at in_shared (ap in_shared i))
+    by-table t f (suc (suc v)) e h i at =
+        vm-is (k.condition f) v
+        (sym (k.held.vm v f) ∙ a.counted.vm v f ∙ held-by h f at (in_vm v) (ap (in_vm v) i ∙ eq-self v))
 
     named-by : (h : Holder) (f : ℕ) → held_at hs f ≡ Some h → k.condition f ≡ held_in h
-    named-by SharedPoolHolder f e = shared-is (k.condition f) (sym (k.held.shared f) ∙ a.counted.shared f ∙ held-by SharedPoolHolder f e in_shared refl)
-    named-by (VmPoolHolder v) f e = vm-is (k.condition f) v (sym (k.held.vm v f) ∙ a.counted.vm v f ∙ held-by (VmPoolHolder v) f e (in_vm v) (eq-self v))
+    named-by SharedPoolHolder f e =
+        shared-is (k.condition f)
+        (sym (k.held.shared f) ∙ a.counted.shared f ∙ held-by SharedPoolHolder f e in_shared refl)
+    named-by (VmPoolHolder v) f e =
+        vm-is (k.condition f) v
+        (sym (k.held.vm v f) ∙ a.counted.vm v f ∙ held-by (VmPoolHolder v) f e (in_vm v) (eq-self v))
     named-by (Table at) f e = by-table at.tree f at.tree refl (Table at) refl e
-    named-by (Hand n) f e = hand-is (k.condition f) n (sym (ap one (k.held.hand n f)) ∙ a.counted.hand n f ∙ held-by (Hand n) f e (in_hand n) (eq-self n))
+    named-by (Hand n) f e =
+        hand-is (k.condition f) n
+        (sym (ap one (k.held.hand n f)) ∙ a.counted.hand n f ∙ held-by (Hand n) f e (in_hand n) (eq-self n))
     named-by (Guest v p s) f e = by-leaf (k.maps.guest v p)
       where
         mapped : IsMemoryLeaf f s (((contents_in g).guest v).tree.map p)
         mapped = (a.guest v p f s).1 (found-held hs (Guest v p s) f e)
 
-        by-leaf : GuestFits k.condition v p (((contents_in g).guest v).tree.map p) → k.condition f ≡ guest_condition s v p
+        by-leaf : GuestFits k.condition v p (((contents_in g).guest v).tree.map p)
+            → k.condition f ≡ guest_condition s v p
         by-leaf (inl u) = let no : leaf mapped.0 f s ≡ Unmapped = sym mapped.1 ∙ u in absurd (cc)
         by-leaf (inr x) = let same : leaf x.prot x.frame x.state ≡ leaf mapped.0 f s = sym x.leaf_is ∙ mapped.1 in
             let e : f ≡ x.frame = sym (ap entry_frame same) in
@@ -264,11 +352,18 @@ module _ (g : GhostLists) (hs : List Held) (o : AreInOrder held_frames hs) (a : 
     none-count f e test = counted (λ h. test (held_in h)) f hs o ∙ ap (λ x. one (passes (λ h. test (held_in h)) x)) e
 
     no-leaf : (f v p : ℕ) (s : State) → held_at hs f ≡ None → k.condition f ≡ guest_condition s v p → ⊥
-    no-leaf f v p s e n = let at = held-found hs (Guest v p s) f o ((a.guest v p f s).0 (k.maps.guest_has v p f s n)) in let bad : None ≡ Some (Guest v p s) = sym e ∙ at in cc
+    no-leaf f v p s e n = let at = held-found hs (Guest v p s) f o ((a.guest v p f s).0 (k.maps.guest_has v p f s n)) in
+        let bad : None ≡ Some (Guest v p s) = sym e ∙ at in
+        cc
 
     -- the condition of a frame that nothing has
-    alone-by : (f : ℕ) (c : Condition) → k.condition f ≡ c → held_at hs f ≡ None → alone (is_memory (layout_of g.layout) f) ((contents_in g).shared.row f) ≡ c
-    alone-by f outside e n = let no : is_memory (layout_of g.layout) f ≡ false = sym (k.of_layout.inside f) ∙ ap is_inside e in ap (λ b. alone b ((contents_in g).shared.row f)) no
+    alone-by : (f : ℕ) (c : Condition)
+        → k.condition f ≡ c
+        → held_at hs f ≡ None
+        → alone (is_memory (layout_of g.layout) f) ((contents_in g).shared.row f) ≡ c
+    alone-by f outside e n = let no : is_memory (layout_of g.layout) f ≡ false =
+        sym (k.of_layout.inside f) ∙ ap is_inside e in
+        ap (λ b. alone b ((contents_in g).shared.row f)) no
     alone-by f hosts e n =
         let in-memory : is_memory (layout_of g.layout) f ≡ true = sym (k.of_layout.inside f) ∙ ap is_inside e in
         ap (λ b. alone b ((contents_in g).shared.row f)) in-memory ∙ ap unheld_in (k.rows f in-memory ∙ ap (row_in f) e)
@@ -278,14 +373,25 @@ module _ (g : GhostLists) (hs : List Held) (o : AreInOrder held_frames hs) (a : 
     alone-by f (hyps Plain) e n =
         let in-memory : is_memory (layout_of g.layout) f ≡ true = sym (k.of_layout.inside f) ∙ ap is_inside e in
         ap (λ b. alone b ((contents_in g).shared.row f)) in-memory ∙ ap unheld_in (k.rows f in-memory ∙ ap (row_in f) e)
-    alone-by f (hyps SharedPool) e n = let bad : 1 ≡ 0 = sym (k.held.shared f ∙ ap (λ c. one (in_shared c)) e) ∙ a.counted.shared f ∙ none-count f n in_shared in absurd (omega (arith, bad))
-    alone-by f (hyps (VmPool v)) e n = let bad : 1 ≡ 0 = sym (k.held.vm v f ∙ ap (λ c. one (in_vm v c)) e ∙ ap one (eq-self v)) ∙ a.counted.vm v f ∙ none-count f n (in_vm v) in absurd (omega (arith, bad))
-    alone-by f (hyps (InHand c)) e n = let bad : 1 ≡ 0 = sym (ap one (k.held.hand c f) ∙ ap (λ d. one (in_hand c d)) e ∙ ap one (eq-self c)) ∙ a.counted.hand c f ∙ none-count f n (in_hand c) in absurd (omega (arith, bad))
+    alone-by f (hyps SharedPool) e n = let bad : 1 ≡ 0 =
+        sym (k.held.shared f ∙ ap (λ c. one (in_shared c)) e) ∙ a.counted.shared f ∙ none-count f n in_shared in
+        absurd (omega (arith, bad))
+    alone-by f (hyps (VmPool v)) e n = let bad : 1 ≡ 0 =
+        sym (k.held.vm v f ∙ ap (λ c. one (in_vm v c)) e ∙ ap one (eq-self v)) ∙ a.counted.vm v f
+        ∙ none-count f n (in_vm v) in
+        absurd (omega (arith, bad))
+    alone-by f (hyps (InHand c)) e n = let bad : 1 ≡ 0 =
+        sym (ap one (k.held.hand c f) ∙ ap (λ d. one (in_hand c d)) e ∙ ap one (eq-self c)) ∙ a.counted.hand c f
+        ∙ none-count f n (in_hand c) in
+        absurd (omega (arith, bad))
     alone-by f (with_guest v p) e n = absurd (no-leaf f v p SharedBorrowed n e)
     alone-by f (guests v p) e n = absurd (no-leaf f v p Owned n e)
     alone-by f (lent_back v p) e n = absurd (no-leaf f v p SharedOwned n e)
 
-    same-by : (f : ℕ) (x : Option Holder) → held_at hs f ≡ x → elim x [ Some h ↦ held_in h | None ↦ alone (is_memory (layout_of g.layout) f) ((contents_in g).shared.row f) ] ≡ k.condition f
+    same-by : (f : ℕ) (x : Option Holder)
+        → held_at hs f ≡ x
+        → elim x [ Some h ↦ held_in h | None ↦ alone (is_memory (layout_of g.layout) f) ((contents_in g).shared.row f) ]
+        ≡ k.condition f
     same-by f None e = alone-by f (k.condition f) refl e
     same-by f (Some h) e = sym (named-by h f e)
 
@@ -294,18 +400,31 @@ module _ (g : GhostLists) (hs : List Held) (o : AreInOrder held_frames hs) (a : 
         let same : condition_by (facts_in g hs f) ≡ k.condition f = same-by f (held_at hs f) refl in
         record {
           inside = λ h e. sym (k.of_layout.inside f) ∙ ap is_inside (named-by h f e) ∙ held-inside h;
-          fits = subst (λ c. Fits f c (facts_in g hs f)) (sym same) (record { host = k.maps.host f; hyp = k.maps.hyp f; row = k.rows f });
+          fits =
+              subst (λ c. Fits f c (facts_in g hs f)) (sym same)
+              (record { host = k.maps.host f; hyp = k.maps.hyp f; row = k.rows f });
         }
 
     pub guest-pages : GuestPagesFit (layout_of g.layout) (contents_in g)
     guest-pages v p = by (k.maps.guest v p)
       where
-        by : GuestFits k.condition v p (((contents_in g).guest v).tree.map p) → (((contents_in g).guest v).tree.map p ≡ Unmapped) ⊎ IsGuestPage (layout_of g.layout) v p (((contents_in g).guest v).tree.map p)
+        by : GuestFits k.condition v p (((contents_in g).guest v).tree.map p)
+            → (((contents_in g).guest v).tree.map p ≡ Unmapped)
+            ⊎ IsGuestPage (layout_of g.layout) v p (((contents_in g).guest v).tree.map p)
         by (inl e) = inl e
         by (inr x) =
-            let is : IsGood (layout_of g.layout) (guest_condition x.state v p) = subst (IsGood (layout_of g.layout)) x.named (k.of_layout.good x.frame) in
+            let is : IsGood (layout_of g.layout) (guest_condition x.state v p) =
+            subst (IsGood (layout_of g.layout)) x.named (k.of_layout.good x.frame) in
             let good = guest-good (layout_of g.layout) x.state v p is in
-            inr (record { frame = x.frame; prot = x.prot; state = x.state; leaf_is = x.leaf_is; slot = good.0; below = good.1 })
+            inr
+            (record {
+              frame = x.frame;
+              prot = x.prot;
+              state = x.state;
+              leaf_is = x.leaf_is;
+              slot = good.0;
+              below = good.1;
+            })
 
     pub hyp-below : IsHypBelow (contents_in g)
     hyp-below = k.maps.hyp_below

@@ -56,22 +56,32 @@ split-sub a p f h k = omega arith
 
 module _ (rs : List Run) (page : ℕ) (p : Place) (here : IsPlace run_pages page p rs) where
   pub entry-inside : (d : Run) → p.inside ≡ true → entry_on (get_or rs p.number d) page ≡ map_of rs page
-  entry-inside d t = sym (map_of-at rs page ∙ ap (λ o. entry_of_run o page) (at-inside run_pages rs page p here d page t (omega arith) here.above))
+  entry-inside d t =
+      sym
+      (map_of-at rs page
+      ∙ ap (λ o. entry_of_run o page) (at-inside run_pages rs page p here d page t (omega arith) here.above))
 
   module _ (c : IsCoarsest rs) where
     pub entry-outside : p.inside ≡ false → Unmapped ≡ map_of rs page
-    entry-outside t = sym (map_of-at rs page ∙ ap (λ o. entry_of_run o page) (at-outside run_pages rs page p here (runs-in-order rs c) page t (omega arith) here.above))
+    entry-outside t =
+        sym
+        (map_of-at rs page
+        ∙ ap (λ o. entry_of_run o page)
+        (at-outside run_pages rs page p here (runs-in-order rs c) page t (omega arith) here.above))
 
     pub entry-goes-on : (f : ℕ) → page ≤ f → f < p.until → map_of rs f ≡ advance (map_of rs page) (f - page)
     entry-goes-on f a b =
         map_of-at rs f ∙ ap (λ o. entry_of_run o f) (at-same run_pages rs page p here (runs-in-order rs c) f a b)
         ∙ by-found (at run_pages rs page) refl ∙ ap (λ e. advance e (f - page)) (sym (map_of-at rs page))
       where
-        by-found : (o : Option Run) → at run_pages rs page ≡ o → entry_of_run o f ≡ advance (entry_of_run o page) (f - page)
+        by-found : (o : Option Run)
+            → at run_pages rs page ≡ o
+            → entry_of_run o f ≡ advance (entry_of_run o page) (f - page)
         by-found None e = refl
         by-found (Some r) e =
             let w = within_means r.pages.first.0 r.pages.count page (at-has run_pages rs page r e) in
-            ap (advance (entry_of_target r.target)) (split-sub r.pages.first.0 page f w.0 a) ∙ sym (advance-more (entry_of_target r.target) (page - r.pages.first.0) (f - page))
+            ap (advance (entry_of_target r.target)) (split-sub r.pages.first.0 page f w.0 a)
+            ∙ sym (advance-more (entry_of_target r.target) (page - r.pages.first.0) (f - page))
 
 -- runs of rows
 
@@ -107,28 +117,43 @@ row-more r i j = ap (λ o. record { owner = r.owner; lent = o; usage = r.usage }
 
 module _ (rs : List (RunOf Row)) (page : ℕ) (p : Place) (here : IsPlace row_pages page p rs) where
   pub row-inside : (d : RunOf Row) → p.inside ≡ true → value_on advance_row (get_or rs p.number d) page ≡ row_in rs page
-  row-inside d t = sym (row_in-at rs page ∙ ap (λ o. row_of_run o page) (at-inside row_pages rs page p here d page t (omega arith) here.above))
+  row-inside d t =
+      sym
+      (row_in-at rs page
+      ∙ ap (λ o. row_of_run o page) (at-inside row_pages rs page p here d page t (omega arith) here.above))
 
   module _ (c : IsCoarsestList advance_row rs) where
     pub row-outside : p.inside ≡ false → plain_row ≡ row_in rs page
-    row-outside t = sym (row_in-at rs page ∙ ap (λ o. row_of_run o page) (at-outside row_pages rs page p here (rows-in-order rs c) page t (omega arith) here.above))
+    row-outside t =
+        sym
+        (row_in-at rs page
+        ∙ ap (λ o. row_of_run o page)
+        (at-outside row_pages rs page p here (rows-in-order rs c) page t (omega arith) here.above))
 
     pub row-goes-on : (f : ℕ) → page ≤ f → f < p.until → row_in rs f ≡ advance_row (row_in rs page) (f - page)
     row-goes-on f a b =
         row_in-at rs f ∙ ap (λ o. row_of_run o f) (at-same row_pages rs page p here (rows-in-order rs c) f a b)
         ∙ by-found (at row_pages rs page) refl ∙ ap (λ e. advance_row e (f - page)) (sym (row_in-at rs page))
       where
-        by-found : (o : Option (RunOf Row)) → at row_pages rs page ≡ o → row_of_run o f ≡ advance_row (row_of_run o page) (f - page)
+        by-found : (o : Option (RunOf Row))
+            → at row_pages rs page ≡ o
+            → row_of_run o f ≡ advance_row (row_of_run o page) (f - page)
         by-found None e = refl
         by-found (Some r) e =
             let w = within_means r.pages.first.0 r.pages.count page (at-has row_pages rs page r e) in
-            ap (advance_row r.value) (split-sub r.pages.first.0 page f w.0 a) ∙ row-more r.value (page - r.pages.first.0) (f - page)
+            ap (advance_row r.value) (split-sub r.pages.first.0 page f w.0 a)
+            ∙ row-more r.value (page - r.pages.first.0) (f - page)
 
 shorter : (o : Option Lent) (a b : ℕ) → a ≤ b → HasLentBelow o b → HasLentBelow o a
 shorter None a b h k = tt
 shorter (Some l) a b h k = omega (arith, h, k)
 
-pub row-reach : (rs : List (RunOf Row)) (page : ℕ) (p : Place) → IsPlace row_pages page p rs → AreInReach HasPageBelow rs → (d : RunOf Row) → p.inside ≡ true → HasPageBelow (get_or rs p.number d).value (page - (get_or rs p.number d).pages.first.0)
+pub row-reach : (rs : List (RunOf Row)) (page : ℕ) (p : Place)
+    → IsPlace row_pages page p rs
+    → AreInReach HasPageBelow rs
+    → (d : RunOf Row)
+    → p.inside ≡ true
+    → HasPageBelow (get_or rs p.number d).value (page - (get_or rs p.number d).pages.first.0)
 row-reach rs page p here reach d t =
     let i = here.inside t in
     let e = i.1 d in
@@ -147,20 +172,26 @@ later-more (Guest slot page state) i j = ap (λ n. Guest slot n state) (omega ar
 
 module _ (hs : List Held) (page : ℕ) (p : Place) (here : IsPlace held_frames page p hs) where
   pub held-inside : (d : Held) → p.inside ≡ true → Some (holder_on (get_or hs p.number d) page) ≡ held_at hs page
-  held-inside d t = sym (ap (λ o. holder_of o page) (at-inside held_frames hs page p here d page t (omega arith) here.above))
+  held-inside d t =
+      sym (ap (λ o. holder_of o page) (at-inside held_frames hs page p here d page t (omega arith) here.above))
 
   module _ (c : AreInOrder held_frames hs) where
     pub held-outside : p.inside ≡ false → None ≡ held_at hs page
-    held-outside t = sym (ap (λ o. holder_of o page) (at-outside held_frames hs page p here c page t (omega arith) here.above))
+    held-outside t =
+        sym (ap (λ o. holder_of o page) (at-outside held_frames hs page p here c page t (omega arith) here.above))
 
     pub held-goes-on : (f : ℕ) → page ≤ f → f < p.until → held_at hs f ≡ option_later (held_at hs page) (f - page)
-    held-goes-on f a b = ap (λ o. holder_of o f) (at-same held_frames hs page p here c f a b) ∙ by-found (at held_frames hs page) refl
+    held-goes-on f a b =
+        ap (λ o. holder_of o f) (at-same held_frames hs page p here c f a b) ∙ by-found (at held_frames hs page) refl
       where
-        by-found : (o : Option Held) → at held_frames hs page ≡ o → holder_of o f ≡ option_later (holder_of o page) (f - page)
+        by-found : (o : Option Held)
+            → at held_frames hs page ≡ o
+            → holder_of o f ≡ option_later (holder_of o page) (f - page)
         by-found None e = refl
         by-found (Some h) e =
             let w = within_means h.frames.first.0 h.frames.count page (at-has held_frames hs page h e) in
-            ap (λ n. Some (later h.holder n)) (split-sub h.frames.first.0 page f w.0 a) ∙ ap Some (later-more h.holder (page - h.frames.first.0) (f - page))
+            ap (λ n. Some (later h.holder n)) (split-sub h.frames.first.0 page f w.0 a)
+            ∙ ap Some (later-more h.holder (page - h.frames.first.0) (f - page))
 
 -- regions
 
@@ -168,21 +199,37 @@ module _ (hs : List Held) (page : ℕ) (p : Place) (here : IsPlace held_frames p
 pub all_taken : {X : Type 0} (P : X → Type 0) (xs : List X) (i : ℕ) → length xs ≤ i → All P (take i xs) → All P xs
 all_taken P [] i less h = All-nil P
 all_taken P (x ∷ xs) zero less h = absurd (omega (arith, less))
-all_taken P (x ∷ xs) (suc i) less h = All-cons P x xs (All-head P x (take i xs) h) (all_taken P xs i (omega (arith, less)) (All-tail P x (take i xs) h))
+all_taken P (x ∷ xs) (suc i) less h =
+    All-cons P x xs (All-head P x (take i xs) h) (all_taken P xs i (omega (arith, less)) (All-tail P x (take i xs) h))
 
-pub region-same : (rs : List Region) (f page : ℕ) → All (λ r. is_in_range r.pages f ≡ is_in_range r.pages page) rs → find_region rs f ≡ find_region rs page
+pub region-same : (rs : List Region) (f page : ℕ)
+    → All (λ r. is_in_range r.pages f ≡ is_in_range r.pages page) rs
+    → find_region rs f ≡ find_region rs page
 region-same [] f page h = refl
 region-same (r ∷ rs) f page h =
-    let e : is_in_range r.pages f ≡ is_in_range r.pages page = All-head (λ r. is_in_range r.pages f ≡ is_in_range r.pages page) r rs h in
+    let e : is_in_range r.pages f ≡ is_in_range r.pages page =
+    All-head (λ r. is_in_range r.pages f ≡ is_in_range r.pages page) r rs h in
     let more = region-same rs f page (All-tail (λ r. is_in_range r.pages f ≡ is_in_range r.pages page) r rs h) in
     by_test (is_in_range r.pages page)
     (λ t. rw (e ∙ t, t) refl)
     (λ t. rw (e ∙ t, t) more)
 
 -- what all parts say, part by part
-pub facts-same : (a b : Facts) → a.memory ≡ b.memory → a.host ≡ b.host → a.hyp ≡ b.hyp → a.row ≡ b.row → a.holder ≡ b.holder → a ≡ b
+pub facts-same : (a b : Facts)
+    → a.memory ≡ b.memory
+    → a.host ≡ b.host
+    → a.hyp ≡ b.hyp
+    → a.row ≡ b.row
+    → a.holder ≡ b.holder
+    → a ≡ b
 facts-same a b m h y r o = made a.memory b.memory a.host b.host a.hyp b.hyp a.row b.row a.holder b.holder m h y r o
   where
-    made : (m n : Bool) (h i : Entry) (y z : Entry) (r s : Row) (o p : Option Holder) → m ≡ n → h ≡ i → y ≡ z → r ≡ s → o ≡ p
-        → ◌≡◌ {A = Facts} (record { memory = m; host = h; hyp = y; row = r; holder = o }) (record { memory = n; host = i; hyp = z; row = s; holder = p })
+    made : (m n : Bool) (h i : Entry) (y z : Entry) (r s : Row) (o p : Option Holder)
+        → m ≡ n
+        → h ≡ i
+        → y ≡ z
+        → r ≡ s
+        → o ≡ p
+        → ◌≡◌ {A = Facts} (record { memory = m; host = h; hyp = y; row = r; holder = o })
+        (record { memory = n; host = i; hyp = z; row = s; holder = p })
     made m n h i y z r s o p a b c d e = rw (a, b, c, d, e) refl

@@ -37,9 +37,21 @@ use Rattle.ghost_legal.proofs.Counted.{counted, found-held, passes}
 
 pub all-counted : HasCounts
 all-counted g hs own p = record {
-  shared = λ f. all-shared g own f ∙ sym (sum_by-IsPermutation (λ h. one (is_in_range h.frames f && in_shared (held_in (holder_on h f)))) (all_held_in g) hs p);
-  vm = λ v f. all-vm g own f v ∙ sym (sum_by-IsPermutation (λ h. one (is_in_range h.frames f && in_vm v (held_in (holder_on h f)))) (all_held_in g) hs p);
-  hand = λ k f. all-hand g own f k ∙ sym (sum_by-IsPermutation (λ h. one (is_in_range h.frames f && in_hand k (held_in (holder_on h f)))) (all_held_in g) hs p);
+  shared =
+      λ f. all-shared g own f
+      ∙ sym
+      (sum_by-IsPermutation (λ h. one (is_in_range h.frames f && in_shared (held_in (holder_on h f))))
+      (all_held_in g) hs p);
+  vm =
+      λ v f. all-vm g own f v
+      ∙ sym
+      (sum_by-IsPermutation (λ h. one (is_in_range h.frames f && in_vm v (held_in (holder_on h f))))
+      (all_held_in g) hs p);
+  hand =
+      λ k f. all-hand g own f k
+      ∙ sym
+      (sum_by-IsPermutation (λ h. one (is_in_range h.frames f && in_hand k (held_in (holder_on h f))))
+      (all_held_in g) hs p);
 }
 
 pub all-guests : GuestsAreHeld
@@ -55,28 +67,40 @@ past-cpu [] c h = refl
 past-cpu (x ∷ ks) zero h = absurd (omega (arith, h))
 past-cpu (x ∷ ks) (suc c) h = past-cpu ks c (omega (arith, h))
 
-module _ (g : GhostLists) (hs : List Held) (o : AreInOrder held_frames hs) (guests : length g.guests.items ≡ 64) (cpus : length g.cpus.items ≡ g.layout.config.cpus)
-    (own : TreesHaveOwnBlocks (layout_of g.layout).depth g) (runs : HaveGoodRuns g.guests.items) (pages : GuestPagesFit (layout_of g.layout) (contents_in g)) (p : IsPermutation (all_held_in g) hs) where
+module _ (g : GhostLists) (hs : List Held) (o : AreInOrder held_frames hs) (guests : length g.guests.items ≡ 64)
+    (cpus : length g.cpus.items ≡ g.layout.config.cpus)
+    (own : TreesHaveOwnBlocks (layout_of g.layout).depth g) (runs : HaveGoodRuns g.guests.items)
+    (pages : GuestPagesFit (layout_of g.layout) (contents_in g)) (p : IsPermutation (all_held_in g) hs) where
   abbrev l : Layout
   l = layout_of g.layout
 
   abbrev a : AreCounted g hs
   a = all-counted g hs own p
 
-  once : (test : Condition → Bool) (f : ℕ) (h : Holder) → held_at hs f ≡ Some h → test (held_in h) ≡ true → held_count (λ h. test (held_in h)) f hs ≡ 1
-  once test f h e t = counted (λ h. test (held_in h)) f hs o ∙ ap (λ x. one (passes (λ h. test (held_in h)) x)) e ∙ ap one t
+  once : (test : Condition → Bool) (f : ℕ) (h : Holder)
+      → held_at hs f ≡ Some h
+      → test (held_in h) ≡ true
+      → held_count (λ h. test (held_in h)) f hs ≡ 1
+  once test f h e t =
+      counted (λ h. test (held_in h)) f hs o ∙ ap (λ x. one (passes (λ h. test (held_in h)) x)) e ∙ ap one t
 
   vm-low : (v f : ℕ) → guest_uses l.depth ((contents_in g).guest v) f ≡ 1 → v < 64
   vm-low v f e = by_lt v 64 (λ x. x) (λ x.
-      let none : guest_uses l.depth ((contents_in g).guest v) f ≡ 0 = ap (λ (y : GuestOf). guest_uses l.depth y f) (past-guest g.guests.items v (omega (arith, x, guests))) ∙ no-uses l.depth f v in
+      let none : guest_uses l.depth ((contents_in g).guest v) f ≡ 0 =
+      ap (λ (y : GuestOf). guest_uses l.depth y f) (past-guest g.guests.items v (omega (arith, x, guests)))
+      ∙ no-uses l.depth f v in
       absurd (omega (arith, e, none)))
 
   hand-low : (c f : ℕ) → one (is_in_hand ((contents_in g).cpu c).hand f) ≡ 1 → c < l.config.cpus
   hand-low c f e = by_lt c l.config.cpus (λ x. x) (λ x.
-      let none : one (is_in_hand ((contents_in g).cpu c).hand f) ≡ 0 = ap (λ (y : Cpu). one (is_in_hand y.hand f)) (past-cpu g.cpus.items c (omega (arith, x, cpus))) in
+      let none : one (is_in_hand ((contents_in g).cpu c).hand f) ≡ 0 =
+      ap (λ (y : Cpu). one (is_in_hand y.hand f)) (past-cpu g.cpus.items c (omega (arith, x, cpus))) in
       absurd (omega (arith, e, none)))
 
-  table-good : (f u : ℕ) (h : Holder) → held_in h ≡ hyps (table_use u) → held_at hs f ≡ Some h → IsGood l (hyps (table_use u))
+  table-good : (f u : ℕ) (h : Holder)
+      → held_in h ≡ hyps (table_use u)
+      → held_at hs f ≡ Some h
+      → IsGood l (hyps (table_use u))
   table-good f zero h i e = tt
   table-good f (suc zero) h i e = tt
   table-good f (suc (suc v)) h i e = vm-low v f (a.vm v f ∙ once (in_vm v) f h e (ap (in_vm v) i ∙ eq-self v))
@@ -96,7 +120,8 @@ module _ (g : GhostLists) (hs : List Held) (o : AreInOrder held_frames hs) (gues
       mapped : IsMemoryLeaf f s (((contents_in g).guest v).tree.map q)
       mapped = (all-guests g hs runs p v q f s).1 (found-held hs (Guest v q s) f e)
 
-      low : (((contents_in g).guest v).tree.map q ≡ Unmapped) ⊎ IsGuestPage l v q (((contents_in g).guest v).tree.map q) → (v < 64) × (q < pages_below l.depth)
+      low : (((contents_in g).guest v).tree.map q ≡ Unmapped) ⊎ IsGuestPage l v q (((contents_in g).guest v).tree.map q)
+          → (v < 64) × (q < pages_below l.depth)
       low (inl u) = let bad : leaf mapped.0 f s ≡ Unmapped = sym mapped.1 ∙ u in absurd (cc)
       low (inr k) = (k.slot, k.below)
 

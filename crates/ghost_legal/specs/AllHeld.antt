@@ -30,17 +30,26 @@ IsHeldIn hs holder f = Any (λ h. (is_in_range h.frames f ≡ true) × (holder_o
 
 -- pieces have each frame as often as the parts of a state hold it
 pub record AreCounted (g : GhostLists) (hs : List Held) : Type 0 where
-  pub shared : (f : ℕ) → shared_uses (layout_of g.layout).depth (contents_in g).shared f ≡ held_count (λ h. in_shared (held_in h)) f hs
-  pub vm : (v f : ℕ) → guest_uses (layout_of g.layout).depth ((contents_in g).guest v) f ≡ held_count (λ h. in_vm v (held_in h)) f hs
-  pub hand : (c f : ℕ) → one (is_in_hand ((contents_in g).cpu c).hand f) ≡ held_count (λ h. in_hand c (held_in h)) f hs
+  pub shared : (f : ℕ)
+      → shared_uses (layout_of g.layout).depth (contents_in g).shared f
+      ≡ held_count (λ h. in_shared (held_in h)) f hs
+  pub vm : (v f : ℕ)
+      → guest_uses (layout_of g.layout).depth ((contents_in g).guest v) f
+      ≡ held_count (λ h. in_vm v (held_in h)) f hs
+  pub hand : (c f : ℕ)
+      → one (is_in_hand ((contents_in g).cpu c).hand f)
+      ≡ held_count (λ h. in_hand c (held_in h)) f hs
 
 -- pieces are all that the parts of a state hold
 pub record AreAllHeld (g : GhostLists) (hs : List Held) : Type 0 where
   pub counted : AreCounted g hs
-  pub guest : (v page f : ℕ) (state : State) → IsMemoryLeaf f state (((contents_in g).guest v).tree.map page) ↔ IsHeldIn hs (Guest v page state) f
+  pub guest : (v page f : ℕ) (state : State)
+      → IsMemoryLeaf f state (((contents_in g).guest v).tree.map page)
+      ↔ IsHeldIn hs (Guest v page state) f
   pub good : (f : ℕ) (h : Holder) → held_at hs f ≡ Some h → IsGood (layout_of g.layout) (held_in h)
 
--- a guest's page is Unmapped or a leaf of memory, of one of the 64 guests, and one of the input pages
+-- a guest's page is Unmapped or a leaf of memory, of one of the 64 guests, and one of the input
+-- pages
 pub record IsGuestPage (l : Layout) (v page : ℕ) (e : Entry) : Type 0 where
   pub frame : ℕ
   pub prot : Prot
@@ -50,7 +59,9 @@ pub record IsGuestPage (l : Layout) (v page : ℕ) (e : Entry) : Type 0 where
   pub below : page < pages_below l.depth
 
 abbrev pub GuestPagesFit : Layout → Contents → Type 0
-GuestPagesFit l s = (v page : ℕ) → ((s.guest v).tree.map page ≡ Unmapped) ⊎ IsGuestPage l v page ((s.guest v).tree.map page)
+GuestPagesFit l s =
+    (v page : ℕ)
+    → ((s.guest v).tree.map page ≡ Unmapped) ⊎ IsGuestPage l v page ((s.guest v).tree.map page)
 
 -- the hypervisor maps nothing below the pages of frames
 abbrev pub IsHypBelow : Contents → Type 0

@@ -9,7 +9,8 @@ use Rattle.ghost_spec.specs.declared.parts.GhostGuest.{GhostGuest}
 -- each table's block is one of the tree, and no later table has it
 abbrev pub HasOwnBlocks : ℕ → List Table → Type 0
 HasOwnBlocks depth [] = Unit {0}
-HasOwnBlocks depth (t ∷ ts) = IsInTree depth t.block × (table_of ts t.block ≡ None) × HasOwnBlocks depth ts
+HasOwnBlocks depth (t ∷ ts) =
+    IsInTree depth t.block × (table_of ts t.block ≡ None) × HasOwnBlocks depth ts
 
 -- each guest's tables have
 abbrev pub HaveOwnBlocks : ℕ → List GhostGuest → Type 0

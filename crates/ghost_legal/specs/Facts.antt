@@ -38,11 +38,13 @@ held_in (Guest slot page state) = guest_condition state slot page
 
 -- the condition of a memory frame that nothing else has, by its row
 abbrev pub unheld_in : Row → Condition
-unheld_in r = if r.owner.0 == 1 then hyps Plain else elim r.lent [ Some l ↦ with_hyp | None ↦ hosts ]
+unheld_in r =
+    if r.owner.0 == 1 then hyps Plain else elim r.lent [ Some l ↦ with_hyp | None ↦ hosts ]
 
 -- the one condition that a frame can be in
 abbrev pub condition_by : Facts → Condition
-condition_by x = elim x.holder [ Some h ↦ held_in h | None ↦ if x.memory then unheld_in x.row else outside ]
+condition_by x =
+    elim x.holder [ Some h ↦ held_in h | None ↦ if x.memory then unheld_in x.row else outside ]
 
 -- what the parts say of a frame is the condition
 pub record Fits (f : ℕ) (c : Condition) (x : Facts) : Type 0 where
@@ -75,7 +77,14 @@ option_later (Some h) n = Some (later h n)
 
 -- what the parts say some frames further on, as they go on
 abbrev pub facts_later : Facts → ℕ → Facts
-facts_later x n = record { memory = x.memory; host = advance x.host n; hyp = advance x.hyp n; row = advance_row x.row n; holder = option_later x.holder n }
+facts_later x n =
+    record {
+      memory = x.memory;
+      host = advance x.host n;
+      hyp = advance x.hyp n;
+      row = advance_row x.row n;
+      holder = option_later x.holder n;
+    }
 
 -- the slot of a condition, where it names one, is one of the 64
 abbrev pub IsLowCondition : ConditionOf → Type 0

@@ -40,15 +40,18 @@ pub record FitsTables (g : GhostLists) : Type 0 where
 
 -- the tables of each guest are at blocks of its tree
 abbrev pub AreGuestTablesInside : GhostLists → Type 0
-AreGuestTablesInside g = All (λ x. AreInside (layout_of g.layout).depth x.tree.tables.items) g.guests.items
+AreGuestTablesInside g =
+    All (λ x. AreInside (layout_of g.layout).depth x.tree.tables.items) g.guests.items
 
 -- the runs of guests map leaves of memory, below the input pages
 abbrev pub HaveFittingPages : GhostLists → Type 0
-HaveFittingPages g = HaveGoodRuns g.guests.items × GuestPagesFit (layout_of g.layout) (contents_in g)
+HaveFittingPages g =
+    HaveGoodRuns g.guests.items × GuestPagesFit (layout_of g.layout) (contents_in g)
 
 -- the trees of guests are the coarsest of their maps
 abbrev pub AreGuestsCoarsest : GhostLists → Type 0
-AreGuestsCoarsest g = All (λ x. IsCoarsest (layout_of g.layout).depth (tree_in_lists x.tree)) g.guests.items
+AreGuestsCoarsest g =
+    All (λ x. IsCoarsest (layout_of g.layout).depth (tree_in_lists x.tree)) g.guests.items
 
 -- guests' pages are leaves of memory, and the hypervisor maps nothing below the pages of frames
 pub record FitsPages (g : GhostLists) : Type 0 where
@@ -92,7 +95,8 @@ pub record IsTwice (g : GhostLists) (f : ℕ) (one other : Holder) : Type 0 wher
   pub holder : first.holder ≡ one
   pub holder_too : second.holder ≡ other
 
--- what all parts say of the frame, where each frame is held once at most, is no condition, and of each frame before it is one
+-- what all parts say of the frame, where each frame is held once at most, is no condition, and of
+-- each frame before it is one
 pub record IsUnfit (g : GhostLists) (f : ℕ) (x : Facts) : Type 0 where
   pub held : List Held
   pub all : IsPermutation (all_held_in g) held
@@ -105,15 +109,26 @@ pub record IsUnfit (g : GhostLists) (f : ℕ) (x : Facts) : Type 0 where
 abbrev pub IsIllegalButForTrees : GhostLists → Illegal → Type 0
 IsIllegalButForTrees g (Slots x) = IsSlotFault (contents_in g) x
 IsIllegalButForTrees g (Guest v) = SlotsFit (contents_in g) × IsGuestFault g v
-IsIllegalButForTrees g (Outside at) = FitsParts g × IsOutside (layout_of g.layout).depth (tree_at (contents_in g) at.tree).table at.block
-IsIllegalButForTrees g (GuestPage v p) = FitsTables g × IsPageFault (layout_of g.layout) v p (((contents_in g).guest v).tree.map p)
-IsIllegalButForTrees g (HypPage p) = FitsTables g × GuestPagesFit (layout_of g.layout) (contents_in g) × (p < hyp_page 0) × ((contents_in g).shared.hyp.map p ≡ Unmapped → ⊥)
+IsIllegalButForTrees g (Outside at) =
+    FitsParts g
+    × IsOutside (layout_of g.layout).depth (tree_at (contents_in g) at.tree).table at.block
+IsIllegalButForTrees g (GuestPage v p) =
+    FitsTables g × IsPageFault (layout_of g.layout) v p (((contents_in g).guest v).tree.map p)
+IsIllegalButForTrees g (HypPage p) =
+    FitsTables g
+    × GuestPagesFit (layout_of g.layout) (contents_in g)
+    × (p < hyp_page 0)
+    × ((contents_in g).shared.hyp.map p ≡ Unmapped → ⊥)
 IsIllegalButForTrees g (FarFrame f h) = FitsPages g × IsFar g f h
-IsIllegalButForTrees g (HeldTwice f one other) = FitsPages g × All IsSmallHeld (all_held_in g) × IsTwice g f one other
+IsIllegalButForTrees g (HeldTwice f one other) =
+    FitsPages g × All IsSmallHeld (all_held_in g) × IsTwice g f one other
 IsIllegalButForTrees g (Frame f x) = FitsPages g × IsUnfit g f x
 IsIllegalButForTrees g (Tree t m) = ⊥
 
 -- why a state isn't legal
 abbrev pub IsIllegal : GhostLists → Illegal → Type 0
-IsIllegal g (Tree t m) = FitsPages g × AreFramesLegal (layout_of g.layout) (contents_in g) × IsMisfit (layout_of g.layout).depth (tree_at (contents_in g) t) m
+IsIllegal g (Tree t m) =
+    FitsPages g
+    × AreFramesLegal (layout_of g.layout) (contents_in g)
+    × IsMisfit (layout_of g.layout).depth (tree_at (contents_in g) t) m
 IsIllegal g other = IsIllegalButForTrees g other

@@ -21,24 +21,60 @@ use Rattle.ghost_legal.specs.Ranges.{AreInOrder}
 
 -- where each frame is in its one condition, all frames are legal
 abbrev pub FramesAreLegal : Type 0
-FramesAreLegal = (g : GhostLists) (hs : List Held) → AreInOrder held_frames hs → AreAllHeld g hs → ((f : ℕ) → IsCondition f (facts_in g hs f)) → GuestPagesFit (layout_of g.layout) (contents_in g) → IsHypBelow (contents_in g) → AreFramesLegal (layout_of g.layout) (contents_in g)
+FramesAreLegal =
+    (g : GhostLists) (hs : List Held)
+    → AreInOrder held_frames hs
+    → AreAllHeld g hs
+    → ((f : ℕ) → IsCondition f (facts_in g hs f))
+    → GuestPagesFit (layout_of g.layout) (contents_in g)
+    → IsHypBelow (contents_in g)
+    → AreFramesLegal (layout_of g.layout) (contents_in g)
 
--- where all frames are legal each is in its one condition, guests map leaves of memory, and the hypervisor nothing below
+-- where all frames are legal each is in its one condition, guests map leaves of memory, and the
+-- hypervisor nothing below
 abbrev pub LegalFrames : Type 0
-LegalFrames = (g : GhostLists) (hs : List Held) → AreInOrder held_frames hs → AreAllHeld g hs → AreFramesLegal (layout_of g.layout) (contents_in g) → ((f : ℕ) → IsCondition f (facts_in g hs f)) × GuestPagesFit (layout_of g.layout) (contents_in g) × IsHypBelow (contents_in g)
+LegalFrames =
+    (g : GhostLists) (hs : List Held)
+    → AreInOrder held_frames hs
+    → AreAllHeld g hs
+    → AreFramesLegal (layout_of g.layout) (contents_in g)
+    → ((f : ℕ) → IsCondition f (facts_in g hs f))
+    × GuestPagesFit (layout_of g.layout) (contents_in g)
+    × IsHypBelow (contents_in g)
 
 -- a permutation of all that is held has each frame as often as the parts hold it
 abbrev pub HasCounts : Type 0
-HasCounts = (g : GhostLists) (hs : List Held) → TreesHaveOwnBlocks (layout_of g.layout).depth g → IsPermutation (all_held_in g) hs → AreCounted g hs
+HasCounts =
+    (g : GhostLists) (hs : List Held)
+    → TreesHaveOwnBlocks (layout_of g.layout).depth g
+    → IsPermutation (all_held_in g) hs
+    → AreCounted g hs
 
 -- a permutation of all that is held has a frame for a guest just where the guest maps it so
 abbrev pub GuestsAreHeld : Type 0
-GuestsAreHeld = (g : GhostLists) (hs : List Held) → HaveGoodRuns g.guests.items → IsPermutation (all_held_in g) hs → (v page f : ℕ) (state : State) → IsMemoryLeaf f state (((contents_in g).guest v).tree.map page) ↔ IsHeldIn hs (Guest v page state) f
+GuestsAreHeld =
+    (g : GhostLists) (hs : List Held)
+    → HaveGoodRuns g.guests.items
+    → IsPermutation (all_held_in g) hs
+    → (v page f : ℕ) (state : State)
+    → IsMemoryLeaf f state (((contents_in g).guest v).tree.map page)
+    ↔ IsHeldIn hs (Guest v page state) f
 
 -- where each guest is Empty and has nothing, or has a root, all guests fit
 abbrev pub WholeGuestsFit : Type 0
-WholeGuestsFit = (g : GhostLists) → All (IsWhole (layout_of g.layout).depth) g.guests.items → GuestsFit (layout_of g.layout) (contents_in g)
+WholeGuestsFit =
+    (g : GhostLists)
+    → All (IsWhole (layout_of g.layout).depth) g.guests.items
+    → GuestsFit (layout_of g.layout) (contents_in g)
 
 -- the fault of a state isn't there in a legal one
 abbrev pub NoFalseAlarm : Type 0
-NoFalseAlarm = (g : GhostLists) → IsKept g → TreesHaveFirstBlocks g → IsAccepted g.layout.map → (x : Illegal) → IsIllegal g x → Legal (layout_of g.layout) (contents_in g) → ⊥
+NoFalseAlarm =
+    (g : GhostLists)
+    → IsKept g
+    → TreesHaveFirstBlocks g
+    → IsAccepted g.layout.map
+    → (x : Illegal)
+    → IsIllegal g x
+    → Legal (layout_of g.layout) (contents_in g)
+    → ⊥

@@ -27,7 +27,12 @@ tables_held tree ts = map (λ t. piece t.frame (Table (record { tree = tree; blo
 
 -- what a guest's run has
 abbrev pub target_held : ℕ → PageRange → Target → Option Held
-target_held slot pages (Leaf frame prot kind state) = Some (record { frames = record { first = record { 0 = frame.0 }; count = pages.count }; holder = Guest slot pages.first.0 state })
+target_held slot pages (Leaf frame prot kind state) =
+    Some
+    (record {
+      frames = record { first = record { 0 = frame.0 }; count = pages.count };
+      holder = Guest slot pages.first.0 state;
+    })
 target_held slot pages other = None
 
 abbrev pub mapped_of : ℕ → Run → Option Held
@@ -44,7 +49,9 @@ runs_held slot (r ∷ rs) = option_list (mapped_of slot r) ++ runs_held slot rs
 
 -- what a guest holds
 abbrev pub guest_held : ℕ → GhostGuest → List Held
-guest_held v g = tables_held (2 + v) g.tree.tables.items ++ (free_held (VmPool v) g.free.items ++ runs_held v g.tree.runs.items)
+guest_held v g =
+    tables_held (2 + v) g.tree.tables.items
+    ++ (free_held (VmPool v) g.free.items ++ runs_held v g.tree.runs.items)
 
 -- what guests hold, by slot from a number on
 abbrev pub guests_held : ℕ → List GhostGuest → List Held
@@ -63,7 +70,9 @@ hands_held from (k ∷ ks) = hand_held from k.hand ++ hands_held (suc from) ks
 
 -- what the Shared part holds
 abbrev pub shared_held : Shared → List Held
-shared_held s = tables_held 0 s.host.tables.items ++ (tables_held 1 s.hyp.tables.items ++ free_held SharedPool s.free.items)
+shared_held s =
+    tables_held 0 s.host.tables.items
+    ++ (tables_held 1 s.hyp.tables.items ++ free_held SharedPool s.free.items)
 
 -- all
 abbrev pub all_held_in : GhostLists → List Held

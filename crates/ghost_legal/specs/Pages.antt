@@ -29,7 +29,8 @@ AreNormal (r ∷ rs) = IsNormal r.target × AreNormal rs
 -- the runs of each guest are the coarsest, and map leaves of memory
 abbrev pub HaveGoodRuns : List GhostGuest → Type 0
 HaveGoodRuns [] = Unit {0}
-HaveGoodRuns (g ∷ gs) = (IsCoarsest g.tree.runs.items × AreNormal g.tree.runs.items) × HaveGoodRuns gs
+HaveGoodRuns (g ∷ gs) =
+    (IsCoarsest g.tree.runs.items × AreNormal g.tree.runs.items) × HaveGoodRuns gs
 
 -- a run's pages are leaves of memory, below a page
 abbrev pub IsGoodRun : ℕ → Run → Type 0

@@ -39,5 +39,9 @@ module _ {T : Type 0} (range : T → PageRange) where
   pub record IsPlace (page : ℕ) (p : Place) (xs : List T) : Type 0 where
     pub near : IsNear page p.number xs
     pub above : page < p.until
-    pub inside : p.inside ≡ true → (p.number < length xs) × ((d : T) → ((range (get_or xs p.number d)).first.0 ≤ page) × (p.until ≡ end_of (range (get_or xs p.number d))))
+    pub inside : p.inside ≡ true
+        → (p.number < length xs)
+        × ((d : T)
+        → ((range (get_or xs p.number d)).first.0 ≤ page)
+        × (p.until ≡ end_of (range (get_or xs p.number d))))
     pub outside : p.inside ≡ false → BeginsFrom p.until (drop p.number xs)

@@ -21,7 +21,8 @@ abbrev pub IsIllegalBy : Bool → GhostLists → Illegal → Type 0
 IsIllegalBy true g x = IsIllegal g x
 IsIllegalBy false g x = IsIllegalButForTrees g x
 
--- why contents aren't legal: some lists say them, with each tree's tables at other blocks, and it is told of these
+-- why contents aren't legal: some lists say them, with each tree's tables at other blocks, and it
+-- is told of these
 pub record IsToldOf (trees : Bool) (l : Layout) (s : Contents) (x : Illegal) : Type 0 where
   pub lists : GhostLists
   pub kept : IsKept lists

@@ -136,7 +136,12 @@ fn hyp_says(frame: u64, condition: Condition) -> Entry
 
 /// The row of a frame that the host owns, lent to the component of a number at its page.
 fn lent_row(number: u64, page: u64) -> Row
-    ensures { result ≡ record { owner = record { 0 = 0 }; lent = Some (record { owner = record { 0 = number }; page = page }); usage = Plain } }
+    ensures { result
+        ≡ record {
+          owner = record { 0 = 0 };
+          lent = Some (record { owner = record { 0 = number }; page = page });
+          usage = Plain;
+        } }
 {
     Row {
         owner: Owner(0),

@@ -156,7 +156,11 @@ fn until(state: &GhostLists, held: &[Held], places: Places, frame: u64) -> u64
     requires places { ArePlaces frame places state.now.shared held.now }
     ensures above { frame < result }
     ensures below { result ≤ 2 ^ 63 }
-    ensures goes_on { (f : ℕ) → frame ≤ f → f < result → facts_in state.now held.now f ≡ facts_later (facts_in state.now held.now frame) (f - frame) }
+    ensures goes_on { (f : ℕ)
+        → frame ≤ f
+        → f < result
+        → facts_in state.now held.now f
+        ≡ facts_later (facts_in state.now held.now frame) (f - frame) }
 {
     let _rows = state.shared.rows.runs();
     let most = places
@@ -173,7 +177,8 @@ fn until(state: &GhostLists, held: &[Held], places: Places, frame: u64) -> u64
 pub(crate) fn first_frame(state: &GhostLists, held: &[Held]) -> Option<(u64, Facts)>
     requires kept { IsKeptShared state.now.shared }
     requires held { IsHeldList held.now }
-    ensures { MatchOption result ((f : ℕ) → IsCondition f (facts_in state.now held.now f)) (IsFrameFault state.now held.now) }
+    ensures { MatchOption result ((f : ℕ) → IsCondition f (facts_in state.now held.now f))
+        (IsFrameFault state.now held.now) }
 {
     let _regions = state.layout.map.regions();
     let mut places = Places::FIRST;

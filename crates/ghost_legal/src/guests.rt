@@ -91,7 +91,8 @@ fn bad_page(run: Run, pages: u64) -> Option<u64>
 fn first_run(runs: &[Run], pages: u64) -> Option<u64>
     requires small { AreSmall runs.now }
     requires coarsest { IsCoarsest runs.now }
-    ensures { MatchOption result (All (IsGoodRun pages) runs.now) (λ p. IsBadEntry pages p (map_of runs.now p)) }
+    ensures { MatchOption result (All (IsGoodRun pages) runs.now)
+        (λ p. IsBadEntry pages p (map_of runs.now p)) }
 {
     for i in 0..runs.len() {
         if let Some(page) = bad_page(runs[i], pages) {
@@ -121,7 +122,8 @@ pub(crate) fn first_guest_page(state: &GhostLists) -> Option<Illegal>
 /// The first page that runs map, where it is below a page.
 fn mapped_below(runs: &[Run], low: u64) -> Option<u64>
     requires { IsCoarsest runs.now }
-    ensures { MatchOption result ((p : ℕ) → p < low → map_of runs.now p ≡ Unmapped) (λ p. (p < low) × (map_of runs.now p ≡ Unmapped → ⊥)) }
+    ensures { MatchOption result ((p : ℕ) → p < low → map_of runs.now p ≡ Unmapped)
+        (λ p. (p < low) × (map_of runs.now p ≡ Unmapped → ⊥)) }
 {
     if runs.len() == 0 {
         return None;

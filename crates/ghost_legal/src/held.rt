@@ -213,7 +213,8 @@ fn is_small(held: Held) -> bool
 
 /// The first piece whose numbers aren't small.
 pub(crate) fn first_far(held: &[Held]) -> Option<Held>
-    ensures { MatchOption result (All IsSmallHeld held.now) (λ h. Contains held.now h × (IsSmallHeld h → ⊥)) }
+    ensures { MatchOption result (All IsSmallHeld held.now)
+        (λ h. Contains held.now h × (IsSmallHeld h → ⊥)) }
 {
     for i in 0..held.len() {
         if !is_small(held[i]) {

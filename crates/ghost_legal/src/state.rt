@@ -74,7 +74,8 @@ fn first_unfit(state: &GhostLists, held: &[Held]) -> Option<Illegal>
     requires pages { FitsPages state.now }
     requires all { IsPermutation (all_held_in state.now) held.now }
     requires once { IsHeldList held.now }
-    ensures { MatchOption result (AreFramesLegal (layout_of state.now.layout) (contents_in state.now)) (IsIllegalButForTrees state.now) }
+    ensures { MatchOption result (AreFramesLegal (layout_of state.now.layout) (contents_in state.now))
+        (IsIllegalButForTrees state.now) }
 {
     match first_frame(state, held) {
         Some((frame, facts)) => Some(Illegal::Frame { frame, facts }),
@@ -89,7 +90,8 @@ fn first_of(state: &GhostLists, held: &[Held]) -> Option<Illegal>
     requires pages { FitsPages state.now }
     requires all { IsPermutation (all_held_in state.now) held.now }
     requires rise { IsNonDecreasingBy (λ h. h.frames.first.0) held.now }
-    ensures { MatchOption result (AreFramesLegal (layout_of state.now.layout) (contents_in state.now)) (IsIllegalButForTrees state.now) }
+    ensures { MatchOption result (AreFramesLegal (layout_of state.now.layout) (contents_in state.now))
+        (IsIllegalButForTrees state.now) }
 {
     if let Some(far) = first_far(held) {
         return Some(far_frame(far));
@@ -105,7 +107,10 @@ fn first_held(alloc: Global, state: &GhostLists) -> Result<Option<Illegal>, Allo
     requires kept { IsKept state.now }
     requires tables { TreesHaveFirstBlocks state.now }
     requires pages { FitsPages state.now }
-    ensures { IfOk result (λ o. MatchOption o (AreFramesLegal (layout_of state.now.layout) (contents_in state.now)) (IsIllegalButForTrees state.now)) }
+    ensures { IfOk result
+        (λ o. MatchOption o
+        (AreFramesLegal (layout_of state.now.layout) (contents_in state.now))
+        (IsIllegalButForTrees state.now)) }
 {
     let held = held_in_order(alloc, state)?;
     Ok(first_of(state, held.as_slice()))
@@ -134,7 +139,9 @@ pub fn illegal_but_for_trees(
 ) -> Result<Option<Illegal>, AllocError>
     requires kept { IsKept state.now }
     requires tables { TreesHaveFirstBlocks state.now }
-    ensures legal { IfOk result (λ o. (o ≡ None) ↔ IsLegalButForTrees (layout_of state.now.layout) (contents_in state.now)) }
+    ensures legal { IfOk result
+        (λ o. (o ≡ None)
+        ↔ IsLegalButForTrees (layout_of state.now.layout) (contents_in state.now)) }
     ensures told { IfOk result (λ o. IfSome o (IsIllegalButForTrees state.now)) }
 {
     let _regions = state.layout.map.regions();

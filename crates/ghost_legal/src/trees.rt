@@ -75,7 +75,9 @@ pub(crate) fn first_tree(alloc: Global, state: &GhostLists) -> Result<Option<Ill
     requires kept { IsKept state.now }
     requires pages { FitsPages state.now }
     requires frames { AreFramesLegal (layout_of state.now.layout) (contents_in state.now) }
-    ensures { IfOk result (λ o. MatchOption o (AreCoarsest (layout_of state.now.layout) (contents_in state.now)) (IsIllegal state.now)) }
+    ensures { IfOk result
+        (λ o. MatchOption o (AreCoarsest (layout_of state.now.layout) (contents_in state.now))
+        (IsIllegal state.now)) }
 {
     let depth = depth_of(state);
     if let Some(misfit) = first_misfit(alloc, &state.shared.host, depth)? {

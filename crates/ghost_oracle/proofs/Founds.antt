@@ -17,15 +17,23 @@ use Rattle.ghost_oracle.specs.Found.{found_state, with_row}
 use Rattle.ghost_oracle.proofs.Reached.{state_same}
 
 -- what a list gives at a place, or else the blank
-pub placed : {P X : Type 0} (blank : X) (f : P → X) (xs : List P) (v : ℕ) → get_or (map f xs) v blank ≡ at_place blank f (slice_get xs v)
+pub placed : {P X : Type 0} (blank : X) (f : P → X) (xs : List P) (v : ℕ)
+    → get_or (map f xs) v blank ≡ at_place blank f (slice_get xs v)
 placed blank f [] v = refl
 placed blank f (x ∷ xs) zero = refl
 placed blank f (x ∷ xs) (suc v) = placed blank f xs v
 
 -- the items at one place, where what two lists give is the same everywhere
-pub held_at : {X Y Z : Type 0} (f : X → Z) (blank : Z) (g : Y → Z) (xs : List X) (ys : List Y) (i : ℕ) (x : X) (y : Y) → ◌≡◌ {A = ℕ → Z} (λ v. get_or (map f xs) v blank) (λ v. at_place blank g (slice_get ys v)) → i < length xs → i < length ys → x ≡ get_or xs i x → y ≡ get_or ys i y → f x ≡ g y
+pub held_at : {X Y Z : Type 0} (f : X → Z) (blank : Z) (g : Y → Z) (xs : List X) (ys : List Y) (i : ℕ) (x : X) (y : Y)
+    → ◌≡◌ {A = ℕ → Z} (λ v. get_or (map f xs) v blank) (λ v. at_place blank g (slice_get ys v))
+    → i < length xs
+    → i < length ys
+    → x ≡ get_or xs i x
+    → y ≡ get_or ys i y
+    → f x ≡ g y
 held_at f blank g xs ys i x y same less within first second =
-    ap f first ∙ sym (get_or-map f xs i x blank less) ∙ ap (λ (h : ℕ → _). h i) same ∙ sym (placed blank g ys i) ∙ get_or-map g ys i y blank within ∙ ap g (sym second)
+    ap f first ∙ sym (get_or-map f xs i x blank less) ∙ ap (λ (h : ℕ → _). h i) same ∙ sym (placed blank g ys i)
+    ∙ get_or-map g ys i y blank within ∙ ap g (sym second)
 
 -- a log's room is what its calls leave
 left : (most : ℕ) (log : StoredCalls) → IsOfSize most log → log.room ≡ most - length log.calls
@@ -37,7 +45,9 @@ full_room most room log h k = sym k ∙ left most log h
 none_left : (n : ℕ) → n ≡ n - 0
 none_left n = omega arith
 
-placed_room : {P : Type 0} (log : P → StoredCalls) (most : ℕ) (xs : List P) (v : ℕ) → All (λ p. IsOfSize most (log p)) xs → get_or (map (λ p. (log p).room) xs) v most ≡ most - length (at_place [] (λ p. (log p).calls) (slice_get xs v))
+placed_room : {P : Type 0} (log : P → StoredCalls) (most : ℕ) (xs : List P) (v : ℕ)
+    → All (λ p. IsOfSize most (log p)) xs
+    → get_or (map (λ p. (log p).room) xs) v most ≡ most - length (at_place [] (λ p. (log p).calls) (slice_get xs v))
 placed_room log most [] v h = none_left most
 placed_room log most (x ∷ xs) zero h = left most (log x) (h 0 x (omega arith))
 placed_room log most (x ∷ xs) (suc v) h = placed_room log most xs v (λ k d less. h (suc k) d (omega arith))
@@ -65,11 +75,18 @@ module _ {A : Type 0} (p : Parts A) (g : GhostLists) (row : ℕ → Row) where
       (λ c. ap (λ (ks : List Cpu). get_or ks c no_cpu) h.cpus ∙ placed no_cpu cpu_of p.cpus.items c)
       (full_room p.layout.config.log g.rooms.vms p.vms.log p.vm_log h.vms_room)
       (full_room p.layout.config.log g.rooms.shared p.shared.log p.shared_log h.shared_room)
-      (λ v. ap (λ (rs : List ℕ). get_or rs v g.layout.config.log) h.guest_rooms ∙ ap (λ n. get_or (map (λ x. x.log.room) p.guests.items) v n) log ∙ placed_room (λ x. x.log) p.layout.config.log p.guests.items v p.guest_logs)
-      (λ c. ap (λ (rs : List ℕ). get_or rs c g.layout.config.log) h.cpu_rooms ∙ ap (λ n. get_or (map (λ k. k.log.room) p.cpus.items) c n) log ∙ placed_room (λ k. k.log) p.layout.config.log p.cpus.items c p.own_logs)
+      (λ v. ap (λ (rs : List ℕ). get_or rs v g.layout.config.log) h.guest_rooms
+      ∙ ap (λ n. get_or (map (λ x. x.log.room) p.guests.items) v n) log
+      ∙ placed_room (λ x. x.log) p.layout.config.log p.guests.items v p.guest_logs)
+      (λ c. ap (λ (rs : List ℕ). get_or rs c g.layout.config.log) h.cpu_rooms
+      ∙ ap (λ n. get_or (map (λ k. k.log.room) p.cpus.items) c n) log
+      ∙ placed_room (λ k. k.log) p.layout.config.log p.cpus.items c p.own_logs)
 
 -- lists that give the same are as long
-pub as_long : {P Q X : Type 0} (f : P → X) (g : Q → X) (xs : List P) (ys : List Q) (n : ℕ) → map f xs ≡ map g ys → length ys ≡ n → length xs ≡ n
+pub as_long : {P Q X : Type 0} (f : P → X) (g : Q → X) (xs : List P) (ys : List Q) (n : ℕ)
+    → map f xs ≡ map g ys
+    → length ys ≡ n
+    → length xs ≡ n
 as_long f g xs ys n h k = sym (length-map xs f) ∙ ap length h ∙ length-map ys g ∙ k
 
 -- a Shared part that is another but for its rows is that one with its own rows

@@ -10,10 +10,14 @@ module _ {X Z : Type 0} (g : X → Z) (xs : List X) (i : ℕ) (x : X) (less : i 
   pub given_next : (zs : List Z) (z : Z) → zs ≡ map g (take i xs) → z ≡ g x → zs ++ z ∷ [] ≡ map g (take (i + 1) xs)
   given_next zs z same one =
       let next : i + 1 ≡ suc i = omega arith in
-      same2 (λ (ys : List Z) (y : Z). ys ++ y ∷ []) same (one ∙ ap g at) ∙ sym (map_push g (take i xs) (get_or xs i x)) ∙ ap (map g) (sym (take-suc xs i x less)) ∙ ap (λ (n : ℕ). map g (take n xs)) (sym next)
+      same2 (λ (ys : List Z) (y : Z). ys ++ y ∷ []) same (one ∙ ap g at) ∙ sym (map_push g (take i xs) (get_or xs i x))
+      ∙ ap (map g) (sym (take-suc xs i x less)) ∙ ap (λ (n : ℕ). map g (take n xs)) (sym next)
 
   -- and so where the built list is seen by another function
-  pub mapped_next : {Y : Type 0} (f : Y → Z) (ys : List Y) (y : Y) → map f ys ≡ map g (take i xs) → f y ≡ g x → map f (ys ++ y ∷ []) ≡ map g (take (i + 1) xs)
+  pub mapped_next : {Y : Type 0} (f : Y → Z) (ys : List Y) (y : Y)
+      → map f ys ≡ map g (take i xs)
+      → f y ≡ g x
+      → map f (ys ++ y ∷ []) ≡ map g (take (i + 1) xs)
   mapped_next f ys y same one = map_push f ys y ∙ given_next (map f ys) (f y) same one
 
 -- what holds of each of a list and of one more holds of each with it behind

@@ -16,15 +16,27 @@ use Rattle.ghost_oracle.specs.inner.Trees.{AreTreesKept}
 pub one_kept : (k : GhostCpu) (low : IsLowCpu (cpu_in k)) → IsKeptCpu k
 one_kept k low = record { hand = low.hand; loaded = low.loaded; ticket = low.ticket }
 
-any_state : (xs : List GhostCpu) (ys : List CpuState) → map cpu_in xs ≡ map cpu_of ys → All (λ y. IsLowCpu (cpu_of y)) ys → (d : CpuState) → (k : ℕ) (x : GhostCpu) → k < length xs → IsKeptCpu (get_or xs k x)
+any_state : (xs : List GhostCpu) (ys : List CpuState)
+    → map cpu_in xs ≡ map cpu_of ys
+    → All (λ y. IsLowCpu (cpu_of y)) ys
+    → (d : CpuState)
+    → (k : ℕ) (x : GhostCpu)
+    → k < length xs
+    → IsKeptCpu (get_or xs k x)
 any_state xs ys same low d k x less =
     let long : length xs ≡ length ys = sym (length-map xs cpu_in) ∙ ap length same ∙ length-map ys cpu_of in
     let within : k < length ys = omega (arith, less, long) in
-    let here : cpu_in (get_or xs k x) ≡ cpu_of (get_or ys k d) = sym (get_or-map cpu_in xs k x no_cpu less) ∙ ap (λ (zs : List Cpu). get_or zs k no_cpu) same ∙ get_or-map cpu_of ys k d no_cpu within in
+    let here : cpu_in (get_or xs k x) ≡ cpu_of (get_or ys k d) =
+    sym (get_or-map cpu_in xs k x no_cpu less) ∙ ap (λ (zs : List Cpu). get_or zs k no_cpu) same
+    ∙ get_or-map cpu_of ys k d no_cpu within in
     one_kept (get_or xs k x) (subst IsLowCpu (sym here) (low k d within))
 
-pub low_cpus_kept : (xs : List GhostCpu) (ys : List CpuState) → map cpu_in xs ≡ map cpu_of ys → All (λ y. IsLowCpu (cpu_of y)) ys → AreKeptCpus xs
-low_cpus_kept xs [] same low k x less = let long : length xs ≡ 0 = sym (length-map xs cpu_in) ∙ ap length same in absurd (omega (arith, less, long))
+pub low_cpus_kept : (xs : List GhostCpu) (ys : List CpuState)
+    → map cpu_in xs ≡ map cpu_of ys
+    → All (λ y. IsLowCpu (cpu_of y)) ys
+    → AreKeptCpus xs
+low_cpus_kept xs [] same low k x less = let long : length xs ≡ 0 = sym (length-map xs cpu_in) ∙ ap length same in
+    absurd (omega (arith, less, long))
 low_cpus_kept xs (y ∷ ys) same low k x less = any_state xs (y ∷ ys) same low y k x less
 
 -- lists are kept where their trees are, and guests and CPUs are of small numbers

@@ -1,4 +1,5 @@
--- The numbers of parts that a run leaves are small: what holds frames holds memory frames, and what names a slot names one of the 64.
+-- The numbers of parts that a run leaves are small: what holds frames holds memory frames, and what names a slot names
+-- one of the 64.
 use Rattle.std.proofs.Common.{◌≡◌, ℕ, suc, ◌+◌, ◌-◌, ◌^◌, ◌<◌, ◌≤◌, refl, ap, sym, ◌∙◌, subst, arith, List, [], ◌∷◌, length, All, Option, Some, None, true}
 use Rattle.std.specs.Coded.{×_prop, Unit-prop, le_prop}
 use Rattle.std.specs.List.{Contains}
@@ -74,7 +75,9 @@ module _ (l : Layout) (ready : CanBoot l) (s : Contents) (legal : Legal l s) whe
   held_low p f h =
       let x = shared-of s legal.condition legal.maps f l legal.held in
       let g = guests-of s legal.condition legal.maps f l legal.held in
-      let is = held-use l s f (legal.condition f) x g (λ cpu. legal.held.hand cpu f) legal.trees.host legal.trees.hyp legal.trees.guest p h in
+      let is =
+      held-use l s f (legal.condition f) x g
+      (λ cpu. legal.held.hand cpu f) legal.trees.host legal.trees.hyp legal.trees.guest p h in
       let memory : is_memory l f ≡ true = sym (legal.of_layout.inside f) ∙ ap is_inside is in
       let page : hyp_page f < pages_below l.depth = (ready-usable l ready).pages f memory in
       let few : pages_below l.depth ≤ 2 ^ 36 = few-pages l ready.accepted in
@@ -104,7 +107,12 @@ module _ (l : Layout) (ready : CanBoot l) (s : Contents) (legal : Legal l s) whe
 
   -- and of a CPU
   pub low_cpu : (c : ℕ) → IsLowCpu (s.cpu c)
-  low_cpu c = record { hand = cpu_hand c (s.cpu c).hand refl; loaded = cpu_loaded c (s.cpu c).loaded refl; ticket = cpu_ticket c (s.cpu c).ticket refl }
+  low_cpu c =
+      record {
+        hand = cpu_hand c (s.cpu c).hand refl;
+        loaded = cpu_loaded c (s.cpu c).loaded refl;
+        ticket = cpu_ticket c (s.cpu c).ticket refl;
+      }
 
 module _ {A : Type 0} (p : Parts A) where
   abbrev contents : Contents
@@ -113,7 +121,9 @@ module _ {A : Type 0} (p : Parts A) where
   legal_now : (h : HasHistory p) → Legal (parts_layout p) contents
   legal_now h = run_legal (parts_layout p) h.log (state_of p) h.ready (run_to p h)
 
-  guest_at : (k : ℕ) (d : GuestPart A) → k < length p.guests.items → contents.guest k ≡ guest_held (get_or p.guests.items k d)
+  guest_at : (k : ℕ) (d : GuestPart A)
+      → k < length p.guests.items
+      → contents.guest k ≡ guest_held (get_or p.guests.items k d)
   guest_at k d less = ap (at_place no_guest guest_held) (slice_get-get_or p.guests.items k d less)
 
   cpu_at : (k : ℕ) (d : CpuState) → k < length p.cpus.items → contents.cpu k ≡ cpu_of (get_or p.cpus.items k d)
@@ -121,11 +131,20 @@ module _ {A : Type 0} (p : Parts A) where
 
   module _ (past : ∥ HasHistory p ∥₁) where
     pub low_guests : All (λ g. IsLowGuest (guest_held g)) p.guests.items
-    low_guests k d less = untold_guest (guest_held (get_or p.guests.items k d)) (∥∥₁_map past (λ h. subst IsLowGuest (guest_at k d less) (low_guest (parts_layout p) h.ready contents (legal_now h) k)))
+    low_guests k d less =
+        untold_guest (guest_held (get_or p.guests.items k d))
+        (∥∥₁_map past
+        (λ h. subst IsLowGuest (guest_at k d less)
+        (low_guest (parts_layout p) h.ready contents (legal_now h) k)))
 
     pub low_cpus : All (λ c. IsLowCpu (cpu_of c)) p.cpus.items
-    low_cpus k d less = untold_cpu (cpu_of (get_or p.cpus.items k d)) (∥∥₁_map past (λ h. subst IsLowCpu (cpu_at k d less) (low_cpu (parts_layout p) h.ready contents (legal_now h) k)))
+    low_cpus k d less =
+        untold_cpu (cpu_of (get_or p.cpus.items k d))
+        (∥∥₁_map past
+        (λ h. subst IsLowCpu (cpu_at k d less) (low_cpu (parts_layout p) h.ready contents (legal_now h) k)))
 
     -- each step of a CPU leads to a generation that is a number of 64 bits
     pub has_next : (cpu : ℕ) (step : Step) → HasNextGeneration (contents.cpu cpu).ticket step
-    has_next cpu step = untold_next (contents.cpu cpu).ticket step (∥∥₁_map past (λ h. run_has_next (parts_layout p) h.log (state_of p) h.ready (run_to p h) cpu step))
+    has_next cpu step =
+        untold_next (contents.cpu cpu).ticket step
+        (∥∥₁_map past (λ h. run_has_next (parts_layout p) h.log (state_of p) h.ready (run_to p h) cpu step))

@@ -1,4 +1,5 @@
--- One legal history leads to the very state that the parts stand for: past the 64 guests and the layout's CPUs there is nothing.
+-- One legal history leads to the very state that the parts stand for: past the 64 guests and the layout's CPUs there is
+-- nothing.
 use Rattle.std.proofs.Common.{◌≡◌, ℕ, ◌+◌, ◌-◌, ◌<◌, ◌≤◌, suc, refl, ap, sym, ◌∙◌, subst, arith, inl, inr, List, [], ◌∷◌, length, All, Option, Some, None, slice_get}
 use Rattle.std.specs.Prelude.{true, false}
 use Rattle.std.proofs.lemmas.Option.{slice_get_cases}
@@ -38,31 +39,61 @@ record IsBlankPast (l : Layout) (s : Reference) : Type 0 where
 
 module _ (l : Layout) (usable : IsUsable l) where
   -- a call uses none of them
-  other_guest : (s t : Reference) (c : Call) → Legal l s.contents → Steps l s c t → (v : ℕ) → 64 ≤ v → call_uses (guest_part v) c ≡ false
+  other_guest : (s t : Reference) (c : Call)
+      → Legal l s.contents
+      → Steps l s c t
+      → (v : ℕ)
+      → 64 ≤ v
+      → call_uses (guest_part v) c ≡ false
   unfolding used_of
   other_guest s t c legal step v past = by_test (is_slot c.slot v)
-      (λ e. let low : v < 64 = slot-low l s.contents legal c.cpu v c.step (sym step.on.slot ∙ slot_is c.slot v e) in absurd (omega (arith, low, past)))
+      (λ e. let low : v < 64 = slot-low l s.contents legal c.cpu v c.step (sym step.on.slot ∙ slot_is c.slot v e) in
+      absurd (omega (arith, low, past)))
       (λ e. e)
 
-  stays : (s t : Reference) (c : Call) → c.cpu < l.config.cpus → Legal l s.contents → Steps l s c t → IsBlankPast l s → IsBlankPast l t
+  stays : (s t : Reference) (c : Call)
+      → c.cpu < l.config.cpus
+      → Legal l s.contents
+      → Steps l s c t
+      → IsBlankPast l s
+      → IsBlankPast l t
   stays s t c known legal step h =
       let beside = step_changes l s t c step in
       record {
         guest = λ v past. beside.guest v (other_guest s t c legal step v past) ∙ h.guest v past;
-        cpu = λ k past. beside.cpu k (λ e. let below : k < l.config.cpus = subst (λ n. n < l.config.cpus) (sym e) known in absurd (omega (arith, below, past))) ∙ h.cpu k past;
+        cpu =
+            λ k past. beside.cpu k
+            (λ e. let below : k < l.config.cpus = subst (λ n. n < l.config.cpus) (sym e) known in
+            absurd (omega (arith, below, past)))
+            ∙ h.cpu k past;
       }
 
-  blank_from : (cs : List Call) (s t : Reference) → All (λ c. c.cpu < l.config.cpus) cs → Legal l s.contents → Runs (Steps l) s cs t → IsBlankPast l s → IsBlankPast l t
+  blank_from : (cs : List Call) (s t : Reference)
+      → All (λ c. c.cpu < l.config.cpus) cs
+      → Legal l s.contents
+      → Runs (Steps l) s cs t
+      → IsBlankPast l s
+      → IsBlankPast l t
   blank_from [] s t known legal run h = subst (λ (u : Reference). IsBlankPast l u) run h
   blank_from (c ∷ cs) s t known legal run h =
       let first : c.cpu < l.config.cpus = known 0 c (omega arith) in
-      blank_from cs run.0 t (λ k d less. known (suc k) d (omega arith)) (legal_keeps l s run.0 c usable first legal run.1) run.2 (stays s run.0 c first legal run.1 h)
+      blank_from cs run.0 t (λ k d less. known (suc k) d (omega arith))
+      (legal_keeps l s run.0 c usable first legal run.1) run.2 (stays s run.0 c first legal run.1 h)
 
 -- a state by its parts
-pub state_same : (s t : Reference) → s.contents.vms ≡ t.contents.vms → s.contents.shared ≡ t.contents.shared → ((v : ℕ) → s.contents.guest v ≡ t.contents.guest v) → ((c : ℕ) → s.contents.cpu c ≡ t.contents.cpu c)
-    → s.rooms.vms ≡ t.rooms.vms → s.rooms.shared ≡ t.rooms.shared → ((v : ℕ) → s.rooms.guest v ≡ t.rooms.guest v) → ((c : ℕ) → s.rooms.cpu c ≡ t.rooms.cpu c) → s ≡ t
+pub state_same : (s t : Reference)
+    → s.contents.vms ≡ t.contents.vms
+    → s.contents.shared ≡ t.contents.shared
+    → ((v : ℕ) → s.contents.guest v ≡ t.contents.guest v)
+    → ((c : ℕ) → s.contents.cpu c ≡ t.contents.cpu c)
+    → s.rooms.vms ≡ t.rooms.vms
+    → s.rooms.shared ≡ t.rooms.shared
+    → ((v : ℕ) → s.rooms.guest v ≡ t.rooms.guest v)
+    → ((c : ℕ) → s.rooms.cpu c ≡ t.rooms.cpu c)
+    → s ≡ t
 unfolding contents_of all_of
-state_same s t a b g k d e h i = same2 whole (same4 contents_of a b (fun_ext g) (fun_ext k)) (same4 all_of d e (fun_ext h) (fun_ext i))
+state_same s t a b g k d e h i =
+    same2 whole (same4 contents_of a b (fun_ext g) (fun_ext k)) (same4 all_of d e (fun_ext h) (fun_ext i))
 
 -- a log's room is told by its calls
 room_is : (log room : ℕ) (calls kept : List Call) → room + length calls ≡ log → kept ≡ calls → log - length kept ≡ room
@@ -87,7 +118,10 @@ module _ {A : Type 0} (p : Parts A) (past : HasHistory p) where
 
   blank : IsBlankPast l end
   unfolding booted
-  blank = blank_from l (ready-usable l past.ready) past.log (boot l) end past.history.run.cpus (boot_legal l past.ready.enough (ready-usable l past.ready)) past.history.run.leads (record { guest = λ v h. refl; cpu = λ c h. refl })
+  blank =
+      blank_from l (ready-usable l past.ready) past.log (boot l) end past.history.run.cpus
+      (boot_legal l past.ready.enough (ready-usable l past.ready)) past.history.run.leads
+      (record { guest = λ v h. refl; cpu = λ c h. refl })
 
   no_guest_at : (v : ℕ) → 64 ≤ v → slice_get p.guests.items v ≡ None
   no_guest_at v h = past_end p.guests.items v (omega (arith, p.slots, p.guests.ok.0, h))
@@ -101,12 +135,21 @@ module _ {A : Type 0} (p : Parts A) (past : HasHistory p) where
       let k = kept_of p in
       let h = past.history in
       state_same (held_state l k) end (first-same h.vms) (first-same h.shared)
-      (λ v. by_lt v 64 (λ less. first-same (h.guest v less)) (λ over. ap (at_place no_guest guest_held) (no_guest_at v over) ∙ sym (first-same (blank.guest v over))))
-      (λ c. by_lt c l.config.cpus (λ less. first-same (h.cpu c less)) (λ over. ap (at_place no_cpu cpu_of) (no_cpu_at c over) ∙ sym (first-same (blank.cpu c over))))
+      (λ v. by_lt v 64 (λ less. first-same (h.guest v less))
+      (λ over. ap (at_place no_guest guest_held) (no_guest_at v over) ∙ sym (first-same (blank.guest v over))))
+      (λ c. by_lt c l.config.cpus (λ less. first-same (h.cpu c less))
+      (λ over. ap (at_place no_cpu cpu_of) (no_cpu_at c over) ∙ sym (first-same (blank.cpu c over))))
       (room_is l.config.log end.rooms.vms _ k.vms.1 told.vms (second-same h.vms))
       (room_is l.config.log end.rooms.shared _ k.shared.1 told.shared (second-same h.shared))
-      (λ v. by_lt v 64 (λ less. room_is l.config.log (end.rooms.guest v) _ (k.guest v).1 (told.guest v) (second-same (h.guest v less))) (λ over. ap (λ o. l.config.log - length (at_place [] (λ g. g.log.calls) o)) (no_guest_at v over) ∙ minus_none l.config.log ∙ sym (second-same (blank.guest v over))))
-      (λ c. by_lt c l.config.cpus (λ less. room_is l.config.log (end.rooms.cpu c) _ (k.cpu c).1 (told.cpu c) (second-same (h.cpu c less))) (λ over. ap (λ o. l.config.log - length (at_place [] (λ k. k.log.calls) o)) (no_cpu_at c over) ∙ minus_none l.config.log ∙ sym (second-same (blank.cpu c over))))
+      (λ v. by_lt v 64
+      (λ less. room_is l.config.log (end.rooms.guest v) _ (k.guest v).1 (told.guest v)
+      (second-same (h.guest v less)))
+      (λ over. ap (λ o. l.config.log - length (at_place [] (λ g. g.log.calls) o)) (no_guest_at v over)
+      ∙ minus_none l.config.log ∙ sym (second-same (blank.guest v over))))
+      (λ c. by_lt c l.config.cpus
+      (λ less. room_is l.config.log (end.rooms.cpu c) _ (k.cpu c).1 (told.cpu c) (second-same (h.cpu c less)))
+      (λ over. ap (λ o. l.config.log - length (at_place [] (λ k. k.log.calls) o)) (no_cpu_at c over)
+      ∙ minus_none l.config.log ∙ sym (second-same (blank.cpu c over))))
 
   -- the state that the parts stand for is the end of a run
   pub run_to : IsRun (parts_layout p) past.log (state_of p)

@@ -19,11 +19,18 @@ use Rattle.ghost_oracle.specs.Recorded.{Given, put_given, recorded, rooms_given,
 use Rattle.ghost_oracle.proofs.Reached.{state_same}
 
 -- a list of which each item stands for the blank, with another at one place
-pub one_put : {X Y : Type 0} (view : Y → X) (d : X) (ys : List Y) (k : ℕ) (y : Y) → All (λ z. view z ≡ d) ys → k < length ys → ◌≡◌ {A = ℕ → X} (λ j. get_or (map view (set ys k y)) j d) (put_at (λ j. d) k (view y))
-one_put {X} view d ys k y h less = put-list view d ys k y less ∙ ap (λ (f : ℕ → X). put_at f k (view y)) (fun_ext (all-same view d ys h))
+pub one_put : {X Y : Type 0} (view : Y → X) (d : X) (ys : List Y) (k : ℕ) (y : Y)
+    → All (λ z. view z ≡ d) ys
+    → k < length ys
+    → ◌≡◌ {A = ℕ → X} (λ j. get_or (map view (set ys k y)) j d) (put_at (λ j. d) k (view y))
+one_put {X} view d ys k y h less =
+    put-list view d ys k y less ∙ ap (λ (f : ℕ → X). put_at f k (view y)) (fun_ext (all-same view d ys h))
 
 -- the same of numbers
-pub number_put : (d : ℕ) (ns : List ℕ) (k n : ℕ) → All (λ m. m ≡ d) ns → k < length ns → ◌≡◌ {A = ℕ → ℕ} (λ j. get_or (set ns k n) j d) (put_at (λ j. d) k n)
+pub number_put : (d : ℕ) (ns : List ℕ) (k n : ℕ)
+    → All (λ m. m ≡ d) ns
+    → k < length ns
+    → ◌≡◌ {A = ℕ → ℕ} (λ j. get_or (set ns k n) j d) (put_at (λ j. d) k n)
 number_put d ns k n h less = put-items d ns k n less ∙ ap (λ (f : ℕ → ℕ). put_at f k n) (fun_ext (all-equal d ns h))
 
 module _ {A : Type 0} (x : Given A) (l : Layout) (g : GhostLists) where
@@ -36,7 +43,8 @@ module _ {A : Type 0} (x : Given A) (l : Layout) (g : GhostLists) where
     pub cpus : (c : ℕ) → get_or (map cpu_in g.cpus.items) c no_cpu ≡ put_at blank.cpu x.own.id (cpu_of x.own) c
     pub vms_room : g.rooms.vms ≡ at_place l.config.log (λ v. v.log.room) x.vms
     pub shared_room : g.rooms.shared ≡ at_place l.config.log (λ s. s.log.room) x.shared
-    pub guest_rooms : rooms_of l.config.log g.rooms.guests.items ≡ put_given (λ v. l.config.log) (λ p. p.log.room) x.guest
+    pub guest_rooms : rooms_of l.config.log g.rooms.guests.items
+        ≡ put_given (λ v. l.config.log) (λ p. p.log.room) x.guest
     pub cpu_rooms : rooms_of l.config.log g.rooms.cpus.items ≡ put_at (λ c. l.config.log) x.own.id x.own.log.room
 
   pub is_recorded : HasGiven → ghost_state g ≡ recorded x l
@@ -52,17 +60,22 @@ module _ {A : Type 0} (x : Given A) (l : Layout) (g : GhostLists) where
       (λ c. ap (λ n. get_or g.rooms.cpus.items c n) h.log ∙ ap (λ f. f c) h.cpu_rooms)
 
 -- a part that is given where it is used
-used_place : {P X : Type 0} (b : Bool) (base other : X) (view : P → X) (o : Option P) → is_some o ≡ b → at_place base view o ≡ (if b then at_place other view o else base)
+used_place : {P X : Type 0} (b : Bool) (base other : X) (view : P → X) (o : Option P)
+    → is_some o ≡ b
+    → at_place base view o ≡ (if b then at_place other view o else base)
 used_place true base other view None h = cc
 used_place true base other view (Some p) h = refl
 used_place false base other view None h = refl
 used_place false base other view (Some p) h = cc
 
-guest_place : {A : Type 0} (guests : ℕ → Guest) (o : Option (ℕ × GuestPart A)) → put_given guests guest_held o ≡ put_guest guests (option_map (λ g. g.0) o) (at_place no_guest (λ g. guest_held g.1) o)
+guest_place : {A : Type 0} (guests : ℕ → Guest) (o : Option (ℕ × GuestPart A))
+    → put_given guests guest_held o
+    ≡ put_guest guests (option_map (λ g. g.0) o) (at_place no_guest (λ g. guest_held g.1) o)
 guest_place guests None = refl
 guest_place guests (Some g) = refl
 
-room_place : {A : Type 0} (rooms : ℕ → ℕ) (o : Option (ℕ × GuestPart A)) → put_given rooms (λ g. g.log.room) o ≡ put_room rooms (option_map (λ g. g.0) o) (at_place 0 (λ g. g.1.log.room) o)
+room_place : {A : Type 0} (rooms : ℕ → ℕ) (o : Option (ℕ × GuestPart A))
+    → put_given rooms (λ g. g.log.room) o ≡ put_room rooms (option_map (λ g. g.0) o) (at_place 0 (λ g. g.1.log.room) o)
 room_place rooms None = refl
 room_place rooms (Some g) = refl
 
@@ -70,12 +83,18 @@ pub records_used : {A : Type 0} → RecordsUsed A
 unfolding put_back put_rooms
 records_used l n slot x h =
     let log = l.config.log in
-    state_same (recorded x l) (record { contents = put_back n slot x.own.id blank (used_given x); rooms = put_rooms n slot x.own.id (all_rooms log) (rooms_given x) })
+    state_same (recorded x l)
+    (record {
+      contents = put_back n slot x.own.id blank (used_given x);
+      rooms = put_rooms n slot x.own.id (all_rooms log) (rooms_given x);
+    })
     (used_place (uses_vms n) no_vms no_vms vm_slots x.vms h.vms)
     (used_place (uses_shared n slot) no_shared no_shared shared_of x.shared h.shared)
-    (λ v. ap (λ f. f v) (guest_place blank.guest x.guest) ∙ ap (λ o. put_guest blank.guest o (at_place no_guest (λ g. guest_held g.1) x.guest) v) h.guest)
+    (λ v. ap (λ f. f v) (guest_place blank.guest x.guest)
+    ∙ ap (λ o. put_guest blank.guest o (at_place no_guest (λ g. guest_held g.1) x.guest) v) h.guest)
     (λ c. refl)
     (used_place (uses_vms n) log 0 (λ v. v.log.room) x.vms h.vms)
     (used_place (uses_shared n slot) log 0 (λ s. s.log.room) x.shared h.shared)
-    (λ v. ap (λ f. f v) (room_place (all_rooms log).guest x.guest) ∙ ap (λ o. put_room (all_rooms log).guest o (at_place 0 (λ g. g.1.log.room) x.guest) v) h.guest)
+    (λ v. ap (λ f. f v) (room_place (all_rooms log).guest x.guest)
+    ∙ ap (λ o. put_room (all_rooms log).guest o (at_place 0 (λ g. g.1.log.room) x.guest) v) h.guest)
     (λ c. refl)

@@ -40,29 +40,41 @@ module _ {A : Type 0} (g : Geometry) (t : Table A) (found : Tree) where
       → map_of found.runs.items ≡ map_under g t
   unfolding map_under
   walked_map old r f = fun_ext (λ p. by_lt p (input_pages g)
-      (λ l. f p l ∙ ap (λ b. cond b (old p) (entry_at (levels_below g) t p)) (more_test p 0 (omega arith)) ∙ sym (ap (λ b. cond b (entry_at (levels_below g) t p) Unmapped) (less_test p (input_pages g) l)))
-      (λ l. map_ended (input_pages g) p found.runs.items r l ∙ sym (ap (λ b. cond b (entry_at (levels_below g) t p) Unmapped) (more_test p (input_pages g) l))))
+      (λ l. f p l ∙ ap (λ b. cond b (old p) (entry_at (levels_below g) t p)) (more_test p 0 (omega arith))
+      ∙ sym (ap (λ b. cond b (entry_at (levels_below g) t p) Unmapped) (less_test p (input_pages g) l)))
+      (λ l. map_ended (input_pages g) p found.runs.items r l
+      ∙ sym (ap (λ b. cond b (entry_at (levels_below g) t p) Unmapped) (more_test p (input_pages g) l))))
 
-  walked_tables : found.tables.items ≡ found_under (levels_below g) 0 t → table_of found.tables.items ≡ (λ b. table_under g t b.0 b.1)
+  walked_tables : found.tables.items ≡ found_under (levels_below g) 0 t
+      → table_of found.tables.items ≡ (λ b. table_under g t b.0 b.1)
   walked_tables e = fun_ext (λ b. ap (λ ts. table_of ts b) e ∙ found_tables g t b)
 
   walked : (old : Map) → AreRunsTo ((0 + 1) * block_pages (levels_below g + 1)) found.runs.items
-      → GoesOn (entry_at (levels_below g) t) (0 * block_pages (levels_below g + 1)) ((0 + 1) * block_pages (levels_below g + 1)) old (map_of found.runs.items)
+      → GoesOn (entry_at (levels_below g) t) (0 * block_pages (levels_below g + 1))
+      ((0 + 1) * block_pages (levels_below g + 1)) old (map_of found.runs.items)
       → found.tables.items ≡ found_under (levels_below g) 0 t → tree_in_lists found ≡ tree_under g t
   walked old r f e =
       let end : (0 + 1) * block_pages (levels_below g + 1) ≡ input_pages g = omega arith in
       let start : 0 * block_pages (levels_below g + 1) ≡ 0 = omega arith in
       let on : GoesOn (entry_at (levels_below g) t) 0 (input_pages g) old (map_of found.runs.items) =
-      subst (λ p. GoesOn (entry_at (levels_below g) t) 0 p old (map_of found.runs.items)) end (subst (λ p. GoesOn (entry_at (levels_below g) t) p ((0 + 1) * block_pages (levels_below g + 1)) old (map_of found.runs.items)) start f) in
+      subst (λ p. GoesOn (entry_at (levels_below g) t) 0 p old (map_of found.runs.items)) end
+      (subst
+      (λ p. GoesOn (entry_at (levels_below g) t) p ((0 + 1) * block_pages (levels_below g + 1)) old
+      (map_of found.runs.items)) start f) in
       same_tree (map_of found.runs.items) (map_under g t) (table_of found.tables.items) (λ b. table_under g t b.0 b.1)
       (walked_map old (subst (λ p. EndBy p found.runs.items) end r.ended) on) (walked_tables e)
 
-  pub walked_tree : (d : ℕ) (old : List Run) (tables : List FoundTable) → d ≡ levels_below g → tables ≡ [] → AreRunsTo ((0 + 1) * block_pages (d + 1)) found.runs.items
-      → GoesOn (entry_at d t) (0 * block_pages (d + 1)) ((0 + 1) * block_pages (d + 1)) (map_of old) (map_of found.runs.items)
+  pub walked_tree : (d : ℕ) (old : List Run) (tables : List FoundTable)
+      → d ≡ levels_below g
+      → tables ≡ []
+      → AreRunsTo ((0 + 1) * block_pages (d + 1)) found.runs.items
+      → GoesOn (entry_at d t) (0 * block_pages (d + 1)) ((0 + 1) * block_pages (d + 1)) (map_of old)
+      (map_of found.runs.items)
       → found.tables.items ≡ tables ++ found_under d 0 t → tree_in_lists found ≡ tree_under g t
   walked_tree d old tables e n =
       subst (λ x. AreRunsTo ((0 + 1) * block_pages (x + 1)) found.runs.items
-      → GoesOn (entry_at x t) (0 * block_pages (x + 1)) ((0 + 1) * block_pages (x + 1)) (map_of old) (map_of found.runs.items)
+      → GoesOn (entry_at x t) (0 * block_pages (x + 1)) ((0 + 1) * block_pages (x + 1)) (map_of old)
+      (map_of found.runs.items)
       → found.tables.items ≡ tables ++ found_under x 0 t → tree_in_lists found ≡ tree_under g t) (sym e)
       (λ r f h. walked (map_of old) r f (h ∙ ap (λ xs. xs ++ found_under (levels_below g) 0 t) n))
 
@@ -78,4 +90,6 @@ module _ {A : Type 0} (t : TableTree A) where
   same_map = refl
 
   pub tree_under_of : tree_under t.geometry t.table ≡ tree_of t
-  tree_under_of = same_tree (map_under t.geometry t.table) (meaning t) (λ b. table_under t.geometry t.table b.0 b.1) (λ b. table_at t b.0 b.1) same_map (fun_ext (λ b. same_frame b.0 b.1))
+  tree_under_of =
+      same_tree (map_under t.geometry t.table) (meaning t) (λ b. table_under t.geometry t.table b.0 b.1)
+      (λ b. table_at t b.0 b.1) same_map (fun_ext (λ b. same_frame b.0 b.1))

@@ -20,10 +20,24 @@ pub record GuestBeside : Type 0 where
   pub pool : StoredFrames
 
 abbrev pub body_beside : {A : Type 0} → Body A → GuestBeside
-body_beside b = record { phase = b.phase; generation = b.generation; kind = b.kind; maplets = b.map.maplets; pool = b.pool }
+body_beside b =
+    record {
+      phase = b.phase;
+      generation = b.generation;
+      kind = b.kind;
+      maplets = b.map.maplets;
+      pool = b.pool;
+    }
 
 abbrev pub raw_beside : {A : Type 0} → RawGuest A → GuestBeside
-raw_beside r = record { phase = r.phase; generation = r.generation; kind = r.kind; maplets = r.map.maplets; pool = r.pool }
+raw_beside r =
+    record {
+      phase = r.phase;
+      generation = r.generation;
+      kind = r.kind;
+      maplets = r.map.maplets;
+      pool = r.pool;
+    }
 
 -- of a guest; an Empty one has nothing
 abbrev pub held_beside : {A : Type 0} → Option (Body A) → Option GuestBeside
@@ -48,8 +62,16 @@ slot_beside g r = record { guest = slot_guest g r; log = g.log }
 
 -- the trees of a slot have as many levels as those of a geometry
 abbrev pub IsSlotOf : {A : Type 0} → Geometry → GuestPart A → Option (RawGuest A) → Type 0
-IsSlotOf geometry g r = (levels_below g.guest.geometry ≡ levels_below geometry) × IfSome r (λ x. levels_below x.map.tree.geometry ≡ levels_below geometry)
+IsSlotOf geometry g r =
+    (levels_below g.guest.geometry ≡ levels_below geometry)
+    × IfSome r (λ x. levels_below x.map.tree.geometry ≡ levels_below geometry)
 
 -- so are those of all slots
-abbrev pub AreSlotsOf : {A : Type 0} → Geometry → List (GuestPart A) → List (Option (RawGuest A)) → Type 0
-AreSlotsOf geometry guests poked = All (λ g. levels_below g.guest.geometry ≡ levels_below geometry) guests × All (λ r. IfSome r (λ x. levels_below x.map.tree.geometry ≡ levels_below geometry)) poked
+abbrev pub AreSlotsOf : {A : Type 0}
+    → Geometry
+    → List (GuestPart A)
+    → List (Option (RawGuest A))
+    → Type 0
+AreSlotsOf geometry guests poked =
+    All (λ g. levels_below g.guest.geometry ≡ levels_below geometry) guests
+    × All (λ r. IfSome r (λ x. levels_below x.map.tree.geometry ≡ levels_below geometry)) poked

@@ -16,9 +16,14 @@ with_row row s = record s { row = row }
 
 -- a state with other rows
 abbrev pub found_state : (ℕ → Row) → Reference → Reference
-found_state row s = record { contents = record s.contents { shared = with_row row s.contents.shared }; rooms = s.rooms }
+found_state row s =
+    record {
+      contents = record s.contents { shared = with_row row s.contents.shared };
+      rooms = s.rooms;
+    }
 
--- the rows from scratch: of each memory frame the one that looking through all maps, tables, pools and hands finds
+-- the rows from scratch: of each memory frame the one that looking through all maps, tables, pools
+-- and hands finds
 abbrev pub scratch_rows : Layout → Contents → ℕ → Row
 scratch_rows l s f = elim (is_memory l f) [ true ↦ row_of l s f | false ↦ plain_row ]
 
@@ -30,7 +35,8 @@ walked_state l s = found_state (scratch_rows l s.contents) s
 pub record SaysMaplets {A : Type 0} (p : Parts A) (g : GhostLists) : Type 0 where
   pub host : g.shared.host.runs.items ≡ p.shared.host.maplets.runs
   pub hyp : g.shared.hyp.runs.items ≡ p.shared.hyp.maplets.runs
-  pub guests : map (λ x. x.tree.runs.items) g.guests.items ≡ map (λ x. runs_of x.guest.body) p.guests.items
+  pub guests : map (λ x. x.tree.runs.items) g.guests.items
+      ≡ map (λ x. runs_of x.guest.body) p.guests.items
 
 -- its rows are those that the owner table of the parts keeps
 abbrev pub SaysRows : {A : Type 0} → Parts A → GhostLists → Type 0

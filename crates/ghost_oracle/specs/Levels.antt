@@ -8,5 +8,6 @@ some_prop f n None = Unit-prop
 some_prop f n (Some x) = ℕ_set _ _
 
 -- at most one proof says that each has the number
-pub each_prop : {X : Type 0} (f : X → ℕ) (n : ℕ) (xs : List (Option X)) → IsProp (All (λ o. IfSome o (λ x. f x ≡ n)) xs)
+pub each_prop : {X : Type 0} (f : X → ℕ) (n : ℕ) (xs : List (Option X))
+    → IsProp (All (λ o. IfSome o (λ x. f x ≡ n)) xs)
 each_prop f n xs = Π_prop (λ k. Π_prop (λ d. Π_prop (λ l. some_prop f n _)))

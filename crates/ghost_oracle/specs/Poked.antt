@@ -25,12 +25,14 @@ use Rattle.ghost_oracle.specs.Beside.{AreSlotsOf, IsSlotOf, SlotBeside, slot_bes
 use Rattle.ghost_oracle.specs.Seen.{SeenTree, nothing_seen, tree_seen, raw_seen, slot_seen}
 
 -- one tree was poked
-pub record IsPokedSeen (b : Block) (before after : SeenTree) (path : List ℕ) (word : ℕ) : Type 0 where
+pub record IsPokedSeen (b : Block) (before after : SeenTree) (path : List ℕ)
+    (word : ℕ) : Type 0 where
   pub words : IsPoked before.words after.words path word
   pub map : IsPokedMap b before.words before.tree.map after.tree.map path word
 
 -- one of all trees was poked, and each other stays
-pub record IsPokedTree (b : Block) (before after : Which → SeenTree) (which : Which) (path : List ℕ) (word : ℕ) : Type 0 where
+pub record IsPokedTree (b : Block) (before after : Which → SeenTree) (which : Which)
+    (path : List ℕ) (word : ℕ) : Type 0 where
   pub poked : IsPokedSeen b (before which) (after which) path word
   pub others : (other : Which) → (other ≡ which → ⊥) → after other ≡ before other
 
@@ -57,10 +59,12 @@ module _ {A : Type 0} where
 
   -- the trees of the slots; past the last slot there is none
   abbrev pub guest_seen : List (GuestPart A) → List (Option (RawGuest A)) → ℕ → SeenTree
-  guest_seen guests poked v = at_place nothing_seen (λ g. slot_seen g (poked_at poked v)) (slice_get guests v)
+  guest_seen guests poked v =
+      at_place nothing_seen (λ g. slot_seen g (poked_at poked v)) (slice_get guests v)
 
   abbrev pub guest_beside : List (GuestPart A) → List (Option (RawGuest A)) → ℕ → Option SlotBeside
-  guest_beside guests poked v = at_place None (λ g. Some (slot_beside g (poked_at poked v))) (slice_get guests v)
+  guest_beside guests poked v =
+      at_place None (λ g. Some (slot_beside g (poked_at poked v))) (slice_get guests v)
 
   -- all trees of parts of which some were poked
   abbrev pub raw_trees : RawParts A → Which → SeenTree
@@ -69,11 +73,25 @@ module _ {A : Type 0} where
   raw_trees p (Guest v) = guest_seen p.guests.items p.poked.items v
 
   abbrev pub shared_beside : RawShared A → SharedBeside
-  shared_beside s = record { host = s.host.maplets; hyp = s.hyp.maplets; pool = s.pool; rows = s.owners; log = s.log }
+  shared_beside s =
+      record {
+        host = s.host.maplets;
+        hyp = s.hyp.maplets;
+        pool = s.pool;
+        rows = s.owners;
+        log = s.log;
+      }
 
   -- what they have beside
   abbrev pub raw_beside_of : RawParts A → Beside
-  raw_beside_of p = record { layout = p.layout; vms = p.vms; shared = shared_beside p.shared; guest = guest_beside p.guests.items p.poked.items; cpus = p.cpus.items }
+  raw_beside_of p =
+      record {
+        layout = p.layout;
+        vms = p.vms;
+        shared = shared_beside p.shared;
+        guest = guest_beside p.guests.items p.poked.items;
+        cpus = p.cpus.items;
+      }
 
   -- the trees of parts
   abbrev pub parts_trees : Parts A → Which → SeenTree
@@ -83,7 +101,14 @@ module _ {A : Type 0} where
 
   -- what a Shared part has beside its trees
   abbrev pub part_beside : SharedPart A → SharedBeside
-  part_beside s = record { host = s.host.maplets; hyp = s.hyp.maplets; pool = s.pool; rows = s.owners; log = s.log }
+  part_beside s =
+      record {
+        host = s.host.maplets;
+        hyp = s.hyp.maplets;
+        pool = s.pool;
+        rows = s.owners;
+        log = s.log;
+      }
 
   -- the parts `p` have beside their trees what `x` says
   pub record IsBeside (p : Parts A) (x : Beside) : Type 0 where
@@ -94,18 +119,28 @@ module _ {A : Type 0} where
     pub cpus : x.cpus ≡ p.cpus.items
 
   -- a tree of a slot was poked, whatever geometry it is of
-  abbrev pub IsSlotPoked : GuestPart A → Option (RawGuest A) → GuestPart A → Option (RawGuest A) → List ℕ → ℕ → Type 0
-  IsSlotPoked part held new_part new_held path word = (g : Geometry) → IsSlotOf g part held → IsPokedSeen (block_of g path) (slot_seen part held) (slot_seen new_part new_held) path word
+  abbrev pub IsSlotPoked : GuestPart A → Option (RawGuest A) → GuestPart A → Option (RawGuest A)
+      → List ℕ → ℕ → Type 0
+  IsSlotPoked part held new_part new_held path word =
+      (g : Geometry)
+      → IsSlotOf g part held
+      → IsPokedSeen (block_of g path) (slot_seen part held) (slot_seen new_part new_held) path word
 
   -- so it was of the slot of a number
-  abbrev pub IsPlacePoked : ℕ → List (GuestPart A) → List (Option (RawGuest A)) → List (GuestPart A) → List (Option (RawGuest A)) → List ℕ → ℕ → Type 0
+  abbrev pub IsPlacePoked : ℕ → List (GuestPart A) → List (Option (RawGuest A)) → List (GuestPart A)
+      → List (Option (RawGuest A)) → List ℕ → ℕ → Type 0
   IsPlacePoked slot guests poked new_guests new_poked path word =
-      (g : Geometry) → AreSlotsOf g guests poked → IsPokedSeen (block_of g path) (guest_seen guests poked slot) (guest_seen new_guests new_poked slot) path word
+      (g : Geometry)
+      → AreSlotsOf g guests poked
+      → IsPokedSeen (block_of g path) (guest_seen guests poked slot)
+      (guest_seen new_guests new_poked slot) path word
 
   -- one of all trees of parts was poked
   abbrev pub IsRawPoked : RawParts A → RawParts A → Which → List ℕ → ℕ → Type 0
-  IsRawPoked p q which path word = IsPokedTree (block_of p.layout.geometry path) (raw_trees p) (raw_trees q) which path word
+  IsRawPoked p q which path word =
+      IsPokedTree (block_of p.layout.geometry path) (raw_trees p) (raw_trees q) which path word
 
   -- so it was of parts of which none was poked before
   abbrev pub ArePartsPoked : Parts A → RawParts A → Which → List ℕ → ℕ → Type 0
-  ArePartsPoked p q which path word = IsPokedTree (block_of p.layout.geometry path) (parts_trees p) (raw_trees q) which path word
+  ArePartsPoked p q which path word =
+      IsPokedTree (block_of p.layout.geometry path) (parts_trees p) (raw_trees q) which path word

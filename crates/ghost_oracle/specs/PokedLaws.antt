@@ -1,4 +1,5 @@
--- A poke's outcome is fully determined: no two outcomes are a poke of the same word. So no clause of a poke can be left out.
+-- A poke's outcome is fully determined: no two outcomes are a poke of the same word. So no clause
+-- of a poke can be left out.
 use Rattle.std.specs.Prelude.{◌≡◌, ℕ, List}
 use Rattle.page_state.specs.Trees.{Block}
 use Rattle.hypercalls.specs.declared.parts.Parts.{Parts}
@@ -13,7 +14,12 @@ pub record SaysTheSame (x y : SeenTree) : Type 0 where
 
 -- the words and the map of each tree
 abbrev pub PokedOnce : Type 0
-PokedOnce = (b : Block) (before x y : Which → SeenTree) (which : Which) (path : List ℕ) (word : ℕ) → IsPokedTree b before x which path word → IsPokedTree b before y which path word → (tree : Which) → SaysTheSame (x tree) (y tree)
+PokedOnce =
+    (b : Block) (before x y : Which → SeenTree) (which : Which) (path : List ℕ) (word : ℕ)
+    → IsPokedTree b before x which path word
+    → IsPokedTree b before y which path word
+    → (tree : Which)
+    → SaysTheSame (x tree) (y tree)
 
 -- all the state beside the trees
 abbrev pub BesideOnce : Type 0 → Type 0

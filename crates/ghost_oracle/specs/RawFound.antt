@@ -48,7 +48,8 @@ slot_kind g None = (guest_of g.guest).kind
 slot_kind g (Some r) = r.kind
 
 -- a guest on lists is that of a slot, its runs from where they are asked for
-pub record IsSlotFound {A : Type 0} (source : Source) (part : GuestPart A) (held : Option (RawGuest A)) (g : GhostGuest) : Type 0 where
+pub record IsSlotFound {A : Type 0} (source : Source) (part : GuestPart A)
+    (held : Option (RawGuest A)) (g : GhostGuest) : Type 0 where
   pub kept : IsKeptTree g.tree
   pub words : source ≡ Words → tree_in_lists g.tree ≡ (slot_seen part held).tree
   pub runs : source ≡ Maplets → g.tree.runs.items ≡ slot_runs part held
@@ -58,8 +59,16 @@ pub record IsSlotFound {A : Type 0} (source : Source) (part : GuestPart A) (held
   pub kind : g.kind ≡ slot_kind part held
 
 -- each guest of a list is that of its slot
-abbrev pub AreSlotsFound : {A : Type 0} → Source → List (GuestPart A) → List (Option (RawGuest A)) → List GhostGuest → Type 0
-AreSlotsFound {A} source parts helds gs = (v : ℕ) (part : GuestPart A) (held : Option (RawGuest A)) (g : GhostGuest) → v < 64 → IsSlotFound source (get_or parts v part) (get_or helds v held) (get_or gs v g)
+abbrev pub AreSlotsFound : {A : Type 0}
+    → Source
+    → List (GuestPart A)
+    → List (Option (RawGuest A))
+    → List GhostGuest
+    → Type 0
+AreSlotsFound {A} source parts helds gs =
+    (v : ℕ) (part : GuestPart A) (held : Option (RawGuest A)) (g : GhostGuest)
+    → v < 64
+    → IsSlotFound source (get_or parts v part) (get_or helds v held) (get_or gs v g)
 
 -- the rooms of all logs are those of the parts
 pub record AreRoomsFound {A : Type 0} (p : RawParts A) (r : GhostRooms) : Type 0 where
@@ -69,7 +78,8 @@ pub record AreRoomsFound {A : Type 0} (p : RawParts A) (r : GhostRooms) : Type 0
   pub cpus : r.cpus.items ≡ map (λ k. k.log.room) p.cpus.items
 
 -- a state on lists is that of the parts, its runs from where they are asked for, but for its rows
-pub record IsRawFound {A : Type 0} (source : Source) (p : RawParts A) (g : GhostLists) : Type 0 where
+pub record IsRawFound {A : Type 0} (source : Source) (p : RawParts A)
+    (g : GhostLists) : Type 0 where
   pub layout : layout_of g.layout ≡ layout_of p.layout
   pub host_kept : IsKeptTree g.shared.host
   pub hyp_kept : IsKeptTree g.shared.hyp
@@ -80,7 +90,8 @@ pub record IsRawFound {A : Type 0} (source : Source) (p : RawParts A) (g : Ghost
   pub free : g.shared.free.items ≡ p.shared.pool.frames
   pub guests : AreSlotsFound source p.guests.items p.poked.items g.guests.items
   pub count : length g.guests.items ≡ 64
-  pub slots : (slot : ℕ) → get_or (map slot_in g.vms.items) slot (no_slot 1) ≡ (vm_slots p.vms).slot slot
+  pub slots : (slot : ℕ)
+      → get_or (map slot_in g.vms.items) slot (no_slot 1) ≡ (vm_slots p.vms).slot slot
   pub cpus : map cpu_in g.cpus.items ≡ map cpu_of p.cpus.items
   pub rooms : AreRoomsFound p g.rooms
 

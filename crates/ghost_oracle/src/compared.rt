@@ -32,7 +32,8 @@ impl Compared {
     /// The first difference, in the order of `ghost_judge::audit`. Where one state is both, none is looked for.
     pub fn audit(&self) -> Option<Disagreement>
         ensures none { (result ≡ None) ↔ AuditAgrees (contents_in self.now.kept) (contents_in (walked_in self.now)) }
-        ensures first { IfSome result (IsFirstDifference (contents_in self.now.kept) (contents_in (walked_in self.now))) }
+        ensures first { IfSome result
+            (IsFirstDifference (contents_in self.now.kept) (contents_in (walked_in self.now))) }
     {
         match &self.other {
             Some(walked) => audit(&self.kept, walked),
@@ -68,7 +69,8 @@ fn is_guest_kept<A: Allocator>(found: &GhostGuest, guest: &Guest<A>) -> bool
 /// Whether all guests were.
 fn are_guests_kept<A: Allocator>(found: &[GhostGuest], parts: &[GuestPart<A>]) -> bool
     requires { length found.now ≡ length parts.now }
-    ensures { IsTrue result ↔ (map (λ x. x.tree.runs.items) found.now ≡ map (λ x. runs_of x.guest.body) parts.now) }
+    ensures { IsTrue result
+        ↔ (map (λ x. x.tree.runs.items) found.now ≡ map (λ x. runs_of x.guest.body) parts.now) }
 {
     for v in 0..parts.len() {
         if !is_guest_kept(&found[v], &parts[v].guest) {
@@ -80,7 +82,8 @@ fn are_guests_kept<A: Allocator>(found: &[GhostGuest], parts: &[GuestPart<A>]) -
 
 /// Whether the Shared part was found with the runs of its maplets.
 fn is_shared_kept<A: Allocator>(found: &Shared, part: &SharedPart<A>) -> bool
-    ensures { IsTrue result ↔ (found.now.host.runs.items ≡ part.now.host.maplets.runs) × (found.now.hyp.runs.items ≡ part.now.hyp.maplets.runs) }
+    ensures { IsTrue result ↔ (found.now.host.runs.items ≡ part.now.host.maplets.runs)
+        × (found.now.hyp.runs.items ≡ part.now.hyp.maplets.runs) }
 {
     are_maplets(found.host.runs.as_slice(), part.host.maplets())
         && are_maplets(found.hyp.runs.as_slice(), part.hyp.maplets())

@@ -45,7 +45,9 @@ pub(crate) fn put_block(
     requires frames { HasLowFrames entry count }
     requires before { AreRunsTo first runs.old.items }
     ensures runs { OnOk result (AreRunsTo (first + count) runs.new.items) }
-    ensures map { OnOk result (GoesOn (λ page. advance entry (page - first)) first (first + count) (map_of runs.old.items) (map_of runs.new.items)) }
+    ensures map { OnOk result
+        (GoesOn (λ page. advance entry (page - first)) first (first + count)
+        (map_of runs.old.items) (map_of runs.new.items)) }
 {
     if let Some(target) = entry.target() {
         let pages = PageRange {

@@ -86,7 +86,9 @@ fn ghost_with<A: Allocator>(
     requires shared_kept { IsKeptShared shared }
     requires trees { All (λ g. IsKeptTree g.tree) guests.items }
     ensures with { IfOk result (IsFoundWith parts.now shared guests) }
-    ensures kept { AreKeptGuests guests.items → All (λ k. IsLowCpu (cpu_of k)) parts.now.cpus.items → IfOk result IsKept }
+    ensures kept { AreKeptGuests guests.items
+        → All (λ k. IsLowCpu (cpu_of k)) parts.now.cpus.items
+        → IfOk result IsKept }
 {
     // One call gives both back, however many lists they hold.
     let Ok(layout) = copied_layout(&parts.layout) else {
@@ -185,7 +187,8 @@ pub(crate) fn with_scratch<A: Allocator>(
     requires state { ghost_state found ≡ found_state (row_in []) (state_of parts.now) }
     requires layout { layout_of found.layout ≡ parts_layout parts.now }
     requires trees { AreTreesKept found }
-    ensures state { IfOk result (λ g. ghost_state g ≡ walked_state (parts_layout parts.now) (state_of parts.now)) }
+    ensures state { IfOk result
+        (λ g. ghost_state g ≡ walked_state (parts_layout parts.now) (state_of parts.now)) }
     ensures layout { IfOk result (λ g. layout_of g.layout ≡ parts_layout parts.now) }
     ensures kept { IsKept found → IfOk result IsKept }
     ensures frames { IfOk result (HasRowsOf (parts_layout parts.now)) }
@@ -223,7 +226,8 @@ pub fn recompute<A: Allocator>(
     parts: &Parts<A>,
     reads: &mut Reads,
 ) -> Result<GhostLists, AllocError>
-    ensures state { IfOk result (λ g. ghost_state g ≡ walked_state (parts_layout parts.now) (state_of parts.now)) }
+    ensures state { IfOk result
+        (λ g. ghost_state g ≡ walked_state (parts_layout parts.now) (state_of parts.now)) }
     ensures layout { IfOk result (λ g. layout_of g.layout ≡ parts_layout parts.now) }
     ensures frames { IfOk result (HasRowsOf (parts_layout parts.now)) }
     ensures kept { ∥ HasHistory parts.now ∥₁ → IfOk result IsKept }

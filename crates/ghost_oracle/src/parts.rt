@@ -74,7 +74,9 @@ fn slot_from(alloc: Global, slot: Slot) -> Result<GhostSlot, AllocError>
 
 /// The 64 slots.
 pub(crate) fn slots_from(alloc: Global, table: &VmTable) -> Result<Vec<GhostSlot>, AllocError>
-    ensures slots { IfOk result (λ v. (slot : ℕ) → get_or (map slot_in v.items) slot (no_slot 1) ≡ (vms_of table.now).slot slot) }
+    ensures slots { IfOk result
+        (λ v. (slot : ℕ)
+        → get_or (map slot_in v.items) slot (no_slot 1) ≡ (vms_of table.now).slot slot) }
     ensures count { IfOk result (λ v. length v.items ≡ 64) }
 {
     table.empty_past();

@@ -177,10 +177,18 @@ fn set_place<A: Allocator>(
     requires slots { vec_len guests.old ≡ 64 }
     requires places { vec_len poked.old ≡ 64 }
     requires there { IsSome ((guest_seen guests.old.items poked.old.items slot).words path.now) }
-    ensures poked { IsPlacePoked slot guests.old.items poked.old.items guests.new.items poked.new.items path.now word }
-    ensures others { (v : ℕ) → (v ≡ slot → ⊥) → guest_seen guests.new.items poked.new.items v ≡ guest_seen guests.old.items poked.old.items v }
-    ensures beside { (v : ℕ) → guest_beside guests.new.items poked.new.items v ≡ guest_beside guests.old.items poked.old.items v }
-    ensures depth { (g : TreeGeometry) → AreSlotsOf g guests.old.items poked.old.items → AreSlotsOf g guests.new.items poked.new.items }
+    ensures poked { IsPlacePoked slot guests.old.items poked.old.items guests.new.items poked.new.items
+        path.now word }
+    ensures others { (v : ℕ)
+        → (v ≡ slot → ⊥)
+        → guest_seen guests.new.items poked.new.items v
+        ≡ guest_seen guests.old.items poked.old.items v }
+    ensures beside { (v : ℕ)
+        → guest_beside guests.new.items poked.new.items v
+        ≡ guest_beside guests.old.items poked.old.items v }
+    ensures depth { (g : TreeGeometry)
+        → AreSlotsOf g guests.old.items poked.old.items
+        → AreSlotsOf g guests.new.items poked.new.items }
     ensures slots { vec_len guests.new ≡ 64 }
     ensures places { vec_len poked.new ≡ 64 }
 {
@@ -194,7 +202,8 @@ impl<A: Allocator> RawComponent<A> {
     /// Sets the word at a path that has one.
     fn set(&mut self, path: &[u16], word: u64)
         requires there { IsSome (raw_word_of self.old.tree path.now) }
-        ensures poked { IsPokedSeen (block_of self.old.tree.geometry path.now) (raw_seen self.old.tree) (raw_seen self.new.tree) path.now word }
+        ensures poked { IsPokedSeen (block_of self.old.tree.geometry path.now) (raw_seen self.old.tree)
+            (raw_seen self.new.tree) path.now word }
         ensures maplets { self.new.maplets ≡ self.old.maplets }
         ensures geometry { self.new.tree.geometry ≡ self.old.tree.geometry }
     {

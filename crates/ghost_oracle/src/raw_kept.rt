@@ -35,7 +35,8 @@ fn raw_tree<A: Allocator>(
     source: Source,
 ) -> Result<Tree, AllocError>
     ensures kept { IfOk result IsKeptTree }
-    ensures words { source ≡ Source.Words → IfOk result (λ t. tree_in_lists t ≡ (raw_seen component.now.tree).tree) }
+    ensures words { source ≡ Source.Words
+        → IfOk result (λ t. tree_in_lists t ≡ (raw_seen component.now.tree).tree) }
     ensures runs { source ≡ Source.Maplets → IfOk result (λ t. t.runs.items ≡ component.now.maplets.runs) }
 {
     let tree = &component.tree;
@@ -106,8 +107,10 @@ fn raw_shared<A: Allocator>(
 ) -> Result<Shared, AllocError>
     ensures host_kept { IfOk result (λ s. IsKeptTree s.host) }
     ensures hyp_kept { IfOk result (λ s. IsKeptTree s.hyp) }
-    ensures host_words { source ≡ Source.Words → IfOk result (λ s. tree_in_lists s.host ≡ (raw_seen part.now.host.tree).tree) }
-    ensures hyp_words { source ≡ Source.Words → IfOk result (λ s. tree_in_lists s.hyp ≡ (raw_seen part.now.hyp.tree).tree) }
+    ensures host_words { source ≡ Source.Words
+        → IfOk result (λ s. tree_in_lists s.host ≡ (raw_seen part.now.host.tree).tree) }
+    ensures hyp_words { source ≡ Source.Words
+        → IfOk result (λ s. tree_in_lists s.hyp ≡ (raw_seen part.now.hyp.tree).tree) }
     ensures host_runs { source ≡ Source.Maplets → IfOk result (λ s. s.host.runs.items ≡ part.now.host.maplets.runs) }
     ensures hyp_runs { source ≡ Source.Maplets → IfOk result (λ s. s.hyp.runs.items ≡ part.now.hyp.maplets.runs) }
     ensures free { IfOk result (λ s. s.free.items ≡ part.now.pool.frames) }
@@ -139,7 +142,10 @@ fn raw_slots_and_cpus<A: Allocator>(
     parts: &RawParts<A>,
 ) -> Result<SlotsAndCpus, AllocError>
     ensures layout { IfOk result (λ b. layout_of b.layout ≡ layout_of parts.now.layout) }
-    ensures slots { IfOk result (λ b. (slot : ℕ) → get_or (map slot_in b.vms.items) slot (no_slot 1) ≡ (vm_slots parts.now.vms).slot slot) }
+    ensures slots { IfOk result
+        (λ b. (slot : ℕ)
+        → get_or (map slot_in b.vms.items) slot (no_slot 1)
+        ≡ (vm_slots parts.now.vms).slot slot) }
     ensures cpus { IfOk result (λ b. map cpu_in b.cpus.items ≡ map cpu_of parts.now.cpus.items) }
     ensures rooms { IfOk result (λ b. AreRoomsFound parts.now b.rooms) }
 {
@@ -207,7 +213,10 @@ pub fn recompute_raw<A: Allocator>(
     parts: &RawParts<A>,
 ) -> Result<GhostLists, AllocError>
     ensures found { IfOk result (IsRawFound Source.Words parts.now) }
-    ensures rows { IfOk result (λ g. (f : ℕ) → (contents_in g).shared.row f ≡ scratch_rows (layout_of parts.now.layout) (contents_in g) f) }
+    ensures rows { IfOk result
+        (λ g. (f : ℕ)
+        → (contents_in g).shared.row f
+        ≡ scratch_rows (layout_of parts.now.layout) (contents_in g) f) }
     ensures frames { IfOk result (HasRowsOf (layout_of parts.now.layout)) }
     ensures ready { IfOk result AreMapsKept }
 {

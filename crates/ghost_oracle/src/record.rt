@@ -60,9 +60,12 @@ fn shared_given<A: Allocator>(
     shared: Option<&SharedPart<A>>,
     reads: &mut Reads,
 ) -> Result<Shared, AllocError>
-    ensures shared { IfOk result (λ s. shared_in_lists s ≡ at_place blank.shared shared_of (option_copied shared.entry)) }
+    ensures shared { IfOk result
+        (λ s. shared_in_lists s ≡ at_place blank.shared shared_of (option_copied shared.entry)) }
     ensures kept { IfOk result IsKeptShared }
-    ensures reads { OnOk result (HasLooked (count_of reads.old) (512 * at_place 0 shared_tables (option_copied shared.entry)) (count_of reads.new)) }
+    ensures reads { OnOk result
+        (HasLooked (count_of reads.old)
+        (512 * at_place 0 shared_tables (option_copied shared.entry)) (count_of reads.new)) }
 {
     match shared {
         Some(part) => shared_walked(alloc, part, reads),
@@ -89,10 +92,16 @@ fn guests_given<A: Allocator>(
     reads: &mut Reads,
 ) -> Result<Vec<GhostGuest>, AllocError>
     requires slot { IfSome guest (λ g. g.0 < 64) }
-    ensures guests { IfOk result (λ v. guests_in v.items ≡ put_given blank.guest guest_held (option_map (λ g. (g.0, g.1.now)) guest.entry)) }
+    ensures guests { IfOk result
+        (λ v. guests_in v.items
+        ≡ put_given blank.guest guest_held (option_map (λ g. (g.0, g.1.now)) guest.entry)) }
     ensures count { IfOk result (λ v. length v.items ≡ 64) }
-    ensures kept { IfSome guest.entry (λ g. IsLowGuest (guest_held g.1.now)) → IfOk result (λ v. AreKeptGuests v.items) }
-    ensures reads { OnOk result (HasLooked (count_of reads.old) (512 * slot_tables (option_map (λ g. (g.0, g.1.now)) guest.entry)) (count_of reads.new)) }
+    ensures kept { IfSome guest.entry (λ g. IsLowGuest (guest_held g.1.now))
+        → IfOk result (λ v. AreKeptGuests v.items) }
+    ensures reads { OnOk result
+        (HasLooked (count_of reads.old)
+        (512 * slot_tables (option_map (λ g. (g.0, g.1.now)) guest.entry))
+        (count_of reads.new)) }
 {
     match guest {
         Some((slot, part)) => {
@@ -106,7 +115,10 @@ fn guests_given<A: Allocator>(
 /// A CPU with its own state, and idle ones beside it.
 fn cpus_with(alloc: Global, count: u64, state: &CpuState) -> Result<Vec<GhostCpu>, AllocError>
     requires { state.now.id < count }
-    ensures cpus { IfOk result (λ v. (c : ℕ) → get_or (map cpu_in v.items) c no_cpu ≡ put_at blank.cpu state.now.id (cpu_of state.now) c) }
+    ensures cpus { IfOk result
+        (λ v. (c : ℕ)
+        → get_or (map cpu_in v.items) c no_cpu
+        ≡ put_at blank.cpu state.now.id (cpu_of state.now) c) }
     ensures count { IfOk result (λ v. length v.items ≡ count) }
     ensures kept { IsLowCpu (cpu_of state.now) → IfOk result (λ v. AreKeptCpus v.items) }
 {
@@ -139,7 +151,10 @@ fn guest_rooms_given<A: Allocator>(
     guest: Option<(u64, &GuestPart<A>)>,
 ) -> Result<Vec<u64>, AllocError>
     requires { IfSome guest (λ g. g.0 < 64) }
-    ensures rooms { IfOk result (λ v. rooms_of log v.items ≡ put_given (λ _. log) (λ g. g.log.room) (option_map (λ g. (g.0, g.1.now)) guest.entry)) }
+    ensures rooms { IfOk result
+        (λ v. rooms_of log v.items
+        ≡ put_given (λ _. log) (λ g. g.log.room)
+        (option_map (λ g. (g.0, g.1.now)) guest.entry)) }
     ensures count { IfOk result (λ v. length v.items ≡ 64) }
 {
     match guest {
@@ -180,7 +195,10 @@ fn slots_and_cpus_given(
     ensures layout { IfOk result (λ b. layout_of b.layout ≡ layout_of layout.now) }
     ensures slots { IfOk result (λ b. AreSlotsGiven vms.entry b.vms.items) }
     ensures slots_count { IfOk result (λ b. length b.vms.items ≡ 64) }
-    ensures cpus { IfOk result (λ b. (c : ℕ) → get_or (map cpu_in b.cpus.items) c no_cpu ≡ put_at blank.cpu state.now.id (cpu_of state.now) c) }
+    ensures cpus { IfOk result
+        (λ b. (c : ℕ)
+        → get_or (map cpu_in b.cpus.items) c no_cpu
+        ≡ put_at blank.cpu state.now.id (cpu_of state.now) c) }
     ensures cpus_count { IfOk result (λ b. length b.cpus.items ≡ layout.now.config.cpus) }
     ensures kept { IsLowCpu (cpu_of state.now) → IfOk result (λ b. AreKeptCpus b.cpus.items) }
     ensures rooms { IfOk result (λ b. b.rooms ≡ rooms) }
@@ -208,10 +226,18 @@ pub fn record<A: Allocator>(
 ) -> Result<GhostLists, AllocError>
     requires cpu { state.now.id < layout.now.config.cpus }
     requires slot { IfSome guest (λ g. g.0 < 64) }
-    ensures state { IfOk result (λ g. ghost_state g ≡ recorded (given_by vms.entry shared.entry guest.entry state.now) (layout_of layout.now)) }
+    ensures state { IfOk result
+        (λ g. ghost_state g
+        ≡ recorded (given_by vms.entry shared.entry guest.entry state.now)
+        (layout_of layout.now)) }
     ensures layout { IfOk result (λ g. layout_of g.layout ≡ layout_of layout.now) }
-    ensures kept { IfSome guest.entry (λ g. IsLowGuest (guest_held g.1.now)) → IsLowCpu (cpu_of state.now) → IfOk result IsKept }
-    ensures reads { OnOk result (HasRead (count_of reads.old) (tables_given (given_by vms.entry shared.entry guest.entry state.now)) (count_of reads.new)) }
+    ensures kept { IfSome guest.entry (λ g. IsLowGuest (guest_held g.1.now))
+        → IsLowCpu (cpu_of state.now)
+        → IfOk result IsKept }
+    ensures reads { OnOk result
+        (HasRead (count_of reads.old)
+        (tables_given (given_by vms.entry shared.entry guest.entry state.now))
+        (count_of reads.new)) }
 {
     // For its contract alone: a count is at most the greatest u64.
     let _count = reads.count();

@@ -73,7 +73,8 @@ pub(crate) fn tree_from<A: Allocator>(
 ) -> Result<Tree, AllocError>
     ensures tree { IfOk result (λ t. tree_in_lists t ≡ tree_of component.now.tree) }
     ensures kept { IfOk result IsKeptTree }
-    ensures reads { OnOk result (HasRead (count_of reads.old) (tables_of component.now.tree) (count_of reads.new)) }
+    ensures reads { OnOk result
+        (HasRead (count_of reads.old) (tables_of component.now.tree) (count_of reads.new)) }
     ensures runs { source ≡ Source.Maplets → IfOk result (λ t. t.runs.items ≡ component.now.maplets.runs) }
 {
     let tree = component.tree();
@@ -134,7 +135,8 @@ fn body_from<A: Allocator>(
 ) -> Result<GhostGuest, AllocError>
     ensures guest { IfOk result (λ g. guest_in g ≡ body_of body.now) }
     ensures tree { IfOk result (λ g. IsKeptTree g.tree) }
-    ensures reads { OnOk result (HasRead (count_of reads.old) (tables_of body.now.map.tree) (count_of reads.new)) }
+    ensures reads { OnOk result
+        (HasRead (count_of reads.old) (tables_of body.now.map.tree) (count_of reads.new)) }
     ensures kept { IsLowGuest (body_of body.now) → IfOk result IsKeptGuest }
     ensures runs { source ≡ Source.Maplets → IfOk result (λ g. g.tree.runs.items ≡ body.now.map.maplets.runs) }
 {
@@ -156,7 +158,8 @@ pub(crate) fn guest_from<A: Allocator>(
 ) -> Result<GhostGuest, AllocError>
     ensures guest { IfOk result (λ g. guest_in g ≡ guest_of guest.now) }
     ensures tree { IfOk result (λ g. IsKeptTree g.tree) }
-    ensures reads { OnOk result (HasLooked (count_of reads.old) (512 * body_tables guest.now.body) (count_of reads.new)) }
+    ensures reads { OnOk result
+        (HasLooked (count_of reads.old) (512 * body_tables guest.now.body) (count_of reads.new)) }
     ensures kept { IsLowGuest (guest_of guest.now) → IfOk result IsKeptGuest }
     ensures runs { source ≡ Source.Maplets → IfOk result (λ g. g.tree.runs.items ≡ runs_kept guest.now.body) }
 {
@@ -175,7 +178,9 @@ pub(crate) fn guests_from<A: Allocator>(
     ensures guests { IfOk result (λ v. map guest_in v.items ≡ map guest_held parts.now) }
     ensures trees { IfOk result (λ v. All (λ g. IsKeptTree g.tree) v.items) }
     ensures kept { All (λ g. IsLowGuest (guest_held g)) parts.now → IfOk result (λ v. AreKeptGuests v.items) }
-    ensures reads { OnOk result (HasLooked (count_of reads.old) (512 * sum_by guest_tables parts.now) (count_of reads.new)) }
+    ensures reads { OnOk result
+        (HasLooked (count_of reads.old) (512 * sum_by guest_tables parts.now)
+        (count_of reads.new)) }
 {
     let mut guests = Vec::with_capacity(alloc, parts.len())?;
     for part in parts {
@@ -232,7 +237,9 @@ pub(crate) fn guests_with_maplets<A: Allocator>(
     requires low { All (λ g. IsLowGuest (guest_held g)) parts.now }
     ensures guests { IfOk result (λ v. map guest_in v.items ≡ map guest_held parts.now) }
     ensures kept { IfOk result (λ v. AreKeptGuests v.items) }
-    ensures runs { IfOk result (λ v. map (λ g. g.tree.runs.items) v.items ≡ map (λ g. runs_kept g.guest.body) parts.now) }
+    ensures runs { IfOk result
+        (λ v. map (λ g. g.tree.runs.items) v.items
+        ≡ map (λ g. runs_kept g.guest.body) parts.now) }
 {
     let mut guests = Vec::with_capacity(alloc, parts.len())?;
     for v in 0..parts.len() {

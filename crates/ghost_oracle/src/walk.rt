@@ -30,7 +30,11 @@ pub fn walk<A: Allocator>(
     requires raw { IsRaw (levels_below geometry) table.now }
     ensures tree { IfOk result (λ t. tree_in_lists t ≡ tree_under geometry table.now) }
     ensures kept { IfOk result IsKeptTree }
-    ensures reads { OnOk result (count_of reads.new ≡ min (count_of reads.old + 512 * tables_in (levels_below geometry) table.now) 18446744073709551615) }
+    ensures reads { OnOk result
+        (count_of reads.new
+        ≡ min
+        (count_of reads.old + 512 * tables_in
+        (levels_below geometry) table.now) 18446744073709551615) }
 {
     let runs = Vec::with_capacity(alloc, room)?;
     let tables = Vec::new(alloc);
@@ -53,8 +57,11 @@ fn walk_table<A: Allocator>(
     requires before { AreRunsTo (number * block_pages (depth + 1)) found.old.runs.items }
     ensures runs { OnOk result (AreRunsTo ((number + 1) * block_pages (depth + 1)) found.new.runs.items) }
     ensures map { OnOk result (GoesOnBy depth number table.now found.old.runs.items found.new.runs.items) }
-    ensures tables { OnOk result (found.new.tables.items ≡ found.old.tables.items ++ found_under depth number table.now) }
-    ensures reads { OnOk result (count_of reads.new ≡ min (count_of reads.old + 512 * tables_in depth table.now) 18446744073709551615) }
+    ensures tables { OnOk result
+        (found.new.tables.items ≡ found.old.tables.items ++ found_under depth number table.now) }
+    ensures reads { OnOk result
+        (count_of reads.new
+        ≡ min (count_of reads.old + 512 * tables_in depth table.now) 18446744073709551615) }
 {
     found.tables.push(FoundTable {
         block: (depth as u64 + 1, number),

@@ -50,16 +50,35 @@ module _ (limit : ℕ) where
   cut None = None
   cut (Some p) = if nat_lt p limit then Some p else None
 
-  leaf-cut : (a n p f : ℕ) → ◌≡◌ {A = Option ℕ} (if is_within a (min n (limit - p)) f then Some (p + (f - a)) else None) (cut (if is_within a n f then Some (p + (f - a)) else None))
+  leaf-cut : (a n p f : ℕ)
+      → ◌≡◌ {A = Option ℕ} (if is_within a (min n (limit - p)) f then Some (p + (f - a)) else None)
+      (cut (if is_within a n f then Some (p + (f - a)) else None))
   leaf-cut a n p f = by_test (is_within a n f)
       (λ t. let w = within_means a n f t in
       by_lt (p + (f - a)) limit
-      (λ h. rw (t, within_test a (min n (limit - p)) f w.0 (omega (arith, w.0, w.1, h)), less-true (p + (f - a)) limit h) refl)
-      (λ h. rw (t, not-holds (is_within a (min n (limit - p)) f) (λ k. let x = within_means a (min n (limit - p)) f k in absurd (omega (arith, x.0, x.1, h))), less-false (p + (f - a)) limit h) refl))
-      (λ t. rw (t, not-holds (is_within a (min n (limit - p)) f) (λ k. let x = within_means a (min n (limit - p)) f k in let c : true ≡ false = sym (within_test a n f x.0 (omega (arith, x.1))) ∙ t in cc)) refl)
+      (λ h. rw (
+        t,
+        within_test a (min n (limit - p)) f w.0 (omega (arith, w.0, w.1, h)),
+        less-true (p + (f - a)) limit h,
+      ) refl)
+      (λ h. rw (
+        t,
+        not-holds (is_within a (min n (limit - p)) f)
+            (λ k. let x = within_means a (min n (limit - p)) f k in absurd (omega (arith, x.0, x.1, h))),
+        less-false (p + (f - a)) limit h,
+      ) refl))
+      (λ t. rw (
+        t,
+        not-holds (is_within a (min n (limit - p)) f)
+            (λ k. let x = within_means a (min n (limit - p)) f k in
+            let c : true ≡ false = sym (within_test a n f x.0 (omega (arith, x.1))) ∙ t in
+            cc),
+      ) refl)
 
   module _ (s : State) (f : ℕ) where
-    target-cut : (pages : PageRange) (t : Target) → target_page f s (record pages { count = min pages.count (limit - pages.first.0) }) t ≡ cut (target_page f s pages t)
+    target-cut : (pages : PageRange) (t : Target)
+        → target_page f s (record pages { count = min pages.count (limit - pages.first.0) }) t
+        ≡ cut (target_page f s pages t)
     target-cut pages Malformed = refl
     target-cut pages (Annotated o) = refl
     target-cut pages (Leaf frame prot kind state) = by_test (state_eq state s)
@@ -74,7 +93,9 @@ module _ (limit : ℕ) where
         (λ t. rw (t, less-false (pages.first.0 + (f - frame.0)) limit (omega (arith, h))) refl)
         (λ t. rw t refl)
 
-    target-in : (pages : PageRange) (t : Target) (p : ℕ) → target_page f s pages t ≡ Some p → p < pages.first.0 + pages.count
+    target-in : (pages : PageRange) (t : Target) (p : ℕ)
+        → target_page f s pages t ≡ Some p
+        → p < pages.first.0 + pages.count
     target-in pages Malformed p h = cc
     target-in pages (Annotated o) p h = cc
     target-in pages (Leaf frame prot kind state) p h = by_test (state_eq state s)
@@ -86,20 +107,27 @@ module _ (limit : ℕ) where
         (λ t. let none : ◌≡◌ {A = Option ℕ} None (Some p) = rw (u, t) at h in cc))
         (λ u. let none : ◌≡◌ {A = Option ℕ} None (Some p) = rw u at h in cc)
 
-    none-either : (o next : Option ℕ) → cut o ≡ None → cut next ≡ None → cut (elim o [ Some page ↦ Some page | None ↦ next ]) ≡ None
+    none-either : (o next : Option ℕ)
+        → cut o ≡ None
+        → cut next ≡ None
+        → cut (elim o [ Some page ↦ Some page | None ↦ next ]) ≡ None
     none-either None next h k = k
     none-either (Some p) next h k = h
 
     -- runs from the limit on have no page below it
     high-none : (rs : List Run) → IsCoarsest rs → StartsFrom limit rs → cut (first_page_in f s rs) ≡ None
     high-none [] c h = refl
-    high-none (r ∷ rs) c h = none-either (run_page f s r) (first_page_in f s rs) (target-high r.pages r.target h) (high-none rs c.2 (higher rs (behind r rs c.1)))
+    high-none (r ∷ rs) c h =
+        none-either (run_page f s r) (first_page_in f s rs) (target-high r.pages r.target h)
+        (high-none rs c.2 (higher rs (behind r rs c.1)))
       where
         higher : (ss : List Run) → StartsFrom (run_end r) ss → StartsFrom limit ss
         higher [] k = tt
         higher (n ∷ ss) k = omega (arith, h, k)
 
-    cut-or : (o next : Option ℕ) → ((p : ℕ) → o ≡ Some p → limit ≤ p → cut next ≡ None) → option_or (cut o) (cut next) ≡ cut (elim o [ Some page ↦ Some page | None ↦ next ])
+    cut-or : (o next : Option ℕ)
+        → ((p : ℕ) → o ≡ Some p → limit ≤ p → cut next ≡ None)
+        → option_or (cut o) (cut next) ≡ cut (elim o [ Some page ↦ Some page | None ↦ next ])
     cut-or None next h = refl
     cut-or (Some p) next h = by_test (nat_lt p limit)
         (λ t. rw t refl)
@@ -110,7 +138,8 @@ module _ (limit : ℕ) where
     low-is (r ∷ rs) c =
         ap (λ (o : Option ℕ). option_or o (low_page limit s f rs)) (target-cut r.pages r.target)
         ∙ ap (λ (o : Option ℕ). option_or (cut (run_page f s r)) o) (low-is rs c.2)
-        ∙ cut-or (run_page f s r) (first_page_in f s rs) (λ p e h. high-none rs c.2 (higher rs (behind r rs c.1) p (target-in r.pages r.target p e) h))
+        ∙ cut-or (run_page f s r) (first_page_in f s rs)
+        (λ p e h. high-none rs c.2 (higher rs (behind r rs c.1) p (target-in r.pages r.target p e) h))
       where
         higher : (ss : List Run) → StartsFrom (run_end r) ss → (p : ℕ) → p < run_end r → limit ≤ p → StartsFrom limit ss
         higher [] k p i h = tt
@@ -142,7 +171,12 @@ module _ (s : State) (f : ℕ) where
   first-none [] h = refl
   first-none (r ∷ rs) h =
       let both = either-not (maps_in s r) (list_any (maps_in s) rs) h in
-      ap (λ (o : Option ℕ). elim o [ Some page ↦ Some page | None ↦ first_page_in f s rs ]) (leaf-none r.pages r.target both.0) ∙ first-none rs both.1
+      ap (λ (o : Option ℕ). elim o [ Some page ↦ Some page | None ↦ first_page_in f s rs ])
+      (leaf-none r.pages r.target both.0)
+      ∙ first-none rs both.1
 
-  pub none-lent : (l : Layout) (number : ℕ) (rs : List Run) (row : Option Row) → list_any (maps_in s) rs ≡ false → row ≡ option_or (loan_at number (page_of l (map_of rs) s f)) row
-  none-lent l number rs row h = ap (λ (o : Option ℕ). option_or (loan_at number o) row) (sym (page-none f s l rs (first-none rs h)))
+  pub none-lent : (l : Layout) (number : ℕ) (rs : List Run) (row : Option Row)
+      → list_any (maps_in s) rs ≡ false
+      → row ≡ option_or (loan_at number (page_of l (map_of rs) s f)) row
+  none-lent l number rs row h =
+      ap (λ (o : Option ℕ). option_or (loan_at number o) row) (sym (page-none f s l rs (first-none rs h)))

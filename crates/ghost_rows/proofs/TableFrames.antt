@@ -30,7 +30,8 @@ pub free_sorted : (xs ys : List ℕ) (f : ℕ) → IsPermutation xs ys → is_fr
 free_sorted xs ys f h = free_any ys f ∙ sym (list_any-IsPermutation (λ g. g == f) xs ys h) ∙ sym (free_any xs f)
 
 -- a use by three tests, one after the other
-pub used_three : (a b c : Bool) (u : Usage) (o : Option Row) → option_or (used_if a u) (option_or (used_if (b || c) u) o) ≡ option_or (used_if (a || b || c) u) o
+pub used_three : (a b c : Bool) (u : Usage) (o : Option Row)
+    → option_or (used_if a u) (option_or (used_if (b || c) u) o) ≡ option_or (used_if (a || b || c) u) o
 used_three true b c u o = refl
 used_three false true c u o = refl
 used_three false false c u o = refl

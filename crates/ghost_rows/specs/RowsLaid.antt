@@ -80,11 +80,13 @@ annotation_on r f = if is_in_range r.pages f then annotated_row (entry_on r f) e
 
 -- where the pages of an annotated run end, and the page given where it isn't annotated
 abbrev pub annotated_end : ℕ → Run → ℕ
-annotated_end high r = elim (annotated_row (entry_of_target r.target)) [ Some row ↦ run_end r | None ↦ high ]
+annotated_end high r =
+    elim (annotated_row (entry_of_target r.target)) [ Some row ↦ run_end r | None ↦ high ]
 
 -- lent to the component of a number at its page, as a row
 abbrev pub loan_row : ℕ → ℕ → Row
-loan_row number page = record { owner = record { 0 = 0 }; lent = Some (lent_at number page); usage = Plain }
+loan_row number page =
+    record { owner = record { 0 = 0 }; lent = Some (lent_at number page); usage = Plain }
 
 -- the same, where there is a page
 abbrev pub loan_at : ℕ → Option ℕ → Option Row
@@ -92,7 +94,8 @@ loan_at number page = option_map (loan_row number) page
 
 -- a run's part below a limit
 abbrev pub run_below : ℕ → Run → Run
-run_below limit r = record r { pages = record r.pages { count = min r.pages.count (limit - r.pages.first.0) } }
+run_below limit r =
+    record r { pages = record r.pages { count = min r.pages.count (limit - r.pages.first.0) } }
 
 -- the page below a limit that maps the frame in the state, of the first run that has one
 abbrev pub low_page : ℕ → State → ℕ → List Run → Option ℕ
@@ -122,7 +125,9 @@ maps_in s r = is_leaf_in s r.target
 
 -- the frames of a range of pages with a target, where that is a leaf in the state
 abbrev pub target_frames : State → PageRange → Target → Option PageRange
-target_frames s pages (Leaf frame prot kind own) = if state_eq own s then Some (record { first = record { 0 = frame.0 }; count = pages.count }) else None
+target_frames s pages (Leaf frame prot kind own) =
+    if state_eq own s then Some (record { first = record { 0 = frame.0 }; count = pages.count })
+    else None
 target_frames s pages other = None
 
 -- those of a run
@@ -134,10 +139,13 @@ abbrev pub next_above : ℕ → Option PageRange → Option ℕ
 next_above high None = Some high
 next_above high (Some frames) = if nat_lt frames.first.0 high then None else Some (end_of frames)
 
--- where the frames end that runs map in the state below a limit, one run's behind another's and all from a frame on; none where they don't rise so
+-- where the frames end that runs map in the state below a limit, one run's behind another's and all
+-- from a frame on; none where they don't rise so
 abbrev pub last_above : ℕ → State → ℕ → List Run → Option ℕ
 last_above limit s high [] = Some high
-last_above limit s high (r ∷ rs) = elim (next_above high (run_frames s (run_below limit r))) [ Some end ↦ last_above limit s end rs | None ↦ None ]
+last_above limit s high (r ∷ rs) =
+    elim (next_above high (run_frames s (run_below limit r)))
+    [ Some end ↦ last_above limit s end rs | None ↦ None ]
 
 -- lent to a guest, where it maps the frame in the state
 abbrev pub guest_loan : Layout → (ℕ → Guest) → State → ℕ → ℕ → Option Row
@@ -149,7 +157,9 @@ guests_loan l gs s f = first_some 0 (length gs) (guest_loan l (guests_in gs) s f
 
 -- lent to the first of the host, the hypervisor and the guests that borrows the frame
 abbrev pub any_loan : Layout → Map → Map → List GhostGuest → ℕ → Option Row
-any_loan l host hyp gs f = option_or (map_loan l 0 SharedBorrowed host f) (option_or (map_loan l 1 SharedBorrowed hyp f) (guests_loan l gs SharedBorrowed f))
+any_loan l host hyp gs f =
+    option_or (map_loan l 0 SharedBorrowed host f)
+    (option_or (map_loan l 1 SharedBorrowed hyp f) (guests_loan l gs SharedBorrowed f))
 
 -- a use, as a row
 abbrev pub used_row : Usage → Row
@@ -163,9 +173,13 @@ used_if test u = if test then Some (used_row u) else None
 abbrev pub AreUsed : List (RowRun Row) → List (RowRun Row) → (ℕ → Bool) → Usage → Type 0
 AreUsed old new picks u = IsLaidOverLow old new (λ f. used_if (picks f) u)
 
--- the frames of a list from a place up to another are that of the first place and those right after it
+-- the frames of a list from a place up to another are that of the first place and those right after
+-- it
 abbrev pub AreTogether : List ℕ → ℕ → ℕ → Type 0
-AreTogether frames start end = (f : ℕ) → is_free (drop start frames) f ≡ (is_within (slice_index frames start) (end - start) f || is_free (drop end frames) f)
+AreTogether frames start end =
+    (f : ℕ)
+    → is_free (drop start frames) f
+    ≡ (is_within (slice_index frames start) (end - start) f || is_free (drop end frames) f)
 
 -- free in a pool, or a table of its tree
 abbrev pub is_pool_frame : Layout → Pool → Tree → ℕ → Bool
@@ -193,4 +207,6 @@ guests_use l gs f = first_some 0 (length gs) (guest_use l (guests_in gs) f)
 
 -- in the shared pool, in a guest's, or in a hand
 abbrev pub any_use : Layout → Shared → List GhostGuest → List GhostCpu → ℕ → Option Row
-any_use l s gs ks f = option_or (used_if (is_shared_frame l s f) SharedPool) (option_or (guests_use l gs f) (hands_use ks f))
+any_use l s gs ks f =
+    option_or (used_if (is_shared_frame l s f) SharedPool)
+    (option_or (guests_use l gs f) (hands_use ks f))

@@ -40,34 +40,53 @@ is_of_host (Some x) = x.owner.0 == 0
 -- the annotation's owner, and else, where the host borrows the frame, the guest that shares it
 abbrev pub owner_told : Option Row → Option Row → Option Row → ℕ
 owner_told (Some r) lent shared = r.owner.0
-owner_told None lent shared = elim (is_of_host (lent_told lent)) [ true ↦ number_told (lent_told shared) | false ↦ 0 ]
+owner_told None lent shared =
+    elim (is_of_host (lent_told lent)) [ true ↦ number_told (lent_told shared) | false ↦ 0 ]
 
 -- the row of a frame by how it is annotated, lent, shared and used
 abbrev pub row_told : Option Row → Option Row → Option Row → Option Row → Row
-row_told annotated lent shared used = record { owner = record { 0 = owner_told annotated lent shared }; lent = lent_told lent; usage = usage_told used }
+row_told annotated lent shared used =
+    record {
+      owner = record { 0 = owner_told annotated lent shared };
+      lent = lent_told lent;
+      usage = usage_told used;
+    }
 
 -- the row of a frame by the lists
 abbrev pub told : Lists → ℕ → Row
-told x f = row_told (run_map advance_row x.annotated.runs f) (run_map advance_row x.lent.runs f) (run_map advance_row x.shared.runs f) (run_map advance_row x.used.runs f)
+told x f =
+    row_told (run_map advance_row x.annotated.runs f) (run_map advance_row x.lent.runs f)
+    (run_map advance_row x.shared.runs f) (run_map advance_row x.used.runs f)
 
 -- the lists tell of each frame of a run what the run has there
 abbrev pub IsTold : Lists → Run Row → Type 0
 IsTold x r = (f : ℕ) → r.pages.first.0 ≤ f → f < run_end r → told x f ≡ value_on advance_row r f
 
--- the frames of a region have the rows that the lists tell where it is one of memory, and else none; the others have what they had
+-- the frames of a region have the rows that the lists tell where it is one of memory, and else
+-- none; the others have what they had
 abbrev pub IsRegionAdded : Lists → Region → List (Run Row) → List (Run Row) → Type 0
 IsRegionAdded x region old new =
-    (f : ℕ) → run_map advance_row new f ≡ (if is_in_range region.pages f then (if is_memory_kind region.kind then Some (told x f) else None) else run_map advance_row old f)
+    (f : ℕ)
+    → run_map advance_row new f
+    ≡ (if is_in_range region.pages f
+    then (if is_memory_kind region.kind then Some (told x f) else None)
+    else run_map advance_row old f)
 
 -- from a frame up to another a list goes on as it begins
 abbrev pub GoesOn : List (Run Row) → ℕ → ℕ → Type 0
-GoesOn runs low high = (f : ℕ) → low ≤ f → f < high → run_map advance_row runs f ≡ option_advance advance_row (run_map advance_row runs low) (f - low)
+GoesOn runs low high =
+    (f : ℕ)
+    → low ≤ f
+    → f < high
+    → run_map advance_row runs f
+    ≡ option_advance advance_row (run_map advance_row runs low) (f - low)
 
 -- a row of an owner, a loan and a use
 abbrev pub row_with : ℕ → Option Lent → Usage → Row
 row_with owner lent usage = record { owner = record { 0 = owner }; lent = lent; usage = usage }
 
--- the owner of a frame that is lent and not annotated: who shares it where the host borrows it, and else the host
+-- the owner of a frame that is lent and not annotated: who shares it where the host borrows it, and
+-- else the host
 abbrev pub lender : Option Lent → ℕ → ℕ
 lender lent sharer = elim (is_of_host lent) [ true ↦ sharer | false ↦ 0 ]
 
@@ -117,7 +136,10 @@ pub record IsStanding (frame : ℕ) (s : Stand) (rs : List (Run Row)) : Type 0 w
   pub bound : (d : Run Row) → s.place < length rs → HasNoBound frame s.until (get_or rs s.place d)
   pub inside : s.inside ≡ true → s.place < length rs
   pub begun : s.inside ≡ true → (d : Run Row) → (get_or rs s.place d).pages.first.0 ≤ frame
-  pub outside : s.inside ≡ false → (d : Run Row) → s.place < length rs → frame < (get_or rs s.place d).pages.first.0
+  pub outside : s.inside ≡ false
+      → (d : Run Row)
+      → s.place < length rs
+      → frame < (get_or rs s.place d).pages.first.0
 
 -- the same, if the list goes on so far from its place before
 pub record IsCarried (frame : ℕ) (s : Stand) (rs : List (Run Row)) : Type 0 where
@@ -152,14 +174,18 @@ pub record IsAnnotatedOn (r : Run Row) (s : Steady) (place : ℕ) (rs : List (Ru
 -- a run has exactly the frames of the loan at a place, and its value
 pub record IsLentOn (r : Run Row) (s : Steady) (place : ℕ) (rs : List (Run Row)) : Type 0 where
   pub on : IsOn r.pages place rs
-  pub same : (d : Run Row) → r.value ≡ row_with (lender (get_or rs place d).value.lent s.sharer.0) (get_or rs place d).value.lent s.usage
+  pub same : (d : Run Row)
+      → r.value
+      ≡ row_with (lender (get_or rs place d).value.lent s.sharer.0)
+      (get_or rs place d).value.lent s.usage
 
 -- a run that the lists give as a whole: their places go on to its end
 pub record IsPassed (x : Lists) (r : Run Row) (s : Stands) : Type 0 where
   pub told : IsTold x r
   pub carried : AreCarried (run_end r) s x
 
--- the place of each list at a frame before, and how far from there on no frame is shared and none used
+-- the place of each list at a frame before, and how far from there on no frame is shared and none
+-- used
 pub record AreNear (frame : ℕ) (n : Near) (x : Lists) : Type 0 where
   pub carried : AreCarried frame n.stands x
   pub quiet : AreSteady frame (quiet_to n.quiet) x

@@ -34,7 +34,10 @@ fn lists_of(alloc: Global, state: &GhostLists) -> Result<Lists, AllocError>
     requires guests { HaveKeptTrees state.now.guests.items }
     requires guests_count { length state.now.guests.items ≡ 64 }
     requires cpus_count { length state.now.cpus.items ≡ state.now.layout.config.cpus }
-    ensures told { IfOk result (λ x. (f : ℕ) → f < 2 ^ 26 → told x f ≡ row_of (layout_of state.now.layout) (contents_in state.now) f) }
+    ensures told { IfOk result
+        (λ x. (f : ℕ)
+        → f < 2 ^ 26
+        → told x f ≡ row_of (layout_of state.now.layout) (contents_in state.now) f) }
     ensures reach { IfOk result AreReached }
 {
     let layout = &state.layout;
@@ -53,7 +56,9 @@ fn lists_of(alloc: Global, state: &GhostLists) -> Result<Lists, AllocError>
 fn range_rows(alloc: Global, lists: &Lists, pages: PageRange) -> Result<RunList<Row>, AllocError>
     requires low { end_of pages ≤ 2 ^ 26 }
     requires lists { AreReached lists.now }
-    ensures map { IfOk result (λ r. HasRows r.runs (λ f. if is_in_range pages f then Some (told lists.now f) else None)) }
+    ensures map { IfOk result
+        (λ r. HasRows r.runs
+        (λ f. if is_in_range pages f then Some (told lists.now f) else None)) }
     ensures reach { IfOk result (λ r. AreInReach HasPageBelow r.runs) }
 {
     let end = pages.first.0 + pages.count;
@@ -105,7 +110,8 @@ pub fn rows_from_scratch(alloc: Global, state: &GhostLists) -> Result<RunList<Ro
     requires guests { HaveKeptTrees state.now.guests.items }
     requires guests_count { length state.now.guests.items ≡ 64 }
     requires cpus_count { length state.now.cpus.items ≡ state.now.layout.config.cpus }
-    ensures rows { IfOk result (λ r. HasRows r.runs (rows_of (layout_of state.now.layout) (contents_in state.now))) }
+    ensures rows { IfOk result
+        (λ r. HasRows r.runs (rows_of (layout_of state.now.layout) (contents_in state.now))) }
     ensures reach { IfOk result (λ r. AreInReach HasPageBelow r.runs) }
 {
     let lists = lists_of(alloc, state)?;
@@ -138,8 +144,11 @@ pub fn are_from_scratch(
     requires cpus_count { length state.now.cpus.items ≡ state.now.layout.config.cpus }
     requires coarsest { IsCoarsest advance_row rows.now }
     requires reach { AreInReach HasPageBelow rows.now }
-    requires frames { (f : ℕ) → is_some (run_map advance_row rows.now f) ≡ is_memory (layout_of state.now.layout) f }
-    ensures { IfOk result (λ b. IsTrue b ↔ HasRows rows.now (rows_of (layout_of state.now.layout) (contents_in state.now))) }
+    requires frames { (f : ℕ)
+        → is_some (run_map advance_row rows.now f) ≡ is_memory (layout_of state.now.layout) f }
+    ensures { IfOk result
+        (λ b. IsTrue b
+        ↔ HasRows rows.now (rows_of (layout_of state.now.layout) (contents_in state.now))) }
 {
     is_low_memory(&state.layout);
     let lists = lists_of(alloc, state)?;

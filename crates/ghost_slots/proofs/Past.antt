@@ -46,7 +46,11 @@ module _ (g : GhostLists) (kept : IsKept g) where
         ticket = λ t e. let no : None ≡ Some t = sym (ap (λ (k : Cpu). k.ticket) p) ∙ e in cc;
       }
 
-  pub all-cpus : (n : ℕ) → g.layout.config.cpus ≤ n → ((c : ℕ) → c < n → CpuFits (contents_in g) c) → (c : ℕ) → CpuFits (contents_in g) c
+  pub all-cpus : (n : ℕ)
+      → g.layout.config.cpus ≤ n
+      → ((c : ℕ) → c < n → CpuFits (contents_in g) c)
+      → (c : ℕ)
+      → CpuFits (contents_in g) c
   all-cpus n far h c = by_lt c n (λ l. h c l) (λ l. cpu-past c (omega (arith, far, l)))
 
   slot-past : (v : ℕ) → 64 ≤ v → SlotFits (contents_in g) v
@@ -67,25 +71,53 @@ module _ (g : GhostLists) (kept : IsKept g) where
         };
       }
 
-  pub all-slots : (n : ℕ) → 64 ≤ n → ((c : ℕ) → CpuFits (contents_in g) c) → ((v : ℕ) → v < n → SlotFits (contents_in g) v) → SlotsFit (contents_in g)
-  all-slots n far cpus h = slots-fit (contents_in g) cpus (λ v. by_lt v n (λ l. h v l) (λ l. slot-past v (omega (arith, far, l)))) (λ v l. ap (λ (x : Slot). x.stand) (past-slot v l))
+  pub all-slots : (n : ℕ)
+      → 64 ≤ n
+      → ((c : ℕ) → CpuFits (contents_in g) c)
+      → ((v : ℕ) → v < n → SlotFits (contents_in g) v)
+      → SlotsFit (contents_in g)
+  all-slots n far cpus h =
+      slots-fit (contents_in g) cpus (λ v. by_lt v n (λ l. h v l) (λ l. slot-past v (omega (arith, far, l))))
+      (λ v l. ap (λ (x : Slot). x.stand) (past-slot v l))
 
 -- a slot's vCPUs by its list
-pub vcpu-at : (g : GhostLists) (v i : ℕ) (xs : List (Option ℕ)) (slot : Slot) → slot ≡ (contents_in g).vms.slot v → slot.loaded i ≡ get_or xs i None → VcpuOn (contents_in g) v i (get_or xs i None) → VcpuFits (contents_in g) v i
+pub vcpu-at : (g : GhostLists) (v i : ℕ) (xs : List (Option ℕ)) (slot : Slot)
+    → slot ≡ (contents_in g).vms.slot v
+    → slot.loaded i ≡ get_or xs i None
+    → VcpuOn (contents_in g) v i (get_or xs i None)
+    → VcpuFits (contents_in g) v i
 vcpu-at g v i xs slot a b h = subst (VcpuOn (contents_in g) v i) (sym b ∙ ap (λ (x : Slot). x.loaded i) a) h
 
-pub vcpu-of : (g : GhostLists) (v i : ℕ) (xs : List (Option ℕ)) (slot : Slot) → slot ≡ (contents_in g).vms.slot v → slot.loaded i ≡ get_or xs i None → VcpuFits (contents_in g) v i → VcpuOn (contents_in g) v i (get_or xs i None)
+pub vcpu-of : (g : GhostLists) (v i : ℕ) (xs : List (Option ℕ)) (slot : Slot)
+    → slot ≡ (contents_in g).vms.slot v
+    → slot.loaded i ≡ get_or xs i None
+    → VcpuFits (contents_in g) v i
+    → VcpuOn (contents_in g) v i (get_or xs i None)
 vcpu-of g v i xs slot a b h = subst (VcpuOn (contents_in g) v i) (sym (ap (λ (x : Slot). x.loaded i) a) ∙ b) h
 
-pub vcpu-past : (g : GhostLists) (v i : ℕ) (xs : List (Option ℕ)) → length xs ≤ i → VcpuOn (contents_in g) v i (get_or xs i None)
+pub vcpu-past : (g : GhostLists) (v i : ℕ) (xs : List (Option ℕ))
+    → length xs ≤ i
+    → VcpuOn (contents_in g) v i (get_or xs i None)
 vcpu-past g v i xs h = λ c e. let no : None ≡ Some c = sym (past_end xs i h) ∙ e in cc
 
 -- tickets of a slot
 
-pub one-ticket : (s : Contents) (n v c : ℕ) → IsFirstTicket s n v 0 c → HasNoTicketFrom s v (c + 1) → IsOne (HasTicket s v)
-one-ticket s n v c f h = (c, f.has, λ y t. by_lt y c (λ l. absurd (f.none y (omega arith) l t)) (λ l. by_lt c y (λ m. absurd (h y (omega (arith, m)) t)) (λ m. omega (arith, l, m))))
+pub one-ticket : (s : Contents) (n v c : ℕ)
+    → IsFirstTicket s n v 0 c
+    → HasNoTicketFrom s v (c + 1)
+    → IsOne (HasTicket s v)
+one-ticket s n v c f h = (
+  c,
+  f.has,
+  λ y t. by_lt y c (λ l. absurd (f.none y (omega arith) l t))
+      (λ l. by_lt c y (λ m. absurd (h y (omega (arith, m)) t)) (λ m. omega (arith, l, m))),
+)
 
-pub two-tickets : (s : Contents) (n m v c d : ℕ) → IsFirstTicket s n v 0 c → IsFirstTicket s m v (c + 1) d → IsOne (HasTicket s v) → ⊥
+pub two-tickets : (s : Contents) (n m v c d : ℕ)
+    → IsFirstTicket s n v 0 c
+    → IsFirstTicket s m v (c + 1) d
+    → IsOne (HasTicket s v)
+    → ⊥
 two-tickets s n m v c d f g o =
     let a : c ≡ o.0 = o.2 c f.has in
     let b : d ≡ o.0 = o.2 d g.has in

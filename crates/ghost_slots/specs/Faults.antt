@@ -10,7 +10,11 @@ use Rattle.ghost_slots.specs.declared.fault.SlotFault.TheVariants.{Load, Hand, T
 
 -- what a CPU has loaded its slot says too, and is of that generation
 abbrev pub LoadOn : Contents → ℕ → Option Loaded → Type 0
-LoadOn s c o = (k : Loaded) → o ≡ Some k → ((s.vms.slot k.vm.slot).loaded k.vcpu ≡ Some c) × ((s.vms.slot k.vm.slot).generation ≡ k.vm.generation)
+LoadOn s c o =
+    (k : Loaded)
+    → o ≡ Some k
+    → ((s.vms.slot k.vm.slot).loaded k.vcpu ≡ Some c)
+    × ((s.vms.slot k.vm.slot).generation ≡ k.vm.generation)
 
 -- a hand has a frame
 abbrev pub HandOn : Option PageRange → Type 0
@@ -26,9 +30,11 @@ pub record CpuFits (s : Contents) (c : ℕ) : Type 0 where
   pub hand : HandOn (s.cpu c).hand
   pub ticket : TicketOn s (s.cpu c).ticket
 
--- a vCPU of a slot, where a CPU is to have it loaded: it is one of eight, the slot is Open, and the CPU has it
+-- a vCPU of a slot, where a CPU is to have it loaded: it is one of eight, the slot is Open, and the
+-- CPU has it
 abbrev pub VcpuOn : Contents → ℕ → ℕ → Option ℕ → Type 0
-VcpuOn s v i o = (c : ℕ) → o ≡ Some c → (i < 8) × ((s.vms.slot v).stand ≡ opened) × HasLoaded s v i c
+VcpuOn s v i o =
+    (c : ℕ) → o ≡ Some c → (i < 8) × ((s.vms.slot v).stand ≡ opened) × HasLoaded s v i c
 
 abbrev pub VcpuFits : Contents → ℕ → ℕ → Type 0
 VcpuFits s v i = VcpuOn s v i ((s.vms.slot v).loaded i)
@@ -40,7 +46,8 @@ AreVcpusFitting s v = (i : ℕ) → VcpuFits s v i
 abbrev pub IsFirstVcpu : Contents → ℕ → ℕ → Type 0
 IsFirstVcpu s v i = ((j : ℕ) → j < i → VcpuFits s v j) × (VcpuFits s v i → ⊥)
 
--- a slot and its guest agree: an Open slot's guest is Live, a vacant slot's Empty, and one that isn't Empty is of the slot
+-- a slot and its guest agree: an Open slot's guest is Live, a vacant slot's Empty, and one that
+-- isn't Empty is of the slot
 pub record GuestAgrees (s : Contents) (v : ℕ) : Type 0 where
   pub open_live : (s.vms.slot v).stand ≡ opened → (s.guest v).phase ≡ live
   pub vacant_empty : (s.vms.slot v).stand ≡ vacant → (s.guest v).phase ≡ empty
@@ -65,8 +72,15 @@ pub record AreSlotsBelow (s : Contents) (v : ℕ) : Type 0 where
 -- the first that isn't right: CPUs come by number, then slots
 abbrev pub IsSlotFault : Contents → SlotFault → Type 0
 IsSlotFault s (Load c) = ((d : ℕ) → d < c → CpuFits s d) × (LoadOn s c (s.cpu c).loaded → ⊥)
-IsSlotFault s (Hand c) = ((d : ℕ) → d < c → CpuFits s d) × LoadOn s c (s.cpu c).loaded × (HandOn (s.cpu c).hand → ⊥)
-IsSlotFault s (TicketFault c) = ((d : ℕ) → d < c → CpuFits s d) × LoadOn s c (s.cpu c).loaded × HandOn (s.cpu c).hand × (TicketOn s (s.cpu c).ticket → ⊥)
-IsSlotFault s (Vcpu v i) = AreSlotsBelow s v × ((j : ℕ) → j < i → VcpuFits s v j) × (VcpuFits s v i → ⊥)
+IsSlotFault s (Hand c) =
+    ((d : ℕ) → d < c → CpuFits s d) × LoadOn s c (s.cpu c).loaded × (HandOn (s.cpu c).hand → ⊥)
+IsSlotFault s (TicketFault c) =
+    ((d : ℕ) → d < c → CpuFits s d)
+    × LoadOn s c (s.cpu c).loaded
+    × HandOn (s.cpu c).hand
+    × (TicketOn s (s.cpu c).ticket → ⊥)
+IsSlotFault s (Vcpu v i) =
+    AreSlotsBelow s v × ((j : ℕ) → j < i → VcpuFits s v j) × (VcpuFits s v i → ⊥)
 IsSlotFault s (Guest v) = AreSlotsBelow s v × ((j : ℕ) → VcpuFits s v j) × (GuestAgrees s v → ⊥)
-IsSlotFault s (Tickets v) = AreSlotsBelow s v × ((j : ℕ) → VcpuFits s v j) × GuestAgrees s v × (HasItsTicket s v → ⊥)
+IsSlotFault s (Tickets v) =
+    AreSlotsBelow s v × ((j : ℕ) → VcpuFits s v j) × GuestAgrees s v × (HasItsTicket s v → ⊥)

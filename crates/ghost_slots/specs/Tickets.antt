@@ -18,4 +18,6 @@ pub record IsFirstTicket (s : Contents) (cpus v from c : ℕ) : Type 0 where
 
 -- the first CPU of a state from one on that has a ticket of the slot, where there is one
 abbrev pub IsTicketFrom : GhostLists → ℕ → ℕ → Option ℕ → Type 0
-IsTicketFrom g v from o = MatchOption o (HasNoTicketFrom (contents_in g) v from) (IsFirstTicket (contents_in g) g.layout.config.cpus v from)
+IsTicketFrom g v from o =
+    MatchOption o (HasNoTicketFrom (contents_in g) v from)
+    (IsFirstTicket (contents_in g) g.layout.config.cpus v from)

@@ -96,7 +96,8 @@ fn cpu_fault(state: &GhostLists, cpu: u64) -> Option<SlotFault>
     requires kept { IsKept state.now }
     requires cpu { cpu < state.now.layout.config.cpus }
     requires before { (d : ℕ) → d < cpu → CpuFits (contents_in state.now) d }
-    ensures { MatchOption result (CpuFits (contents_in state.now) cpu) (IsSlotFault (contents_in state.now)) }
+    ensures { MatchOption result (CpuFits (contents_in state.now) cpu)
+        (IsSlotFault (contents_in state.now)) }
 {
     let own = cpu_at(state, cpu);
     if !is_loaded(state, cpu, own.loaded) {
@@ -114,7 +115,8 @@ fn cpu_fault(state: &GhostLists, cpu: u64) -> Option<SlotFault>
 /// What isn't right of CPUs' own states.
 pub(crate) fn first_cpu(state: &GhostLists) -> Option<SlotFault>
     requires { IsKept state.now }
-    ensures { MatchOption result ((c : ℕ) → CpuFits (contents_in state.now) c) (IsSlotFault (contents_in state.now)) }
+    ensures { MatchOption result ((c : ℕ) → CpuFits (contents_in state.now) c)
+        (IsSlotFault (contents_in state.now)) }
 {
     for cpu in 0..state.layout.config.cpus {
         if let Some(found) = cpu_fault(state, cpu) {

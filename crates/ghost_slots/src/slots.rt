@@ -58,7 +58,8 @@ fn is_vcpu(state: &GhostLists, slot: u64, vcpu: u64, on: Option<u64>) -> bool
 fn first_vcpu(state: &GhostLists, slot: u64) -> Option<u64>
     requires kept { IsKept state.now }
     requires slot { slot < 64 }
-    ensures { MatchOption result (AreVcpusFitting (contents_in state.now) slot) (IsFirstVcpu (contents_in state.now) slot) }
+    ensures { MatchOption result (AreVcpusFitting (contents_in state.now) slot)
+        (IsFirstVcpu (contents_in state.now) slot) }
 {
     let loaded = slot_at(state, slot).loaded.as_slice();
     for i in 0..loaded.len() {
@@ -173,7 +174,8 @@ fn slot_fault(state: &GhostLists, slot: u64) -> Option<SlotFault>
     requires kept { IsKept state.now }
     requires slot { slot < 64 }
     requires before { AreSlotsBelow (contents_in state.now) slot }
-    ensures { MatchOption result (SlotFits (contents_in state.now) slot) (IsSlotFault (contents_in state.now)) }
+    ensures { MatchOption result (SlotFits (contents_in state.now) slot)
+        (IsSlotFault (contents_in state.now)) }
 {
     if let Some(vcpu) = first_vcpu(state, slot) {
         return Some(SlotFault::Vcpu(slot, vcpu));

@@ -22,8 +22,12 @@ module _ (g : GhostLists) (k : HasKeptTrees g) (side : Side) where
       let by = h.2.4 in
       let s = by.2.1 in
       let m = by.2.4 in
-      let one : Has side (contents_in g) h.0 p.one.page.0 p.frame = on-has g k side h.0 p.one.page.0 p.frame h.2.0 r h.2.2 (subst (λ x. IsOn side x p.one.page.0 p.frame) (sym h.2.3) m.first) in
-      let other : Has side (contents_in g) by.0 p.other.page.0 p.frame = on-has g k side by.0 p.other.page.0 p.frame by.2.0 s by.2.2 (subst (λ x. IsOn side x p.other.page.0 p.frame) (sym by.2.3) m.second) in
+      let one : Has side (contents_in g) h.0 p.one.page.0 p.frame =
+      on-has g k side h.0 p.one.page.0 p.frame h.2.0 r h.2.2
+      (subst (λ x. IsOn side x p.one.page.0 p.frame) (sym h.2.3) m.first) in
+      let other : Has side (contents_in g) by.0 p.other.page.0 p.frame =
+      on-has g k side by.0 p.other.page.0 p.frame by.2.0 s by.2.2
+      (subst (λ x. IsOn side x p.other.page.0 p.frame) (sym by.2.3) m.second) in
       record {
         first = subst (λ t. Has side (contents_in g) t p.one.page.0 p.frame) (sym m.one_tree) one;
         second = subst (λ t. Has side (contents_in g) t p.other.page.0 p.frame) (sym m.other_tree) other;

@@ -29,11 +29,16 @@ module _ (l : Layout) (s : Contents) (legal : Legal l s) (usable : IsUsable l) w
   sound = legal_sound l s legal usable
 
   host-page : (f p : ℕ) → Holds s 0 p f → p ≡ f
-  host-page f p h = holds-state s 0 p f h (λ state m n. own-page p f (legal.condition p) state (s.shared.host.map p) (legal.maps.host p) m)
+  host-page f p h =
+      holds-state s 0 p f h
+      (λ state m n. own-page p f (legal.condition p) state (s.shared.host.map p) (legal.maps.host p) m)
 
   -- the owner's number, by the frame's condition
   number-is : (f a p : ℕ) → Holds s a p f → a ≡ (row_in f (legal.condition f)).owner.0
-  number-is f a p h = holds-state s a p f h (owner-of l s f (legal.condition f) (shared-of s legal.condition legal.maps f l legal.held) (guests-of s legal.condition legal.maps f l legal.held) a p)
+  number-is f a p h =
+      holds-state s a p f h
+      (owner-of l s f (legal.condition f) (shared-of s legal.condition legal.maps f l legal.held)
+      (guests-of s legal.condition legal.maps f l legal.held) a p)
 
   one-page : (f a p q : ℕ) → Holds s a p f → Holds s a q f → q ≡ p
   one-page f a p q h k =
@@ -41,7 +46,9 @@ module _ (l : Layout) (s : Contents) (legal : Legal l s) (usable : IsUsable l) w
       (λ e. host-page f q (subst (λ n. Holds s n q f) e k) ∙ sym (host-page f p (subst (λ n. Holds s n p f) e h)))
       (λ e.
       let is = number-is f a p h in
-      let one = own-one l s f (legal.condition f) (shared-of s legal.condition legal.maps f l legal.held) (guests-of s legal.condition legal.maps f l legal.held) (λ z. e (is ∙ z)) in
+      let one =
+      own-one l s f (legal.condition f) (shared-of s legal.condition legal.maps f l legal.held)
+      (guests-of s legal.condition legal.maps f l legal.held) (λ z. e (is ∙ z)) in
       one.2 q (subst (λ n. Holds s n q f) is k) ∙ sym (one.2 p (subst (λ n. Holds s n p f) is h)))
 
   one-owner : HasOneOwner s
@@ -53,4 +60,9 @@ module _ (l : Layout) (s : Contents) (legal : Legal l s) (usable : IsUsable l) w
   shares f component page m = let h = (sound.one_borrower.lent f).0 (component, page, m) in (owner l s f, h.0, h.1)
 
 pub legal_is_sound : LegalIsSound
-legal_is_sound l s legal usable = record { one_owner = one-owner l s legal usable; one_borrower = (sound l s legal usable).one_borrower.one_borrower; shares = shares l s legal usable }
+legal_is_sound l s legal usable =
+    record {
+      one_owner = one-owner l s legal usable;
+      one_borrower = (sound l s legal usable).one_borrower.one_borrower;
+      shares = shares l s legal usable;
+    }

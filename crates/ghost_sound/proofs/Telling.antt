@@ -14,8 +14,12 @@ use Rattle.ghost_sound.proofs.States.{borrows-from, borrows-to, owns-from, owns-
 
 module _ (s : Contents) where
   pub not-sound : (u : Unsound) → IsUnsound s u → IsSound s → ⊥
-  not-sound (TwoOwners f one other) h k = let e = k.one_owner f one.tree one.page.0 other.tree other.page.0 h.first h.second in h.differ e.0 e.1
-  not-sound (TwoBorrowers f one other) h k = let e = k.one_borrower f one.tree one.page.0 other.tree other.page.0 h.1.first h.1.second in h.1.differ e.0 e.1
+  not-sound (TwoOwners f one other) h k = let e =
+      k.one_owner f one.tree one.page.0 other.tree other.page.0 h.first h.second in
+      h.differ e.0 e.1
+  not-sound (TwoBorrowers f one other) h k = let e =
+      k.one_borrower f one.tree one.page.0 other.tree other.page.0 h.1.first h.1.second in
+      h.1.differ e.0 e.1
   not-sound (NoShare f at) h k = h.2.unshared (k.shares f at.tree at.page.0 h.2.borrowed)
 
   pub one-owner : IsHeldOnce Owns s → HasOneOwner s
@@ -30,10 +34,20 @@ module _ (s : Contents) where
   pub owners-are : (p : Pair) → IsTwice Owns s p → IsUnsound s (TwoOwners p.frame p.one p.other)
   owners-are p h = record { first = owns-to p.frame _ h.first; second = owns-to p.frame _ h.second; differ = h.differ }
 
-  pub borrowers-are : (p : Pair) → IsHeldOnce Owns s → IsTwice Borrows s p → IsUnsound s (TwoBorrowers p.frame p.one p.other)
-  borrowers-are p one h = (one-owner one, record { first = borrows-to p.frame _ h.first; second = borrows-to p.frame _ h.second; differ = h.differ })
+  pub borrowers-are : (p : Pair)
+      → IsHeldOnce Owns s
+      → IsTwice Borrows s p
+      → IsUnsound s (TwoBorrowers p.frame p.one p.other)
+  borrowers-are p one h = (
+    one-owner one,
+    record { first = borrows-to p.frame _ h.first; second = borrows-to p.frame _ h.second; differ = h.differ },
+  )
 
-  pub stray-is : (f : ℕ) (at : Place) → IsHeldOnce Owns s → IsHeldOnce Borrows s → IsUnsharedAt s f at → IsUnsound s (NoShare f at)
+  pub stray-is : (f : ℕ) (at : Place)
+      → IsHeldOnce Owns s
+      → IsHeldOnce Borrows s
+      → IsUnsharedAt s f at
+      → IsUnsound s (NoShare f at)
   stray-is f at one other h = (one-owner one, one-borrower other, h)
 
 pub sound_else : SoundElse

@@ -27,7 +27,10 @@ some-same h = cc
 module _ (side : Side) where
   -- a leaf that counts, by the first frame of its target
 
-  target-leaf : (t : Target) (start n f : ℕ) → target_frame side t ≡ Some start → start + n ≡ f → HasLeaf side f (advance (entry_of_target t) n)
+  target-leaf : (t : Target) (start n f : ℕ)
+      → target_frame side t ≡ Some start
+      → start + n ≡ f
+      → HasLeaf side f (advance (entry_of_target t) n)
   target-leaf Malformed start n f h e = cc
   target-leaf (Annotated o) start n f h e = cc
   target-leaf (Leaf frame prot kind state) start n f h e = by_test (counts side state)
@@ -36,7 +39,9 @@ module _ (side : Side) where
       (ap (λ k. k + n) same ∙ e, t))
       (λ t. let none : ◌≡◌ {A = Option ℕ} None (Some start) = rw t at h in absurd (cc))
 
-  leaf-target : (t : Target) (n f : ℕ) → HasLeaf side f (advance (entry_of_target t) n) → (start : ℕ) × (target_frame side t ≡ Some start) × (start + n ≡ f)
+  leaf-target : (t : Target) (n f : ℕ)
+      → HasLeaf side f (advance (entry_of_target t) n)
+      → (start : ℕ) × (target_frame side t ≡ Some start) × (start + n ≡ f)
   leaf-target Malformed n f h = absurd h
   leaf-target (Annotated o) n f h = absurd h
   leaf-target (Leaf frame prot kind state) n f h = (frame.0, rw h.1 refl, h.0)
@@ -54,9 +59,15 @@ module _ (side : Side) where
   starts r (n ∷ rs) h = h.before
 
   -- what a run of a list maps, the list maps
-  pub on-mapped : (rs : List Run) (p f : ℕ) → IsCoarsest rs → (k : ℕ) (d : Run) → k < length rs → IsOn side (get_or rs k d) p f → HasLeaf side f (map_of rs p)
+  pub on-mapped : (rs : List Run) (p f : ℕ)
+      → IsCoarsest rs
+      → (k : ℕ) (d : Run)
+      → k < length rs
+      → IsOn side (get_or rs k d) p f
+      → HasLeaf side f (map_of rs p)
   on-mapped [] p f c k d less h = absurd (omega (arith, less))
-  on-mapped (r ∷ rs) p f c zero d less h = subst (HasLeaf side f) (sym (map_of-first r rs p h.from h.below)) (on-leaf r p f h)
+  on-mapped (r ∷ rs) p f c zero d less h =
+      subst (HasLeaf side f) (sym (map_of-first r rs p h.from h.below)) (on-leaf r p f h)
   on-mapped (r ∷ rs) p f c (suc k) d less h =
       let more : HasLeaf side f (map_of rs p) = on-mapped rs p f c.2 k d (omega (arith, less)) h in
       by_lt p (run_end r)
@@ -64,7 +75,9 @@ module _ (side : Side) where
       (λ l. subst (HasLeaf side f) (sym (map_of-behind r rs p l)) more)
 
   -- what a list maps, one of its runs does
-  pub mapped-on : (rs : List Run) (p f : ℕ) → HasLeaf side f (map_of rs p) → (k : ℕ) × (k < length rs) × ((d : Run) → IsOn side (get_or rs k d) p f)
+  pub mapped-on : (rs : List Run) (p f : ℕ)
+      → HasLeaf side f (map_of rs p)
+      → (k : ℕ) × (k < length rs) × ((d : Run) → IsOn side (get_or rs k d) p f)
   mapped-on [] p f h = absurd h
   mapped-on (r ∷ rs) p f h = by_test (is_in_range r.pages p)
       (λ t. let w = within_means r.pages.first.0 r.pages.count p t in
@@ -76,7 +89,8 @@ module _ (side : Side) where
 
 -- the runs of guests
 
-guest-map : (gs : List GhostGuest) (v p : ℕ) → map_of (guest_runs gs v) p ≡ (get_or (map guest_in gs) v no_guest).tree.map p
+guest-map : (gs : List GhostGuest) (v p : ℕ)
+    → map_of (guest_runs gs v) p ≡ (get_or (map guest_in gs) v no_guest).tree.map p
 guest-map [] v p = refl
 guest-map (g ∷ gs) zero p = refl
 guest-map (g ∷ gs) (suc v) p = guest-map gs v p
@@ -92,12 +106,17 @@ guest-kept (g ∷ gs) zero h = (All-head (λ x. IsKeptTree x.tree) g gs h).coars
 guest-kept (g ∷ gs) (suc v) h = guest-kept gs v (All-tail (λ x. IsKeptTree x.tree) g gs h)
 
 -- the runs of the tree of a number are those of the guest at its place
-pub runs-at : (g : GhostLists) (t : ℕ) (x : GhostGuest) → (t ≡ 0 → ⊥) → (t ≡ 1 → ⊥) → t - 2 < length g.guests.items → runs_in g t ≡ (get_or g.guests.items (t - 2) x).tree.runs.items
+pub runs-at : (g : GhostLists) (t : ℕ) (x : GhostGuest)
+    → (t ≡ 0 → ⊥)
+    → (t ≡ 1 → ⊥)
+    → t - 2 < length g.guests.items
+    → runs_in g t ≡ (get_or g.guests.items (t - 2) x).tree.runs.items
 runs-at g zero x a b h = absurd (a refl)
 runs-at g (suc zero) x a b h = absurd (b refl)
 runs-at g (suc (suc v)) x a b h =
     let e : suc (suc v) - 2 ≡ v = omega arith in
-    get_or-map (λ y. y.tree.runs.items) g.guests.items v x [] (omega (arith, h)) ∙ ap (λ n. (get_or g.guests.items n x).tree.runs.items) (sym e)
+    get_or-map (λ y. y.tree.runs.items) g.guests.items v x [] (omega (arith, h))
+    ∙ ap (λ n. (get_or g.guests.items n x).tree.runs.items) (sym e)
 
 module _ (g : GhostLists) (k : HasKeptTrees g) where
   tree-map : (t p : ℕ) → map_of (runs_in g t) p ≡ (tree_at (contents_in g) t).map p
@@ -116,13 +135,19 @@ module _ (g : GhostLists) (k : HasKeptTrees g) where
   tree-past (suc (suc v)) h = guest-past g.guests.items v (omega (arith, h, k.count))
 
   module _ (side : Side) (t p f : ℕ) where
-    pub on-has : (i : ℕ) (d : Run) → i < length (runs_in g t) → IsOn side (get_or (runs_in g t) i d) p f → Has side (contents_in g) t p f
-    on-has i d less h = subst (HasLeaf side f) (tree-map t p) (on-mapped side (runs_in g t) p f (tree-kept t) i d less h)
+    pub on-has : (i : ℕ) (d : Run)
+        → i < length (runs_in g t)
+        → IsOn side (get_or (runs_in g t) i d) p f
+        → Has side (contents_in g) t p f
+    on-has i d less h =
+        subst (HasLeaf side f) (tree-map t p) (on-mapped side (runs_in g t) p f (tree-kept t) i d less h)
 
-    pub has-on : Has side (contents_in g) t p f → (t < 66) × ((i : ℕ) × (i < length (runs_in g t)) × ((d : Run) → IsOn side (get_or (runs_in g t) i d) p f))
+    pub has-on : Has side (contents_in g) t p f
+        → (t < 66) × ((i : ℕ) × (i < length (runs_in g t)) × ((d : Run) → IsOn side (get_or (runs_in g t) i d) p f))
     has-on h =
         let mapped : HasLeaf side f (map_of (runs_in g t) p) = subst (HasLeaf side f) (sym (tree-map t p)) h in (
-          by_lt t 66 (λ l. l) (λ l. absurd (subst (λ (rs : List Run). HasLeaf side f (map_of rs p)) (tree-past t l) mapped)),
+          by_lt t 66 (λ l. l)
+              (λ l. absurd (subst (λ (rs : List Run). HasLeaf side f (map_of rs p)) (tree-past t l) mapped)),
           mapped-on side (runs_in g t) p f mapped,
         )
 

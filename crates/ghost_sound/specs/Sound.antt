@@ -1,4 +1,5 @@
--- What makes a state sound, by its maps alone, and why it isn't. Frames that are no memory count too.
+-- What makes a state sound, by its maps alone, and why it isn't. Frames that are no memory count
+-- too.
 use Rattle.std.specs.Prelude.{◌≡◌, ℕ}
 use Rattle.descriptor.specs.declared.State.TheVariants.{SharedOwned, SharedBorrowed}
 use Rattle.reference_model.specs.claims.Sound.{Holds, Maps}
@@ -10,11 +11,16 @@ use Rattle.ghost_sound.specs.declared.finding.Unsound.TheVariants.{TwoOwners, Tw
 module _ (s : Contents) where
   -- at most one entry of a frame is its owner's: a leaf in state Owned or SharedOwned
   abbrev pub HasOneOwner : Type 0
-  HasOneOwner = (f a page b other : ℕ) → Holds s a page f → Holds s b other f → (b ≡ a) × (other ≡ page)
+  HasOneOwner =
+      (f a page b other : ℕ) → Holds s a page f → Holds s b other f → (b ≡ a) × (other ≡ page)
 
   -- at most one is a borrower's
   abbrev pub HasOneBorrower : Type 0
-  HasOneBorrower = (f a page b other : ℕ) → Maps s a page f SharedBorrowed → Maps s b other f SharedBorrowed → (b ≡ a) × (other ≡ page)
+  HasOneBorrower =
+      (f a page b other : ℕ)
+      → Maps s a page f SharedBorrowed
+      → Maps s b other f SharedBorrowed
+      → (b ≡ a) × (other ≡ page)
 
   -- somebody shares the frame
   abbrev pub IsShared : ℕ → Type 0

@@ -18,6 +18,11 @@ abbrev pub text_of_place : Place → List ℕ
 text_of_place p = text_of_tree (tree_named p.tree) ++ codes " " ++ text_of_page p.page.0
 
 abbrev pub text_of_unsound : Unsound → List ℕ
-text_of_unsound (TwoOwners f one other) = codes "two owners " ++ text_of_page f ++ codes ": " ++ text_of_place one ++ codes ", " ++ text_of_place other
-text_of_unsound (TwoBorrowers f one other) = codes "two borrowers " ++ text_of_page f ++ codes ": " ++ text_of_place one ++ codes ", " ++ text_of_place other
-text_of_unsound (NoShare f at) = codes "no share " ++ text_of_page f ++ codes ": " ++ text_of_place at
+text_of_unsound (TwoOwners f one other) =
+    codes "two owners " ++ text_of_page f ++ codes ": " ++ text_of_place one ++ codes ", "
+    ++ text_of_place other
+text_of_unsound (TwoBorrowers f one other) =
+    codes "two borrowers " ++ text_of_page f ++ codes ": " ++ text_of_place one ++ codes ", "
+    ++ text_of_place other
+text_of_unsound (NoShare f at) =
+    codes "no share " ++ text_of_page f ++ codes ": " ++ text_of_place at

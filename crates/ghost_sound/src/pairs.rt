@@ -22,7 +22,8 @@ pub(crate) struct Pair {
 fn meeting(side: Side, tree: u64, run: Run, other_tree: u64, other: Run) -> Option<Pair>
     requires run { IsSmall run }
     requires other { IsSmall other }
-    ensures { MatchOption result (AreOne side tree run other_tree other) (IsMeeting side tree run other_tree other) }
+    ensures { MatchOption result (AreOne side tree run other_tree other)
+        (IsMeeting side tree run other_tree other) }
 {
     let Some(a) = first_frame(side, run) else {
         return None;
@@ -59,7 +60,8 @@ fn meeting(side: Side, tree: u64, run: Run, other_tree: u64, other: Run) -> Opti
 fn meeting_in(side: Side, tree: u64, run: Run, other_tree: u64, runs: &[Run]) -> Option<Pair>
     requires run { IsSmall run }
     requires runs { AreSmall runs.now }
-    ensures { MatchOption result (All (AreOne side tree run other_tree) runs.now) (λ p. Any (λ s. IsMeeting side tree run other_tree s p) runs.now) }
+    ensures { MatchOption result (All (AreOne side tree run other_tree) runs.now)
+        (λ p. Any (λ s. IsMeeting side tree run other_tree s p) runs.now) }
 {
     for i in 0..runs.len() {
         if let Some(found) = meeting(side, tree, run, other_tree, runs[i]) {
@@ -90,7 +92,8 @@ fn meeting_any(side: Side, tree: u64, run: Run, state: &GhostLists) -> Option<Pa
 fn twice_in(side: Side, tree: u64, runs: &[Run], state: &GhostLists) -> Option<Pair>
     requires runs { AreSmall runs.now }
     requires kept { HasKeptTrees state.now }
-    ensures { MatchOption result (All (MeetsNone side state.now tree) runs.now) (λ p. Any (λ r. IsMetBy side state.now tree r p) runs.now) }
+    ensures { MatchOption result (All (MeetsNone side state.now tree) runs.now)
+        (λ p. Any (λ r. IsMetBy side state.now tree r p) runs.now) }
 {
     for i in 0..runs.len() {
         if let Some(found) = meeting_any(side, tree, runs[i], state) {
@@ -103,7 +106,9 @@ fn twice_in(side: Side, tree: u64, runs: &[Run], state: &GhostLists) -> Option<P
 /// The same of all trees.
 fn twice_found(side: Side, state: &GhostLists) -> Option<Pair>
     requires { HasKeptTrees state.now }
-    ensures { MatchOption result ((t : ℕ) → t < 66 → All (MeetsNone side state.now t) (runs_in state.now t)) (IsMet side state.now) }
+    ensures { MatchOption result
+        ((t : ℕ) → t < 66 → All (MeetsNone side state.now t) (runs_in state.now t))
+        (IsMet side state.now) }
 {
     for tree in 0..TREES {
         if let Some(found) = twice_in(side, tree, runs_of(state, tree), state) {
@@ -116,7 +121,8 @@ fn twice_found(side: Side, state: &GhostLists) -> Option<Pair>
 /// Two entries that are leaves of one frame, on one side.
 pub(crate) fn twice(side: Side, state: &GhostLists) -> Option<Pair>
     requires { HasKeptTrees state.now }
-    ensures { MatchOption result (IsHeldOnce side (contents_in state.now)) (IsTwice side (contents_in state.now)) }
+    ensures { MatchOption result (IsHeldOnce side (contents_in state.now))
+        (IsTwice side (contents_in state.now)) }
 {
     twice_found(side, state)
 }

@@ -101,7 +101,8 @@ fn stray_on(state: &GhostLists, tree: u64, run: Run) -> Option<Stray>
 fn stray_in(state: &GhostLists, tree: u64, runs: &[Run]) -> Option<Stray>
     requires runs { AreSmall runs.now }
     requires kept { HasKeptTrees state.now }
-    ensures { MatchOption result (All (AllShared state.now) runs.now) (λ a. Any (IsUnsharedOn state.now tree a) runs.now) }
+    ensures { MatchOption result (All (AllShared state.now) runs.now)
+        (λ a. Any (IsUnsharedOn state.now tree a) runs.now) }
 {
     for i in 0..runs.len() {
         if let Some(found) = stray_on(state, tree, runs[i]) {
@@ -114,7 +115,8 @@ fn stray_in(state: &GhostLists, tree: u64, runs: &[Run]) -> Option<Stray>
 /// The same of all trees.
 fn stray_found(state: &GhostLists) -> Option<Stray>
     requires { HasKeptTrees state.now }
-    ensures { MatchOption result ((t : ℕ) → t < 66 → All (AllShared state.now) (runs_in state.now t)) (IsStrayIn state.now) }
+    ensures { MatchOption result ((t : ℕ) → t < 66 → All (AllShared state.now) (runs_in state.now t))
+        (IsStrayIn state.now) }
 {
     for tree in 0..TREES {
         if let Some(found) = stray_in(state, tree, runs_of(state, tree)) {

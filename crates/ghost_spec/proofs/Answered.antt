@@ -36,22 +36,30 @@ pair-same p q = rw (p, q) refl
 module _ (l : Layout) (cpu : ℕ) (slot : Option ℕ) (step : Step) (x : Used) where
   -- the answer, by the first test that fails
   abbrev told : Option Refusal → Reply × Used
-  told o = elim o [ Some why ↦ (Refused why, x) | None ↦ (Done (rule_of l cpu slot step x).changes.value, made l cpu slot step x) ]
+  told o =
+      elim o [
+        | Some why ↦ (Refused why, x)
+        | None ↦ (Done (rule_of l cpu slot step x).changes.value, made l cpu slot step x)
+      ]
 
   answer-by : (o : Option Refusal) → fails l cpu slot step x ≡ o → answer l cpu slot step x ≡ told o
   unfolding answer
   answer-by o e = ap told e
 
-  fails-first : (why : Refusal) → first_test (rule_of l cpu slot step x) (lacks_slot (names step) slot) ≡ Some why → fails l cpu slot step x ≡ Some why
+  fails-first : (why : Refusal)
+      → first_test (rule_of l cpu slot step x) (lacks_slot (names step) slot) ≡ Some why
+      → fails l cpu slot step x ≡ Some why
   unfolding fails refusal
   fails-first why e = first-told _ _ why e
 
-  fails-next : first_test (rule_of l cpu slot step x) (lacks_slot (names step) slot) ≡ None → fails l cpu slot step x ≡ (if is_short l.depth (rule_of l cpu slot step x).changes x then Some NoPool else None)
+  fails-next : first_test (rule_of l cpu slot step x) (lacks_slot (names step) slot) ≡ None
+      → fails l cpu slot step x ≡ (if is_short l.depth (rule_of l cpu slot step x).changes x then Some NoPool else None)
   unfolding fails refusal
   fails-next e = next-told _ _ e
 
   pub barred : (why : Refusal) → decides l cpu slot step x ≡ Err why → answer l cpu slot step x ≡ (Refused why, x)
-  barred why e = answer-by (Some why) (fails-first why (told-err (rule_of l cpu slot step x) (lacks_slot (names step) slot) why e))
+  barred why e =
+      answer-by (Some why) (fails-first why (told-err (rule_of l cpu slot step x) (lacks_slot (names step) slot) why e))
 
   module _ (h : Changes) (e : decides l cpu slot step x ≡ Ok h) where
     uses : OnlyUses (names step) slot h
@@ -65,16 +73,23 @@ module _ (l : Layout) (cpu : ℕ) (slot : Option ℕ) (step : Step) (x : Used) w
     pub lacking : is_short l.depth h x ≡ true → answer l cpu slot step x ≡ (Refused NoPool, x)
     lacking t = answer-by (Some NoPool) (fails-short ∙ ap (λ (b : Bool). if b then Some NoPool else None) t)
 
-    made-is : cpu < l.config.cpus → IsLowSlot slot → made l cpu slot step x ≡ used_found l (touched h) slot cpu (changed l.depth h x)
+    made-is : cpu < l.config.cpus
+        → IsLowSlot slot
+        → made l cpu slot step x ≡ used_found l (touched h) slot cpu (changed l.depth h x)
     unfolding made
     made-is less low =
         let t = told-ok (rule_of l cpu slot step x) (lacks_slot (names step) slot) h e in
-        ap (λ (g : Changes). with_rows l cpu slot step g (changed l.depth g x)) t.1 ∙ rows-are l cpu slot low step less h (changed l.depth h x) uses.moved
+        ap (λ (g : Changes). with_rows l cpu slot step g (changed l.depth g x)) t.1
+        ∙ rows-are l cpu slot low step less h (changed l.depth h x) uses.moved
 
-    pub done : cpu < l.config.cpus → IsLowSlot slot → is_short l.depth h x ≡ false → answer l cpu slot step x ≡ (Done h.value, used_found l (touched h) slot cpu (changed l.depth h x))
+    pub done : cpu < l.config.cpus
+        → IsLowSlot slot
+        → is_short l.depth h x ≡ false
+        → answer l cpu slot step x ≡ (Done h.value, used_found l (touched h) slot cpu (changed l.depth h x))
     done less low t =
         let told = told-ok (rule_of l cpu slot step x) (lacks_slot (names step) slot) h e in
-        answer-by None (fails-short ∙ ap (λ (b : Bool). if b then Some NoPool else None) t) ∙ pair-same (ap (λ (g : Changes). Done g.value) told.1) (made-is less low)
+        answer-by None (fails-short ∙ ap (λ (b : Bool). if b then Some NoPool else None) t)
+        ∙ pair-same (ap (λ (g : Changes). Done g.value) told.1) (made-is less low)
 
     -- the changed slot is one of the list, where the VM part is used
     pub fits : (n : ℕ) → FitsSlots 64 h.slot → (uses_vms (names step) ≡ true → n ≡ 64) → FitsSlots n h.slot

@@ -20,5 +20,10 @@ pub frames_more : (first n : ℕ) → frames_from first n ++ (first + n) ∷ [] 
 frames_more first n = rw (add-one, last_frame first n) refl
 
 -- lists of which each part is the boot state's
-pub booted : (l : Layout) (s : SharedOfLists) → tree_in_lists s.host ≡ edited l.depth (host_root l) (host_edit l) (spare l) → tree_in_lists s.hyp ≡ edited l.depth (hyp_root l) (hyp_edit l) (drop (host_need l) (spare l)) → s.free.items ≡ drop (hyp_need l) (drop (host_need l) (spare l)) → s.rows.runs ≡ [] → shared_in_lists s ≡ boot_shared l
+pub booted : (l : Layout) (s : SharedOfLists)
+    → tree_in_lists s.host ≡ edited l.depth (host_root l) (host_edit l) (spare l)
+    → tree_in_lists s.hyp ≡ edited l.depth (hyp_root l) (hyp_edit l) (drop (host_need l) (spare l))
+    → s.free.items ≡ drop (hyp_need l) (drop (host_need l) (spare l))
+    → s.rows.runs ≡ []
+    → shared_in_lists s ≡ boot_shared l
 booted l s host hyp free rows = rw (host, hyp, free, rows, drop-drop (hyp_need l) (host_need l) (spare l)) refl

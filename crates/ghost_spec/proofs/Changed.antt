@@ -9,9 +9,17 @@ use Rattle.ghost_trees.specs.Trees.{tree_in_lists}
 use Rattle.ghost_spec.specs.Views.{shared_in_lists}
 
 -- lists of which each part is that after the changes
-pub all_changed : (d : ℕ) (h : Changes) (s t : SharedOfLists) → tree_in_lists t.host ≡ edited d (tree_in_lists s.host) (edit_of h.host) s.free.items
-    → tree_in_lists t.hyp ≡ edited d (tree_in_lists s.hyp) (edit_of h.hyp) (drop (need d (tree_in_lists s.host) (edit_of h.host)) s.free.items)
-    → t.free.items ≡ all_given (returned d (tree_in_lists s.host) (edit_of h.host) ++ returned d (tree_in_lists s.hyp) (edit_of h.hyp)) (drop (need d (tree_in_lists s.host) (edit_of h.host) + need d (tree_in_lists s.hyp) (edit_of h.hyp)) s.free.items)
+pub all_changed : (d : ℕ) (h : Changes) (s t : SharedOfLists)
+    → tree_in_lists t.host ≡ edited d (tree_in_lists s.host) (edit_of h.host) s.free.items
+    → tree_in_lists t.hyp
+    ≡ edited d (tree_in_lists s.hyp) (edit_of h.hyp)
+    (drop (need d (tree_in_lists s.host) (edit_of h.host)) s.free.items)
+    → t.free.items
+    ≡ all_given
+    (returned d (tree_in_lists s.host) (edit_of h.host) ++ returned d (tree_in_lists s.hyp) (edit_of h.hyp))
+    (drop
+    (need d (tree_in_lists s.host) (edit_of h.host) + need d (tree_in_lists s.hyp)
+    (edit_of h.hyp)) s.free.items)
     → t.rows ≡ s.rows → shared_in_lists t ≡ shared_after d h (shared_in_lists s)
 unfolding shared_after
 all_changed d h s t host hyp free rows = rw (host, hyp, free, rows) refl

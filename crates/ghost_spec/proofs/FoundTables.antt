@@ -24,7 +24,12 @@ counted-below (suc n) i test h t = by_eq i n
     (λ e. let here : test n ≡ true = subst (λ j. test j ≡ true) e t in rw (count_below, here) (omega arith))
     (λ e. let more : 0 < count_below n test = counted-below n i test (omega (arith, e)) t in omega (arith, more))
 
-counted : (top d e i : ℕ) (test : Block → Bool) → 1 ≤ e → e ≤ d → i < block_pages (top - e) → test (e, i) ≡ true → 0 < count_blocks top d test
+counted : (top d e i : ℕ) (test : Block → Bool)
+    → 1 ≤ e
+    → e ≤ d
+    → i < block_pages (top - e)
+    → test (e, i) ≡ true
+    → 0 < count_blocks top d test
 counted top zero e i test a b h t = absurd (omega arith)
 counted top (suc d) e i test a b h t = by_eq e (suc d)
     (λ q. let here : test (suc d, i) ≡ true = subst (λ (j : ℕ). test (j, i) ≡ true) q t in
@@ -38,7 +43,10 @@ some-below : (n : ℕ) (test : ℕ → Bool) → 0 < count_below n test → (i :
 some-below zero test h = absurd (omega arith)
 some-below (suc n) test h = by_test (test n)
     (λ t. (n, omega arith, t))
-    (λ t. let more : 0 < 0 + count_below n test = rw t at h in let found = some-below n test (omega arith) in let less = found.1 in (found.0, omega (arith, less), found.2))
+    (λ t. let more : 0 < 0 + count_below n test = rw t at h in
+    let found = some-below n test (omega arith) in
+    let less = found.1 in
+    (found.0, omega (arith, less), found.2))
 
 pub record IsCounted (top d : ℕ) (test : Block → Bool) : Type 0 where
   pub block : Block
@@ -53,15 +61,28 @@ some-block top (suc d) test h = by_test (nat_lt 0 (count_below (block_pages (top
     (λ t. let found = some-below (block_pages (top - suc d)) (λ i. test (suc d, i)) (grind (arith, nat_tests)) in
     record { block = (suc d, found.0); some = omega arith; within = omega arith; low = found.1; passes = found.2 })
     (λ t. let found = some-block top d test (grind (arith, nat_tests)) in
-    record { block = found.block; some = found.some; within = omega (arith, found.within); low = found.low; passes = found.passes })
+    record {
+      block = found.block;
+      some = found.some;
+      within = omega (arith, found.within);
+      low = found.low;
+      passes = found.passes;
+    })
 
 -- lists
 
-any-holds : (P : Table → Bool) (Q : Type 0) (ts : List Table) → list_any P ts ≡ true → ((t : Table) → P t ≡ true → Q) → Q
+any-holds : (P : Table → Bool) (Q : Type 0) (ts : List Table)
+    → list_any P ts ≡ true
+    → ((t : Table) → P t ≡ true → Q)
+    → Q
 any-holds P Q [] h u = cc
 any-holds P Q (t ∷ ts) h u = by_test (P t) (λ k. u t k) (λ k. any-holds P Q ts (rw k at h) u)
 
-any-none : (P : Table → Bool) (ts : List Table) (b : Block) (g : ℕ) → list_any P ts ≡ false → table_of ts b ≡ Some g → ((t : Table) → t.block ≡ b → P t ≡ true) → ⊥
+any-none : (P : Table → Bool) (ts : List Table) (b : Block) (g : ℕ)
+    → list_any P ts ≡ false
+    → table_of ts b ≡ Some g
+    → ((t : Table) → t.block ≡ b → P t ≡ true)
+    → ⊥
 any-none P [] b g h e u = let no_table : None ≡ Some g = e in cc
 any-none P (t ∷ ts) b g h e u =
     let both = or-neither (P t) (list_any P ts) h in
@@ -80,9 +101,12 @@ module _ (l : Layout) (t : Tree) (ts : List Table) (f : ℕ) (same : t.table ≡
   there : any_table_with l.depth ts f ≡ true → 0 < count_blocks (l.depth + 1) (l.depth + 1) test
   there h = any-holds (is_table_with l.depth ts f) (0 < count_blocks (l.depth + 1) (l.depth + 1) test) ts h
       (λ a k. let e = and-both (has_place l.depth a.block) (is_frame f (table_of ts a.block)) k in
-      let p = and-both (nat_le 1 a.block.0 && nat_le a.block.0 (l.depth + 1)) (nat_lt a.block.1 (block_pages (l.depth + 1 - a.block.0))) e.0 in
+      let p =
+      and-both (nat_le 1 a.block.0 && nat_le a.block.0 (l.depth + 1))
+      (nat_lt a.block.1 (block_pages (l.depth + 1 - a.block.0))) e.0 in
       let q = and-both (nat_le 1 a.block.0) (nat_le a.block.0 (l.depth + 1)) p.0 in
-      counted (l.depth + 1) (l.depth + 1) a.block.0 a.block.1 test (grind (arith, nat_tests, q.0)) (grind (arith, nat_tests, q.1)) (grind (arith, nat_tests, p.1)) e.1)
+      counted (l.depth + 1) (l.depth + 1) a.block.0 a.block.1 test (grind (arith, nat_tests, q.0))
+      (grind (arith, nat_tests, q.1)) (grind (arith, nat_tests, p.1)) e.1)
 
   back : 0 < count_blocks (l.depth + 1) (l.depth + 1) test → any_table_with l.depth ts f ≡ true
   back h = by_test (any_table_with l.depth ts f) (λ k. k)

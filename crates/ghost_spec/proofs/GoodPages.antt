@@ -7,7 +7,8 @@ use Rattle.ghost_trees.proofs.Searches.{all_below_true, all_below_false}
 
 -- not all of them are input pages, where the last one isn't
 last_beyond : (p g n : ℕ) → 1 ≤ n → p < g + n → false ≡ all_below n (λ i. nat_lt (g + i) p)
-last_beyond p g n some high = sym (all_below_false n (n - 1) (λ i. nat_lt (g + i) p) (omega arith) (beyond (g + (n - 1)) (omega arith)))
+last_beyond p g n some high =
+    sym (all_below_false n (n - 1) (λ i. nat_lt (g + i) p) (omega arith) (beyond (g + (n - 1)) (omega arith)))
   where
     beyond : (k : ℕ) → p ≤ k → nat_lt k p ≡ false
     beyond k h = grind (arith, nat_tests)
@@ -19,7 +20,8 @@ all_inside p g n low = sym (all_below_true n (λ i. nat_lt (g + i) p) (λ i less
     inside k h = grind (arith, nat_tests)
 
 pub few_pages : (p g n : ℕ) → 1 ≤ n → n ≤ p → nat_le g (p - n) ≡ all_below n (λ i. nat_lt (g + i) p)
-few_pages p g n some few = by_test (nat_le g (p - n)) (λ e. e ∙ all_inside p g n (low e)) (λ e. e ∙ last_beyond p g n some (high e))
+few_pages p g n some few =
+    by_test (nat_le g (p - n)) (λ e. e ∙ all_inside p g n (low e)) (λ e. e ∙ last_beyond p g n some (high e))
   where
     low : nat_le g (p - n) ≡ true → g + n ≤ p
     low e = let k : g ≤ p - n = grind (arith, nat_tests) in omega arith

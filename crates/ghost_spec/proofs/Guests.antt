@@ -35,7 +35,10 @@ rest-drop (f ∷ fs) = refl
 
 -- tables
 
-low-one : (o : Option ℕ) (fs : Pool) → ((f : ℕ) → o ≡ Some f → f ≤ 2 ^ 62) → AreLowFrames fs → AreLowFrames (cons_option o fs)
+low-one : (o : Option ℕ) (fs : Pool)
+    → ((f : ℕ) → o ≡ Some f → f ≤ 2 ^ 62)
+    → AreLowFrames fs
+    → AreLowFrames (cons_option o fs)
 low-one None fs k h = h
 low-one (Some f) fs k h = (k f refl, h)
 
@@ -43,7 +46,10 @@ low-found : (table : Block → Option ℕ) (bs : List Block) → HasLowTables ta
 low-found table [] h = tt
 low-found table (b ∷ bs) h = low-one (table b) (filter_map table bs) (h b) (low-found table bs h)
 
-low-placed : (bs : List Block) (fs : List ℕ) (table : Block → Option ℕ) → AreLowFrames fs → HasLowTables table → HasLowTables (placed bs fs table)
+low-placed : (bs : List Block) (fs : List ℕ) (table : Block → Option ℕ)
+    → AreLowFrames fs
+    → HasLowTables table
+    → HasLowTables (placed bs fs table)
 low-placed [] fs table k h = h
 low-placed (a ∷ bs) [] table k h = h
 low-placed (a ∷ bs) (f ∷ fs) table k h = λ b g e. by_test (block_eq a b)
@@ -56,9 +62,13 @@ low-cleared (a ∷ bs) table h = λ b g e. by_test (block_eq a b)
     (λ t. let w : None ≡ Some g = rw t at e in cc)
     (λ t. low-cleared bs table h b g (rw t at e))
 
-pub low-edited : (d : ℕ) (t : Tree) (c : Edit) (fs : Pool) → AreLowFrames fs → HasLowTables t.table → HasLowTables (edited d t c fs).table
+pub low-edited : (d : ℕ) (t : Tree) (c : Edit) (fs : Pool)
+    → AreLowFrames fs
+    → HasLowTables t.table
+    → HasLowTables (edited d t c fs).table
 unfolding edited
-low-edited d t c fs k h = low-cleared (freed d t c) (placed (needs d t c) fs t.table) (low-placed (needs d t c) fs t.table k h)
+low-edited d t c fs k h =
+    low-cleared (freed d t c) (placed (needs d t c) fs t.table) (low-placed (needs d t c) fs t.table k h)
 
 pub low-returned : (d : ℕ) (t : Tree) (c : Edit) → HasLowTables t.table → AreLowFrames (returned d t c)
 unfolding returned

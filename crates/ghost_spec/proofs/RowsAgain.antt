@@ -39,14 +39,22 @@ no-slot : (b : Bool) → where_holds b None ≡ None
 no-slot true = refl
 no-slot false = refl
 
-one-guest : (P : Guest → Bool) → P no_guest ≡ false → (slot : Option ℕ) → IsLowSlot slot → (g : Guest) → first_below 64 (λ v. P (put_guest (λ w. no_guest) slot g v)) ≡ where_holds (P g) slot
+one-guest : (P : Guest → Bool)
+    → P no_guest ≡ false
+    → (slot : Option ℕ)
+    → IsLowSlot slot
+    → (g : Guest)
+    → first_below 64 (λ v. P (put_guest (λ w. no_guest) slot g v)) ≡ where_holds (P g) slot
 one-guest P none None low g = first-none 0 64 (λ v. P no_guest) (λ j h. none) ∙ sym (no-slot (P g))
 one-guest P none (Some v) low g =
     let test : ℕ → Bool = λ u. P (put_at (λ w. no_guest) v g u) in
     let by-if : Bool → Bool = λ b. P (if b then g else no_guest) in
     by_test (P g)
-    (λ t. first-is 0 64 v test (omega arith) (omega (arith, low)) (ap by-if (eq-self v) ∙ t) (λ j h. ap by-if (eq-other j v (λ e. omega (arith, h, e))) ∙ none) ∙ sym (ap (λ (b : Bool). where_holds b (Some v)) t))
-    (λ t. first-none 0 64 test (λ j h. by_test (j == v) (λ e. ap by-if e ∙ t) (λ e. ap by-if e ∙ none)) ∙ sym (ap (λ (b : Bool). where_holds b (Some v)) t))
+    (λ t. first-is 0 64 v test (omega arith) (omega (arith, low)) (ap by-if (eq-self v) ∙ t)
+    (λ j h. ap by-if (eq-other j v (λ e. omega (arith, h, e))) ∙ none)
+    ∙ sym (ap (λ (b : Bool). where_holds b (Some v)) t))
+    (λ t. first-none 0 64 test (λ j h. by_test (j == v) (λ e. ap by-if e ∙ t) (λ e. ap by-if e ∙ none))
+    ∙ sym (ap (λ (b : Bool). where_holds b (Some v)) t))
 
 -- a search that found nothing
 nothing : (o : Option ℕ) → is_some o ≡ false → o ≡ None
@@ -64,19 +72,25 @@ module _ (l : Layout) (s : Shared) (g : Guest) (f : ℕ) where
   abbrev borrows : Bool
   borrows = is_some (page_of l g.tree.map SharedBorrowed f)
 
-  lent-slot : (slot : Option ℕ) → lent-of (put_guest (λ w. no_guest) slot g) (where_holds borrows slot) ≡ guest_lent l s slot g f
+  lent-slot : (slot : Option ℕ)
+      → lent-of (put_guest (λ w. no_guest) slot g) (where_holds borrows slot) ≡ guest_lent l s slot g f
   lent-slot None = ap (lent-of (λ w. no_guest)) (no-slot borrows)
   lent-slot (Some v) =
       let at : Guest → Option Lent = λ x. lent-by v (page_of l x.tree.map SharedBorrowed f) in
-      let same : at (put_at (λ w. no_guest) v g v) ≡ at g = ap (λ (b : Bool). at (if b then g else no_guest)) (eq-self v) in
+      let same : at (put_at (λ w. no_guest) v g v) ≡ at g =
+      ap (λ (b : Bool). at (if b then g else no_guest)) (eq-self v) in
       by_test borrows
       (λ t. ap (λ (b : Bool). lent-of (put_at (λ w. no_guest) v g) (where_holds b (Some v))) t ∙ same)
-      (λ t. ap (λ (b : Bool). lent-of (put_at (λ w. no_guest) v g) (where_holds b (Some v))) t ∙ sym (ap (lent-by v) (nothing (page_of l g.tree.map SharedBorrowed f) t)))
+      (λ t. ap (λ (b : Bool). lent-of (put_at (λ w. no_guest) v g) (where_holds b (Some v))) t
+      ∙ sym (ap (lent-by v) (nothing (page_of l g.tree.map SharedBorrowed f) t)))
 
-  pub guest-lent-is : (slot : Option ℕ) (found : Option ℕ) → found ≡ where_holds borrows slot → lent-of (put_guest (λ w. no_guest) slot g) found ≡ guest_lent l s slot g f
+  pub guest-lent-is : (slot : Option ℕ) (found : Option ℕ)
+      → found ≡ where_holds borrows slot
+      → lent-of (put_guest (λ w. no_guest) slot g) found ≡ guest_lent l s slot g f
   guest-lent-is slot found e = ap (lent-of (put_guest (λ w. no_guest) slot g)) e ∙ lent-slot slot
 
-module _ (l : Layout) (vms : Vms) (s : Shared) (slot : Option ℕ) (low : IsLowSlot slot) (g : Guest) (cpu : ℕ) (k : Cpu) (f : ℕ) where
+module _ (l : Layout) (vms : Vms) (s : Shared) (slot : Option ℕ) (low : IsLowSlot slot) (g : Guest) (cpu : ℕ) (k : Cpu)
+    (f : ℕ) where
   -- the state of these parts alone
   abbrev pub alone : Contents
   alone = record { vms = vms; shared = s; guest = put_guest (λ v. no_guest) slot g; cpu = put_at (λ c. no_cpu) cpu k }
@@ -88,7 +102,9 @@ module _ (l : Layout) (vms : Vms) (s : Shared) (slot : Option ℕ) (low : IsLowS
   guest-is state = one-guest (λ x. is_some (page_of l x.tree.map state f)) (ap is_some (no-page state)) slot low g
 
   pool-is : vm_pool_of l alone f ≡ pool_found l s slot g f
-  pool-is = one-guest (λ x. is_free x.free f || is_table_frame l x.tree f) (is_table_frame-none l no_tree f (λ b. refl)) slot low g
+  pool-is =
+      one-guest (λ x. is_free x.free f || is_table_frame l x.tree f)
+      (is_table_frame-none l no_tree f (λ b. refl)) slot low g
 
   abbrev hand-if : Bool → Bool
   hand-if b = is_in_hand (if b then k else no_cpu).hand f
@@ -103,22 +119,27 @@ module _ (l : Layout) (vms : Vms) (s : Shared) (slot : Option ℕ) (low : IsLowS
   elsewhere c e = ap hand-if (eq-other c cpu e)
 
   held : cpu < l.config.cpus → is_in_hand k.hand f ≡ true → holding_cpu l alone f ≡ Some cpu
-  held less t = first-is 0 l.config.cpus cpu hand-at (omega arith) (omega arith) (here ∙ t) (λ j h. elsewhere j (λ e. omega (arith, h, e)))
+  held less t =
+      first-is 0 l.config.cpus cpu hand-at (omega arith) (omega arith) (here ∙ t)
+      (λ j h. elsewhere j (λ e. omega (arith, h, e)))
 
   not-held : is_in_hand k.hand f ≡ false → holding_cpu l alone f ≡ None
-  not-held t = first-none 0 l.config.cpus hand-at (λ j h. by_test (j == cpu) (λ e. ap hand-if e ∙ t) (λ e. ap hand-if e))
+  not-held t =
+      first-none 0 l.config.cpus hand-at (λ j h. by_test (j == cpu) (λ e. ap hand-if e ∙ t) (λ e. ap hand-if e))
 
   abbrev number-of : Option ℕ → ℕ
   number-of o = elim o [ Some v ↦ 2 + v | None ↦ 0 ]
 
-  sharer-by : (o : Option ℕ) → number-of (where_holds (is_some o) slot) ≡ elim o [ Some page ↦ number-of slot | None ↦ 0 ]
+  sharer-by : (o : Option ℕ)
+      → number-of (where_holds (is_some o) slot) ≡ elim o [ Some page ↦ number-of slot | None ↦ 0 ]
   sharer-by None = refl
   sharer-by (Some page) = refl
 
   sharer-is : sharer l alone f ≡ sharer_found l s slot g f
   sharer-is = ap number-of (guest-is SharedOwned) ∙ sharer-by (page_of l g.tree.map SharedOwned f)
 
-  lender-by : (o : Option ℕ) (n : ℕ) → ◌≡◌ {A = ℕ} (elim (is_some o) [ true ↦ n | false ↦ 0 ]) (elim o [ Some page ↦ n | None ↦ 0 ])
+  lender-by : (o : Option ℕ) (n : ℕ)
+      → ◌≡◌ {A = ℕ} (elim (is_some o) [ true ↦ n | false ↦ 0 ]) (elim o [ Some page ↦ n | None ↦ 0 ])
   lender-by None n = refl
   lender-by (Some page) n = refl
 
@@ -167,22 +188,32 @@ module _ (l : Layout) (vms : Vms) (s : Shared) (slot : Option ℕ) (low : IsLowS
   unfolding row_of
   row-is less = same3 row-with (owner-is (s.host.map f)) lent-is (usage-is less)
 
-pick-same : {X : Type 0} (b : Bool) (p r q : X) → (b ≡ true → p ≡ r) → ◌≡◌ {A = X} (elim b [ true ↦ p | false ↦ q ]) (elim b [ true ↦ r | false ↦ q ])
+pick-same : {X : Type 0} (b : Bool) (p r q : X)
+    → (b ≡ true → p ≡ r)
+    → ◌≡◌ {A = X} (elim b [ true ↦ p | false ↦ q ]) (elim b [ true ↦ r | false ↦ q ])
 pick-same true p r q h = h refl
 pick-same false p r q h = refl
 
-module _ (l : Layout) (cpu : ℕ) (slot : Option ℕ) (low : IsLowSlot slot) (step : Step) (less : cpu < l.config.cpus) where
-  own-row : (y : Used) (f : ℕ) → uses_shared (names step) slot ≡ true → own_row l cpu slot step y f ≡ row_found l y.shared slot y.guest f cpu y.cpu
+module _ (l : Layout) (cpu : ℕ) (slot : Option ℕ) (low : IsLowSlot slot) (step : Step)
+    (less : cpu < l.config.cpus) where
+  own-row : (y : Used) (f : ℕ)
+      → uses_shared (names step) slot ≡ true
+      → own_row l cpu slot step y f ≡ row_found l y.shared slot y.guest f cpu y.cpu
   unfolding own_row put_back
-  own-row y f on = rw on (row-is l (if uses_vms (names step) then y.vms else no_vms) y.shared slot low y.guest cpu y.cpu f less)
+  own-row y f on =
+      rw on (row-is l (if uses_vms (names step) then y.vms else no_vms) y.shared slot low y.guest cpu y.cpu f less)
 
   untouched : (h : Changes) (f : ℕ) → touched h ≡ None → is_in_hand (touched h) f ≡ true → ⊥
   untouched h f e t = let bad : false ≡ true = sym (ap (λ o. is_in_hand o f) e) ∙ t in cc
 
-  pub rows-are : (h : Changes) (y : Used) → (uses_shared (names step) slot ≡ false → touched h ≡ None) → with_rows l cpu slot step h y ≡ used_found l (touched h) slot cpu y
+  pub rows-are : (h : Changes) (y : Used)
+      → (uses_shared (names step) slot ≡ false → touched h ≡ None)
+      → with_rows l cpu slot step h y ≡ used_found l (touched h) slot cpu y
   unfolding with_rows
   rows-are h y none = ap (λ (row : ℕ → Row). record y { shared = record y.shared { row = row } })
-      (fun_ext (λ f. pick-same (is_memory l f && is_in_hand (touched h) f) (own_row l cpu slot step y f) (row_found l y.shared slot y.guest f cpu y.cpu) (y.shared.row f)
+      (fun_ext
+      (λ f. pick-same (is_memory l f && is_in_hand (touched h) f) (own_row l cpu slot step y f)
+      (row_found l y.shared slot y.guest f cpu y.cpu) (y.shared.row f)
       (λ t. by_test (uses_shared (names step) slot)
       (λ u. own-row y f u)
       (λ u. absurd (untouched h f (none u) (and-right (is_memory l f) (is_in_hand (touched h) f) t))))))

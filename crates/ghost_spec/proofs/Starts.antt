@@ -32,10 +32,18 @@ region-of-memory m f h = go (region_of m f) refl h
     go None e t = cc
     go (Some r) e t =
         let at = found-in m.regions f r e in
-        record { region = r; place = at.0; within = at.1; holds = subst (λ (q : Region). is_in_range q.pages f ≡ true) (sym at.2) (find-holds m.regions f r e) }
+        record {
+          region = r;
+          place = at.0;
+          within = at.1;
+          holds = subst (λ (q : Region). is_in_range q.pages f ≡ true) (sym at.2) (find-holds m.regions f r e);
+        }
 
 -- lists of which each item stands for the same
-pub all-same : {X Y : Type 0} (g : X → Y) (d : Y) (xs : List X) → All (λ x. g x ≡ d) xs → (i : ℕ) → get_or (map g xs) i d ≡ d
+pub all-same : {X Y : Type 0} (g : X → Y) (d : Y) (xs : List X)
+    → All (λ x. g x ≡ d) xs
+    → (i : ℕ)
+    → get_or (map g xs) i d ≡ d
 all-same g d [] h i = refl
 all-same g d (x ∷ xs) h zero = h 0 x (omega arith)
 all-same g d (x ∷ xs) h (suc i) = all-same g d xs (λ k e less. h (suc k) e (omega (arith, less))) i
@@ -54,10 +62,12 @@ module _ (l : Layout) (some : 0 < l.config.cpus) where
       with-cpus k = record { vms = no_vms; shared = boot_shared l; guest = λ v. no_guest; cpu = k }
 
   boot-row : (f : ℕ) → row_found l (boot_shared l) None no_guest f 0 no_cpu ≡ row_of l (boot_without_rows l) f
-  boot-row f = sym (row-is l no_vms (boot_shared l) None tt no_guest 0 no_cpu f some) ∙ ap (λ (s : Contents). row_of l s f) idle
+  boot-row f =
+      sym (row-is l no_vms (boot_shared l) None tt no_guest 0 no_cpu f some) ∙ ap (λ (s : Contents). row_of l s f) idle
 
   with-row : (ℕ → Row) → Shared
-  with-row row = record { host = (boot_shared l).host; hyp = (boot_shared l).hyp; free = (boot_shared l).free; row = row }
+  with-row row =
+      record { host = (boot_shared l).host; hyp = (boot_shared l).hyp; free = (boot_shared l).free; row = row }
 
   abbrev picked : Bool → Row → Row → Row
   picked b x y = elim b [ true ↦ x | false ↦ y ]
@@ -72,19 +82,44 @@ module _ (l : Layout) (some : 0 < l.config.cpus) where
   unfolding booted with-row found-rows
   booted-is = refl
 
-  pub shared-booted : (s t : SharedOfLists) → shared_in_lists s ≡ boot_shared l → t.host ≡ s.host → t.hyp ≡ s.hyp → t.free ≡ s.free
-      → ((f : ℕ) → row_in t.rows.runs f ≡ elim (is_memory l f) [ true ↦ row_found l (shared_in_lists s) None no_guest f 0 no_cpu | false ↦ row_in s.rows.runs f ]) → shared_in_lists t ≡ (booted l).shared
+  pub shared-booted : (s t : SharedOfLists)
+      → shared_in_lists s ≡ boot_shared l
+      → t.host ≡ s.host
+      → t.hyp ≡ s.hyp
+      → t.free ≡ s.free
+      → ((f : ℕ)
+      → row_in t.rows.runs f
+      ≡ elim (is_memory l f)
+      [ true ↦ row_found l (shared_in_lists s) None no_guest f 0 no_cpu | false ↦ row_in s.rows.runs f ])
+      → shared_in_lists t ≡ (booted l).shared
   unfolding with-row keep-row found-rows
   shared-booted s t e host hyp free rows =
-      let row : row_in t.rows.runs ≡ found-rows = fun_ext (λ f. rows f ∙ same2 (picked (is_memory l f)) (ap (λ (x : Shared). row_found l x None no_guest f 0 no_cpu) e ∙ boot-row f) (ap (λ (x : Shared). x.row f) e)) in
+      let row : row_in t.rows.runs ≡ found-rows =
+      fun_ext
+      (λ f. rows f
+      ∙ same2 (picked (is_memory l f))
+      (ap (λ (x : Shared). row_found l x None no_guest f 0 no_cpu) e ∙ boot-row f)
+      (ap (λ (x : Shared). x.row f) e)) in
       rw (host, hyp, free, row) (ap keep-row e) ∙ booted-is
 
-  pub state-booted : (g : GhostLists) → g.layout.config.log ≡ l.config.log → All (λ s. slot_in s ≡ no_slot 1) g.vms.items → shared_in_lists g.shared ≡ (booted l).shared → All (λ v. guest_in v ≡ no_guest) g.guests.items → All (λ k. cpu_in k ≡ no_cpu) g.cpus.items
-      → g.rooms.vms ≡ l.config.log → g.rooms.shared ≡ l.config.log → All (λ n. n ≡ l.config.log) g.rooms.guests.items → All (λ n. n ≡ l.config.log) g.rooms.cpus.items → ghost_state g ≡ boot l
+  pub state-booted : (g : GhostLists)
+      → g.layout.config.log ≡ l.config.log
+      → All (λ s. slot_in s ≡ no_slot 1) g.vms.items
+      → shared_in_lists g.shared ≡ (booted l).shared
+      → All (λ v. guest_in v ≡ no_guest) g.guests.items
+      → All (λ k. cpu_in k ≡ no_cpu) g.cpus.items
+      → g.rooms.vms ≡ l.config.log
+      → g.rooms.shared ≡ l.config.log
+      → All (λ n. n ≡ l.config.log) g.rooms.guests.items
+      → All (λ n. n ≡ l.config.log) g.rooms.cpus.items
+      → ghost_state g ≡ boot l
   unfolding booted
   state-booted g log vms shared guests cpus rv rs rg rc =
-      state-same (ap slots-of (fun_ext (all-same slot_in (no_slot 1) g.vms.items vms))) shared (fun_ext (all-same guest_in no_guest g.guests.items guests)) (fun_ext (all-same cpu_in no_cpu g.cpus.items cpus))
-      rv rs (fun_ext (λ v. rw log (all-equal l.config.log g.rooms.guests.items rg v))) (fun_ext (λ v. rw log (all-equal l.config.log g.rooms.cpus.items rc v)))
+      state-same (ap slots-of (fun_ext (all-same slot_in (no_slot 1) g.vms.items vms))) shared
+      (fun_ext (all-same guest_in no_guest g.guests.items guests))
+      (fun_ext (all-same cpu_in no_cpu g.cpus.items cpus))
+      rv rs (fun_ext (λ v. rw log (all-equal l.config.log g.rooms.guests.items rg v)))
+      (fun_ext (λ v. rw log (all-equal l.config.log g.rooms.cpus.items rc v)))
     where
       slots-of : (ℕ → Slot) → Vms
       slots-of f = record { slot = f }

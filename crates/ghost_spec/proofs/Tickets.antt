@@ -35,7 +35,10 @@ slot-of b o = if b then option_map (λ (t : Ticket). t.vm.slot) o else None
 pub stage-some : (stage : Stage) (k : Cpu) (t : Ticket) → k.ticket ≡ Some t → has_stage stage k ≡ stage_eq t.stage stage
 stage-some stage k t e = ap (λ (o : Option Ticket). elim o [ Some x ↦ stage_eq x.stage stage | None ↦ false ]) e
 
-pub slot-some : (stage : Stage) (k : Cpu) (t : Ticket) → k.ticket ≡ Some t → has_stage stage k ≡ true → ticket_slot stage k ≡ Some t.vm.slot
+pub slot-some : (stage : Stage) (k : Cpu) (t : Ticket)
+    → k.ticket ≡ Some t
+    → has_stage stage k ≡ true
+    → ticket_slot stage k ≡ Some t.vm.slot
 slot-some stage k t e h = ap (λ (b : Bool). slot-of b k.ticket) h ∙ ap (slot-of true) e
 
 pub slot-other : (stage : Stage) (k : Cpu) → has_stage stage k ≡ false → ticket_slot stage k ≡ None
@@ -52,7 +55,11 @@ vm-none k e = ap (λ (o : Option Ticket). elim o [ Some x ↦ x.vm | None ↦ re
 
 module _ (l : Layout) (cpu : ℕ) (slot : Option ℕ) (x : Used) where
   -- an installed VM opens
-  pub opens : (vm : VmId) (left : CpuChange) → vm ≡ ticket_vm x.cpu → left ≡ no_ticket → has_stage Installed x.cpu ≡ true → Ok (record no_changes { slot = Open vm.slot; cpu = left; value = Vm vm }) ≡ decides l cpu slot VmOpen x
+  pub opens : (vm : VmId) (left : CpuChange)
+      → vm ≡ ticket_vm x.cpu
+      → left ≡ no_ticket
+      → has_stage Installed x.cpu ≡ true
+      → Ok (record no_changes { slot = Open vm.slot; cpu = left; value = Vm vm }) ≡ decides l cpu slot VmOpen x
   unfolding rule
   opens vm left e gone h = rw (e, gone, h) refl
 
@@ -61,11 +68,16 @@ module _ (l : Layout) (cpu : ℕ) (slot : Option ℕ) (x : Used) where
   opens-not h = rw h refl
 
   -- a slot is released
-  pub releases : (vm : VmId) (left : CpuChange) → vm ≡ ticket_vm x.cpu → left ≡ no_ticket → (has_stage Booked x.cpu || has_stage Finished x.cpu) ≡ true → Ok (record no_changes { slot = Release vm; cpu = left }) ≡ decides l cpu slot VmRelease x
+  pub releases : (vm : VmId) (left : CpuChange)
+      → vm ≡ ticket_vm x.cpu
+      → left ≡ no_ticket
+      → (has_stage Booked x.cpu || has_stage Finished x.cpu) ≡ true
+      → Ok (record no_changes { slot = Release vm; cpu = left }) ≡ decides l cpu slot VmRelease x
   unfolding rule
   releases vm left e gone h = rw (e, gone, h) refl
 
-  pub releases-not : (has_stage Booked x.cpu || has_stage Finished x.cpu) ≡ false → Err NoVm ≡ decides l cpu slot VmRelease x
+  pub releases-not : (has_stage Booked x.cpu || has_stage Finished x.cpu) ≡ false
+      → Err NoVm ≡ decides l cpu slot VmRelease x
   unfolding rule
   releases-not h = rw h refl
 
@@ -75,7 +87,10 @@ module _ (l : Layout) (cpu : ℕ) (slot : Option ℕ) (x : Used) where
   unfolding rule
   dies-nowhere h = rw h refl
 
-  pub dies : (on : CpuChange) → on ≡ moved_on Dying x.cpu → is_none slot ≡ false → Ok (record no_changes { part = Die; cpu = on }) ≡ decides l cpu slot MarkDying x
+  pub dies : (on : CpuChange)
+      → on ≡ moved_on Dying x.cpu
+      → is_none slot ≡ false
+      → Ok (record no_changes { part = Die; cpu = on }) ≡ decides l cpu slot MarkDying x
   unfolding rule
   dies on m h = rw (m, h) refl
 
@@ -88,26 +103,63 @@ module _ (l : Layout) (cpu : ℕ) (slot : Option ℕ) (x : Used) where
   unfolding rule
   installs-not h none = rw (h, none) refl
 
-  pub installs : (kind : VmKind) (vm : VmId) (hand : PageRange) (on : CpuChange) → kind ≡ ticket_kind x.cpu → vm ≡ ticket_vm x.cpu → x.cpu.hand ≡ Some hand → on ≡ moved_on Installed x.cpu → is_none slot ≡ false
-      → Ok (record no_changes { part = InstallGuest kind vm.generation hand; cpu = record on { hand = Becomes None }; moved = x.cpu.hand }) ≡ decides l cpu slot Install x
+  pub installs : (kind : VmKind) (vm : VmId) (hand : PageRange) (on : CpuChange)
+      → kind ≡ ticket_kind x.cpu
+      → vm ≡ ticket_vm x.cpu
+      → x.cpu.hand ≡ Some hand
+      → on ≡ moved_on Installed x.cpu
+      → is_none slot ≡ false
+      → Ok
+      (record no_changes {
+        part = InstallGuest kind vm.generation hand;
+        cpu = record on { hand = Becomes None };
+        moved = x.cpu.hand;
+      })
+      ≡ decides l cpu slot Install x
   unfolding rule
   installs kind vm hand on a b e m h =
       let some : is_none x.cpu.hand ≡ false = ap is_none e in
       let own : hand_of x.cpu ≡ hand = ap (λ (o : Option PageRange). unwrap_or o no_range) e in
-      rw (a, b, m, h, some) (ap (λ (r : PageRange). Ok (record no_changes { part = InstallGuest (ticket_kind x.cpu) (ticket_vm x.cpu).generation r; cpu = record (moved_on Installed x.cpu) { hand = Becomes None }; moved = x.cpu.hand })) (sym own))
+      rw (a, b, m, h, some)
+      (ap
+      (λ (r : PageRange). Ok
+      (record no_changes {
+        part = InstallGuest (ticket_kind x.cpu) (ticket_vm x.cpu).generation r;
+        cpu = record (moved_on Installed x.cpu) { hand = Becomes None };
+        moved = x.cpu.hand;
+      }))
+      (sym own))
 
   -- a slot is reserved
-  pub reserves-none : (kind : VmKind) (vcpus : ℕ) → (nat_le 1 vcpus && nat_le vcpus 8) ≡ true → is_some x.cpu.ticket ≡ false → vacant_slot x.vms ≡ None → Err Busy ≡ decides l cpu slot (VmReserve kind vcpus) x
+  pub reserves-none : (kind : VmKind) (vcpus : ℕ)
+      → (nat_le 1 vcpus && nat_le vcpus 8) ≡ true
+      → is_some x.cpu.ticket ≡ false
+      → vacant_slot x.vms ≡ None
+      → Err Busy ≡ decides l cpu slot (VmReserve kind vcpus) x
   unfolding rule
   reserves-none kind vcpus good free e =
       let none : is_none (vacant_slot x.vms) ≡ true = ap is_none e in
       rw (good, free, none) refl
 
   abbrev reserved-as : VmKind → ℕ → ℕ → ℕ → Result Changes Refusal
-  reserved-as kind vcpus v n = Ok (record no_changes { slot = Reserve v kind vcpus; cpu = ticket_becomes (record { slot = v; generation = n }) kind Booked; value = Vm (record { slot = v; generation = n }) })
+  reserved-as kind vcpus v n =
+      Ok
+      (record no_changes {
+        slot = Reserve v kind vcpus;
+        cpu = ticket_becomes (record { slot = v; generation = n }) kind Booked;
+        value = Vm (record { slot = v; generation = n });
+      })
 
-  pub reserves : (kind : VmKind) (vcpus v n : ℕ) (on : CpuChange) → (nat_le 1 vcpus && nat_le vcpus 8) ≡ true → is_some x.cpu.ticket ≡ false → vacant_slot x.vms ≡ Some v → n ≡ (x.vms.slot v).generation → on ≡ ticket_becomes (record { slot = v; generation = n }) kind Booked
-      → Ok (record no_changes { slot = Reserve v kind vcpus; cpu = on; value = Vm (record { slot = v; generation = n }) }) ≡ decides l cpu slot (VmReserve kind vcpus) x
+  pub reserves : (kind : VmKind) (vcpus v n : ℕ) (on : CpuChange)
+      → (nat_le 1 vcpus && nat_le vcpus 8) ≡ true
+      → is_some x.cpu.ticket ≡ false
+      → vacant_slot x.vms ≡ Some v
+      → n ≡ (x.vms.slot v).generation
+      → on ≡ ticket_becomes (record { slot = v; generation = n }) kind Booked
+      → Ok
+      (record no_changes
+      { slot = Reserve v kind vcpus; cpu = on; value = Vm (record { slot = v; generation = n }) })
+      ≡ decides l cpu slot (VmReserve kind vcpus) x
   unfolding rule
   reserves kind vcpus v n on good free e g m =
       let some : is_none (vacant_slot x.vms) ≡ false = ap is_none e in

@@ -9,5 +9,6 @@ use Rattle.reference_model.specs.model.State.{Guest}
 abbrev pub mapped_guest : ℕ → Option MapChange → Guest → Guest
 mapped_guest depth c g = record g {
   tree = edited depth g.tree (edit_of c) g.free;
-  free = all_given (returned depth g.tree (edit_of c)) (drop (need depth g.tree (edit_of c)) g.free);
+  free =
+      all_given (returned depth g.tree (edit_of c)) (drop (need depth g.tree (edit_of c)) g.free);
 }

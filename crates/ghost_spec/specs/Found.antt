@@ -16,7 +16,9 @@ use Rattle.ghost_trees.specs.Trees.{table_of}
 
 -- the page of a range with a target that maps the frame in the state
 abbrev pub target_page : ℕ → State → PageRange → Target → Option ℕ
-target_page f s pages (Leaf frame prot kind state) = if state_eq state s && is_within frame.0 pages.count f then Some (pages.first.0 + (f - frame.0)) else None
+target_page f s pages (Leaf frame prot kind state) =
+    if state_eq state s && is_within frame.0 pages.count f then Some (pages.first.0 + (f - frame.0))
+    else None
 target_page f s pages other = None
 
 -- the page of a run that maps the frame in the state
@@ -26,11 +28,13 @@ run_page f s r = target_page f s r.pages r.target
 -- the page of the first run that has one
 abbrev pub first_page_in : ℕ → State → List Run → Option ℕ
 first_page_in f s [] = None
-first_page_in f s (r ∷ rs) = elim (run_page f s r) [ Some page ↦ Some page | None ↦ first_page_in f s rs ]
+first_page_in f s (r ∷ rs) =
+    elim (run_page f s r) [ Some page ↦ Some page | None ↦ first_page_in f s rs ]
 
 -- a block may have a table in trees of the depth, the root's among them
 abbrev pub has_place : ℕ → Block → Bool
-has_place depth b = nat_le 1 b.0 && nat_le b.0 (depth + 1) && nat_lt b.1 (block_pages (depth + 1 - b.0))
+has_place depth b =
+    nat_le 1 b.0 && nat_le b.0 (depth + 1) && nat_lt b.1 (block_pages (depth + 1 - b.0))
 
 -- a table that counts is at such a block and has the frame
 abbrev pub is_table_with : ℕ → List Table → ℕ → Table → Bool

@@ -1,4 +1,5 @@
--- What each state on lists keeps: its runs are the coarsest, and its numbers small, so that sums are numbers of 64 bits.
+-- What each state on lists keeps: its runs are the coarsest, and its numbers small, so that sums
+-- are numbers of 64 bits.
 use Rattle.std.specs.Prelude.{◌≡◌, ℕ, ◌+◌, ◌^◌, ◌<◌, ◌≤◌, [], ◌∷◌, Option, Some, None, IfSome}
 use Rattle.call_table.specs.declared.step.Step.{Step}
 use Rattle.call_table.specs.declared.step.Step.TheVariants.{VmRelease}
@@ -70,7 +71,8 @@ pub record IsKeptCpu (k : GhostCpu) : Type 0 where
   pub loaded : HasLowLoad k.loaded
   pub ticket : HasLowTicket k.ticket
 
--- where the step releases the VM of a CPU's ticket, the generation after that VM's is a number of 64 bits
+-- where the step releases the VM of a CPU's ticket, the generation after that VM's is a number of
+-- 64 bits
 abbrev pub HasNextGeneration : Option Ticket → Step → Type 0
 HasNextGeneration ticket step = step ≡ VmRelease → IfSome ticket (λ t. t.vm.generation + 1 < 2 ^ 64)
 
@@ -85,7 +87,8 @@ IsSmallPart (Install kind generation hand) = end_of hand ≤ 2 ^ 62
 IsSmallPart (Gain range) = end_of range ≤ 2 ^ 62
 IsSmallPart other = Unit {0}
 
--- what changes of the slots is one of the first n, and a generation that rises is still a number of 64 bits
+-- what changes of the slots is one of the first n, and a generation that rises is still a number of
+-- 64 bits
 abbrev pub FitsSlots : ℕ → SlotChange → Type 0
 FitsSlots n KeepSlots = Unit {0}
 FitsSlots n (Reserve v kind vcpus) = v < n

@@ -23,7 +23,14 @@ stand_in Closing = closing
 
 -- a slot
 abbrev pub slot_in : GhostSlot → Slot
-slot_in s = record { stand = stand_in s.stand; generation = s.generation; kind = s.kind; vcpus = s.vcpus; loaded = λ i. get_or s.loaded.items i None }
+slot_in s =
+    record {
+      stand = stand_in s.stand;
+      generation = s.generation;
+      kind = s.kind;
+      vcpus = s.vcpus;
+      loaded = λ i. get_or s.loaded.items i None;
+    }
 
 -- the phase of a guest
 abbrev pub phase_in : GhostPhase → Phase
@@ -33,7 +40,14 @@ phase_in Dying = dying
 
 -- a guest
 abbrev pub guest_in : GhostGuest → Guest
-guest_in g = record { phase = phase_in g.phase; generation = g.generation; kind = g.kind; tree = tree_in_lists g.tree; free = g.free.items }
+guest_in g =
+    record {
+      phase = phase_in g.phase;
+      generation = g.generation;
+      kind = g.kind;
+      tree = tree_in_lists g.tree;
+      free = g.free.items;
+    }
 
 -- all contents; past a list's end slots and guests are Empty, and CPUs have nothing
 abbrev pub contents_in : GhostLists → Contents
@@ -46,7 +60,13 @@ contents_in g = record {
 
 -- the rooms of all logs, which can store `log` calls each; past a list's end they are empty
 abbrev pub rooms_in : ℕ → GhostRooms → Rooms
-rooms_in log r = record { vms = r.vms; shared = r.shared; guest = λ v. get_or r.guests.items v log; cpu = λ c. get_or r.cpus.items c log }
+rooms_in log r =
+    record {
+      vms = r.vms;
+      shared = r.shared;
+      guest = λ v. get_or r.guests.items v log;
+      cpu = λ c. get_or r.cpus.items c log;
+    }
 
 -- the state
 abbrev pub ghost_state : GhostLists → Reference
@@ -60,7 +80,8 @@ AreKeptGuests gs = All IsKeptGuest gs
 abbrev pub AreKeptCpus : List GhostCpu → Type 0
 AreKeptCpus ks = All IsKeptCpu ks
 
--- what each Ghost keeps: lists of the layout's lengths, the coarsest runs, and numbers whose sums are numbers of 64 bits
+-- what each Ghost keeps: lists of the layout's lengths, the coarsest runs, and numbers whose sums
+-- are numbers of 64 bits
 pub record IsKept (g : GhostLists) : Type 0 where
   pub shared : IsKeptShared g.shared
   pub guests : AreKeptGuests g.guests.items

@@ -35,7 +35,13 @@ rooms_of log rooms v = get_or rooms v log
 
 -- what a call uses
 abbrev pub used_in : GhostUsed → Used
-used_in u = record { vms = vms_in u.vms.items; shared = shared_in_lists u.shared; guest = guest_in u.guest; cpu = cpu_in u.own }
+used_in u =
+    record {
+      vms = vms_in u.vms.items;
+      shared = shared_in_lists u.shared;
+      guest = guest_in u.guest;
+      cpu = cpu_in u.own;
+    }
 
 -- the lists of what a call uses are kept
 pub record IsKeptUsed (u : GhostUsed) : Type 0 where
@@ -44,18 +50,21 @@ pub record IsKeptUsed (u : GhostUsed) : Type 0 where
   pub own : IsKeptCpu u.own
 
 -- what a call uses was taken from lists: it is what they have of it, and kept
-pub record IsTaken (step : Step) (slot : Option ℕ) (cpu : ℕ) (g : GhostLists) (u : GhostUsed) : Type 0 where
+pub record IsTaken (step : Step) (slot : Option ℕ) (cpu : ℕ) (g : GhostLists)
+    (u : GhostUsed) : Type 0 where
   pub used : used_in u ≡ used_of (names step) slot cpu (contents_in g)
   pub kept : IsKeptUsed u
   pub count : uses_vms (names step) ≡ true → length u.vms.items ≡ 64
 
 -- but for what a call uses, which is put back, two contents are the same
 abbrev pub IsSameElsewhere : Step → Option ℕ → ℕ → Contents → Contents → Type 0
-IsSameElsewhere step slot cpu s t = (x : Used) → put_back (names step) slot cpu t x ≡ put_back (names step) slot cpu s x
+IsSameElsewhere step slot cpu s t =
+    (x : Used) → put_back (names step) slot cpu t x ≡ put_back (names step) slot cpu s x
 
 -- the rooms once the log of each part that a call uses has stored it
 abbrev pub rooms_after : Step → Option ℕ → ℕ → Rooms → Rooms
-rooms_after step slot cpu r = put_rooms (names step) slot cpu r (stored (used_rooms_of (names step) slot cpu r))
+rooms_after step slot cpu r =
+    put_rooms (names step) slot cpu r (stored (used_rooms_of (names step) slot cpu r))
 
 -- the host's page of the frame is free to give, and the hypervisor's page of it unmapped
 abbrev pub may_donate_frame : Shared → ℕ → Bool
@@ -67,7 +76,8 @@ may_give_frame s g f page = is_free_page (s.host.map f) && is_unmapped (g.tree.m
 
 -- the hypervisor owns the frame, and it is in no other use
 abbrev pub may_return_frame : Shared → ℕ → Bool
-may_return_frame s f = (s.row f).owner.0 == 1 && is_plain (s.row f).usage && is_in Owned (s.hyp.map (hyp_page f))
+may_return_frame s f =
+    (s.row f).owner.0 == 1 && is_plain (s.row f).usage && is_in Owned (s.hyp.map (hyp_page f))
 
 -- what the host gets of a Dying guest's page: the frame again, where it didn't own it itself
 abbrev pub reclaimed : Entry → Entry

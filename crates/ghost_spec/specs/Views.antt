@@ -18,7 +18,13 @@ row_in runs f = unwrap_or (run_map advance_row runs f) plain_row
 
 -- the Shared part
 abbrev pub shared_in_lists : SharedOfLists → Shared
-shared_in_lists s = record { host = tree_in_lists s.host; hyp = tree_in_lists s.hyp; free = s.free.items; row = row_in s.rows.runs }
+shared_in_lists s =
+    record {
+      host = tree_in_lists s.host;
+      hyp = tree_in_lists s.hyp;
+      free = s.free.items;
+      row = row_in s.rows.runs;
+    }
 
 -- the layout of a memory, a configuration and a depth
 abbrev pub layout_with : Memory → Config → ℕ → Layout

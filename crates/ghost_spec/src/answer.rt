@@ -88,7 +88,9 @@ fn make(
     requires slot { IsLowSlot slot }
     requires small { AreSmallChanges changes.now }
     requires slots { FitsSlots (length used.old.vms.items) changes.now.slot }
-    ensures used { OnOk result (used_in used.new ≡ used_made (layout_of layout.now) slot cpu changes.now (used_in used.old)) }
+    ensures used { OnOk result
+        (used_in used.new
+        ≡ used_made (layout_of layout.now) slot cpu changes.now (used_in used.old)) }
     ensures kept { OnOk result (IsKeptUsed used.new) }
     ensures count { OnOk result (length used.new.vms.items ≡ length used.old.vms.items) }
 {
@@ -119,7 +121,9 @@ pub(crate) fn answer(
     requires slot { IsLowSlot slot }
     requires vms { uses_vms_of (names step) ≡ true → length used.old.vms.items ≡ 64 }
     requires generation { HasNextGeneration used.old.own.ticket step }
-    ensures answer { IfOk result (λ reply. (reply, used_in used.new) ≡ answer_of (layout_of layout.now) cpu slot step (used_in used.old)) }
+    ensures answer { IfOk result
+        (λ reply. (reply, used_in used.new)
+        ≡ answer_of (layout_of layout.now) cpu slot step (used_in used.old)) }
     ensures kept { OnOk result (IsKeptUsed used.new) }
     ensures count { OnOk result (length used.new.vms.items ≡ length used.old.vms.items) }
 {

@@ -30,7 +30,9 @@ pub fn boot(
 ) -> Result<Option<Shared>, AllocError>
     requires { depth ≤ 3 }
     ensures enough { IfOk result (λ o. IsSome o ↔ IsCarveEnough (layout_with memory.now config depth)) }
-    ensures shared { IfOk result (λ o. IfSome o (λ s. shared_in_lists s ≡ boot_shared (layout_with memory.now config depth))) }
+    ensures shared { IfOk result
+        (λ o. IfSome o
+        (λ s. shared_in_lists s ≡ boot_shared (layout_with memory.now config depth))) }
     ensures kept { IfOk result (λ o. IfSome o IsKeptShared) }
 {
     let carve = memory.carve();
@@ -67,7 +69,8 @@ fn need_at_boot(
     requires depth { depth ≤ 3 }
     requires pages { end_of range ≤ 2 ^ 63 }
     requires frames { HasLowFrames entry range.count }
-    ensures { IfOk result (λ n. n ≡ need_of depth (root_tree_of depth root) (put range.first.0 range.count entry)) }
+    ensures { IfOk result
+        (λ n. n ≡ need_of depth (root_tree_of depth root) (put range.first.0 range.count entry)) }
 {
     let tree = root_tree(alloc, depth, root)?;
     need(alloc, depth, &tree, range, entry)
@@ -85,7 +88,10 @@ fn tree_at_boot(
     requires depth { depth ≤ 3 }
     requires pages { end_of range ≤ 2 ^ 63 }
     requires frames { HasLowFrames entry range.count }
-    ensures tree { IfOk result (λ t. tree_in_lists t ≡ edited_of depth (root_tree_of depth root) (put range.first.0 range.count entry) frames.now) }
+    ensures tree { IfOk result
+        (λ t. tree_in_lists t
+        ≡ edited_of depth (root_tree_of depth root)
+        (put range.first.0 range.count entry) frames.now) }
     ensures kept { IfOk result IsKeptTree }
 {
     let tree = root_tree(alloc, depth, root)?;

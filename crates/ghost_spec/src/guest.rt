@@ -67,7 +67,10 @@ fn installed(
 fn gain(alloc: Global, guest: &mut GhostGuest, range: PageRange) -> Result<(), AllocError>
     requires kept { IsKeptGuest guest.old }
     requires range { end_of range ≤ 2 ^ 62 }
-    ensures after { OnOk result (guest_in guest.new ≡ record (guest_in guest.old) { free = all_given (frames_in range) (guest_in guest.old).free }) }
+    ensures after { OnOk result
+        (guest_in guest.new
+        ≡ record (guest_in guest.old)
+        { free = all_given (frames_in range) (guest_in guest.old).free }) }
     ensures kept { OnOk result (IsKeptGuest guest.new) }
 {
     let frames = frames_from(alloc, range.first.0, range.count)?;
@@ -78,7 +81,9 @@ fn gain(alloc: Global, guest: &mut GhostGuest, range: PageRange) -> Result<(), A
 /// A guest's pool loses its lowest frame.
 fn lose_lowest(alloc: Global, guest: &mut GhostGuest) -> Result<(), AllocError>
     requires kept { IsKeptGuest guest.old }
-    ensures after { OnOk result (guest_in guest.new ≡ record (guest_in guest.old) { free = rest_of (guest_in guest.old).free }) }
+    ensures after { OnOk result
+        (guest_in guest.new
+        ≡ record (guest_in guest.old) { free = rest_of (guest_in guest.old).free }) }
     ensures kept { OnOk result (IsKeptGuest guest.new) }
 {
     guest.free = Vec::from_slice(alloc, behind(guest.free.as_slice(), 1))?;
@@ -149,7 +154,10 @@ pub(crate) fn is_short(
     requires depth { depth ≤ 3 }
     requires kept { IsKeptGuest guest.now }
     requires map { IsSmallChange changes.now.guest }
-    ensures { IfOk result (λ b. b ≡ nat_lt (length guest.now.free.items) (guest_need depth changes.now (guest_in guest.now))) }
+    ensures { IfOk result
+        (λ b. b
+        ≡ nat_lt (length guest.now.free.items)
+        (guest_need depth changes.now (guest_in guest.now))) }
 {
     let need = needed(alloc, depth, &guest.tree, changes.guest)?;
     Ok(guest.free.len() < need)

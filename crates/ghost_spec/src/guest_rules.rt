@@ -93,7 +93,9 @@ fn is_dying(vm: VmId, guest: &GhostGuest) -> bool
 
 /// Whether the guest is Live or Dying, with the generation of the name.
 fn is_live_or_dying(vm: VmId, guest: &GhostGuest) -> bool
-    ensures { result ≡ (is_guest_of live vm (guest_in guest.now) || is_guest_of dying vm (guest_in guest.now)) }
+    ensures { result
+        ≡ (is_guest_of live vm (guest_in guest.now)
+        || is_guest_of dying vm (guest_in guest.now)) }
 {
     is_live(vm, guest) || is_dying(vm, guest)
 }
@@ -200,7 +202,10 @@ fn may_give(shared: &Shared, guest: &GhostGuest, pfn: u64, gfn: u64, n: u64) -> 
     requires guest { IsKeptGuest guest.now }
     requires frames { pfn + n ≤ 2 ^ 62 }
     requires pages { gfn + n ≤ 2 ^ 62 }
-    ensures { result ≡ all_below n (λ i. may_give_frame_of (shared_in_lists shared.now) (guest_in guest.now) (pfn + i) (gfn + i)) }
+    ensures { result
+        ≡ all_below n
+        (λ i. may_give_frame_of (shared_in_lists shared.now) (guest_in guest.now) (pfn + i)
+        (gfn + i)) }
 {
     for i in 0..n {
         if !may_give_frame(shared, guest, pfn + i, gfn + i) {
@@ -249,7 +254,10 @@ pub(crate) fn share_guest(
     n: u64,
 ) -> Result<Changes, Refusal>
     requires { IsKeptUsed used.now }
-    ensures decided { (cpu : ℕ) → result ≡ decides (layout_of layout.now) cpu slot (ShareGuest pfn gfn prot n) (used_in used.now) }
+    ensures decided { (cpu : ℕ)
+        → result
+        ≡ decides (layout_of layout.now) cpu slot (ShareGuest pfn gfn prot n)
+        (used_in used.now) }
     ensures small { IfOk result AreSmallChanges }
 {
     if !layout.is_good_range(Page(pfn), n) || !are_good_pages(layout, gfn, n) {
@@ -280,7 +288,9 @@ pub(crate) fn unshare_guest(
     gfn: u64,
 ) -> Result<Changes, Refusal>
     requires { IsKeptUsed used.now }
-    ensures decided { (cpu : ℕ) → result ≡ decides (layout_of layout.now) cpu slot (UnshareGuest vm gfn) (used_in used.now) }
+    ensures decided { (cpu : ℕ)
+        → result
+        ≡ decides (layout_of layout.now) cpu slot (UnshareGuest vm gfn) (used_in used.now) }
     ensures small { IfOk result AreSmallChanges }
 {
     if vm.slot >= SLOTS || !is_good_page(layout, gfn) {
@@ -314,7 +324,9 @@ pub(crate) fn donate_guest(
 ) -> Result<Changes, Refusal>
     requires kept { IsKeptUsed used.now }
     requires slot { IsLowSlot slot }
-    ensures decided { (cpu : ℕ) → result ≡ decides (layout_of layout.now) cpu slot (DonateGuest pfn gfn n) (used_in used.now) }
+    ensures decided { (cpu : ℕ)
+        → result
+        ≡ decides (layout_of layout.now) cpu slot (DonateGuest pfn gfn n) (used_in used.now) }
     ensures small { IfOk result AreSmallChanges }
 {
     if !layout.is_good_range(Page(pfn), n) || !are_good_pages(layout, gfn, n) {
@@ -344,7 +356,9 @@ pub(crate) fn guest_share_host(
     gfn: u64,
 ) -> Result<Changes, Refusal>
     requires { IsKeptUsed used.now }
-    ensures decided { (cpu : ℕ) → result ≡ decides (layout_of layout.now) cpu slot (GuestShareHost gfn) (used_in used.now) }
+    ensures decided { (cpu : ℕ)
+        → result
+        ≡ decides (layout_of layout.now) cpu slot (GuestShareHost gfn) (used_in used.now) }
     ensures small { IfOk result AreSmallChanges }
 {
     if !is_good_page(layout, gfn) {
@@ -376,7 +390,9 @@ pub(crate) fn guest_unshare_host(
 ) -> Result<Changes, Refusal>
     requires kept { IsKeptUsed used.now }
     requires slot { IsLowSlot slot }
-    ensures decided { (cpu : ℕ) → result ≡ decides (layout_of layout.now) cpu slot (GuestUnshareHost gfn) (used_in used.now) }
+    ensures decided { (cpu : ℕ)
+        → result
+        ≡ decides (layout_of layout.now) cpu slot (GuestUnshareHost gfn) (used_in used.now) }
     ensures small { IfOk result AreSmallChanges }
 {
     if !is_good_page(layout, gfn) {
@@ -514,7 +530,9 @@ pub(crate) fn reclaim_page(
     gfn: u64,
 ) -> Result<Changes, Refusal>
     requires { IsKeptUsed used.now }
-    ensures decided { (cpu : ℕ) → result ≡ decides (layout_of layout.now) cpu slot (ReclaimPage vm gfn) (used_in used.now) }
+    ensures decided { (cpu : ℕ)
+        → result
+        ≡ decides (layout_of layout.now) cpu slot (ReclaimPage vm gfn) (used_in used.now) }
     ensures small { IfOk result AreSmallChanges }
 {
     if vm.slot >= SLOTS || !is_good_page(layout, gfn) {
@@ -550,7 +568,8 @@ pub(crate) fn reclaim_pool(
     vm: VmId,
 ) -> Result<Changes, Refusal>
     requires { IsKeptUsed used.now }
-    ensures decided { (l : ReferenceLayout) (cpu : ℕ) → result ≡ decides l cpu slot (ReclaimPool vm) (used_in used.now) }
+    ensures decided { (l : ReferenceLayout) (cpu : ℕ)
+        → result ≡ decides l cpu slot (ReclaimPool vm) (used_in used.now) }
     ensures small { IfOk result AreSmallChanges }
 {
     if vm.slot >= SLOTS {
@@ -584,7 +603,9 @@ fn maps_nothing(tree: &Tree, pages: u64) -> bool
 /// The frame of a guest's root, and 0 where there is none.
 fn root_of(layout: &Layout, guest: &GhostGuest) -> u64
     requires { IsKeptGuest guest.now }
-    ensures value { result ≡ unwrap_or (table_of guest.now.tree.tables.items ((layout_of layout.now).depth + 1, 0)) 0 }
+    ensures value { result
+        ≡ unwrap_or
+        (table_of guest.now.tree.tables.items ((layout_of layout.now).depth + 1, 0)) 0 }
     ensures low { result ≤ 2 ^ 62 }
 {
     match table_at(guest.tree.tables.as_slice(), (depth(layout) + 1, 0)) {
@@ -627,7 +648,9 @@ pub(crate) fn guest_relax(
     prot: Prot,
 ) -> Result<Changes, Refusal>
     requires { IsKeptUsed used.now }
-    ensures decided { (cpu : ℕ) → result ≡ decides (layout_of layout.now) cpu slot (GuestRelax gfn prot) (used_in used.now) }
+    ensures decided { (cpu : ℕ)
+        → result
+        ≡ decides (layout_of layout.now) cpu slot (GuestRelax gfn prot) (used_in used.now) }
     ensures small { IfOk result AreSmallChanges }
 {
     if !is_good_page(layout, gfn) {
@@ -656,7 +679,9 @@ pub(crate) fn guest_translate(
     gfn: u64,
 ) -> Result<Changes, Refusal>
     requires { IsKeptUsed used.now }
-    ensures decided { (cpu : ℕ) → result ≡ decides (layout_of layout.now) cpu slot (GuestTranslate vm gfn) (used_in used.now) }
+    ensures decided { (cpu : ℕ)
+        → result
+        ≡ decides (layout_of layout.now) cpu slot (GuestTranslate vm gfn) (used_in used.now) }
     ensures small { IfOk result AreSmallChanges }
 {
     if vm.slot >= SLOTS || !is_good_page(layout, gfn) {

@@ -116,11 +116,20 @@ impl GhostLists {
     ghost use Rattle.reference_model.specs.model.Parts.{uses_vms as uses_vms_of};
     ghost use Rattle.reference_model.specs.model.Rules.{names};
     ghost use Rattle.reference_model.specs.model.Step.{foretell, is_full as is_full_of};
-    ghost use Rattle.reference_model.specs.model.Used.{put_back as put_back_of, rooms_of as rooms_of_state};
+    ghost use Rattle.reference_model.specs.model.Used.{
+      put_back as put_back_of,
+      rooms_of as rooms_of_state,
+    };
     ghost use Rattle.std.specs.Prelude.{length, true};
     ghost use Rattle.ghost_spec.specs.Kept.{HasNextGeneration, IsLowSlot};
     ghost use Rattle.ghost_spec.specs.States.{contents_in, ghost_state, IsKept};
-    ghost use Rattle.ghost_spec.specs.Used.{IsKeptUsed, IsSameElsewhere, IsTaken, rooms_after, used_in};
+    ghost use Rattle.ghost_spec.specs.Used.{
+      IsKeptUsed,
+      IsSameElsewhere,
+      IsTaken,
+      rooms_after,
+      used_in,
+    };
 
     /// The same state once more.
     pub(crate) fn copied(&self, alloc: Global) -> Result<GhostLists, AllocError>
@@ -153,7 +162,9 @@ impl GhostLists {
         requires cpu { cpu < length self.now.rooms.cpus.items }
         requires guests { length self.now.rooms.guests.items ≡ 64 }
         requires slot { IsLowSlot slot }
-        ensures { result ≡ is_full_of (names step) slot (rooms_of_state (names step) slot cpu (ghost_state self.now).rooms) }
+        ensures { result
+            ≡ is_full_of (names step) slot
+            (rooms_of_state (names step) slot cpu (ghost_state self.now).rooms) }
     {
         let is_vms_full = is_used_full(uses_vms(step), self.rooms.vms);
         let is_shared_full = is_used_full(uses_shared(step, slot), self.rooms.shared);
@@ -198,7 +209,8 @@ impl GhostLists {
         requires used { IsKeptUsed used }
         requires slot { IsLowSlot slot }
         requires count { uses_vms_of (names step) ≡ true → length used.vms.items ≡ 64 }
-        ensures contents { contents_in self.new ≡ put_back_of (names step) slot cpu (contents_in self.old) (used_in used) }
+        ensures contents { contents_in self.new
+            ≡ put_back_of (names step) slot cpu (contents_in self.old) (used_in used) }
         ensures layout { self.new.layout ≡ self.old.layout }
         ensures rooms { self.new.rooms ≡ self.old.rooms }
         ensures kept { IsKept self.new }
@@ -242,7 +254,9 @@ impl GhostLists {
         requires cpu { cpu < self.old.layout.config.cpus }
         requires kept { IsKept self.old }
         requires generation { HasNextGeneration ((contents_in self.old).cpu cpu).ticket step }
-        ensures foretold { IfOk result (λ reply. (reply, ghost_state self.new) ≡ foretell (layout_of self.old.layout) (ghost_state self.old) cpu step) }
+        ensures foretold { IfOk result
+            (λ reply. (reply, ghost_state self.new)
+            ≡ foretell (layout_of self.old.layout) (ghost_state self.old) cpu step) }
         ensures layout { self.new.layout ≡ self.old.layout }
         ensures kept { OnOk result (IsKept self.new) }
     {

@@ -70,7 +70,9 @@ fn sharer(
 ) -> u64
     requires slot { IsLowSlot slot }
     requires guest { IsKeptGuest guest.now }
-    ensures { result ≡ sharer_found_of (layout_of layout.now) (shared_in_lists shared.now) slot (guest_in guest.now) frame }
+    ensures { result
+        ≡ sharer_found_of (layout_of layout.now) (shared_in_lists shared.now) slot
+        (guest_in guest.now) frame }
 {
     match page_of(layout, &guest.tree, State::SharedOwned, frame) {
         Some(_) => number_of(slot),
@@ -89,7 +91,9 @@ fn lender(
     requires kept { IsKeptShared shared.now }
     requires slot { IsLowSlot slot }
     requires guest { IsKeptGuest guest.now }
-    ensures { result ≡ lender_found_of (layout_of layout.now) (shared_in_lists shared.now) slot (guest_in guest.now) frame }
+    ensures { result
+        ≡ lender_found_of (layout_of layout.now) (shared_in_lists shared.now) slot
+        (guest_in guest.now) frame }
 {
     match page_of(layout, &shared.host, State::SharedBorrowed, frame) {
         Some(_) => sharer(layout, shared, slot, guest, frame),
@@ -107,7 +111,9 @@ fn guest_lent(
 ) -> Option<Lent>
     requires slot { IsLowSlot slot }
     requires guest { IsKeptGuest guest.now }
-    ensures value { result ≡ guest_lent_of (layout_of layout.now) (shared_in_lists shared.now) slot (guest_in guest.now) frame }
+    ensures value { result
+        ≡ guest_lent_of (layout_of layout.now) (shared_in_lists shared.now) slot
+        (guest_in guest.now) frame }
     ensures low { HasLentBelow result 1 }
 {
     match slot {
@@ -133,7 +139,9 @@ fn lent_to(
     requires kept { IsKeptShared shared.now }
     requires slot { IsLowSlot slot }
     requires guest { IsKeptGuest guest.now }
-    ensures value { result ≡ lent_found_of (layout_of layout.now) (shared_in_lists shared.now) slot (guest_in guest.now) frame }
+    ensures value { result
+        ≡ lent_found_of (layout_of layout.now) (shared_in_lists shared.now) slot
+        (guest_in guest.now) frame }
     ensures low { HasLentBelow result 1 }
 {
     match page_of(layout, &shared.host, State::SharedBorrowed, frame) {
@@ -159,7 +167,9 @@ fn pool_of(
     guest: &GhostGuest,
     frame: u64,
 ) -> Option<u64>
-    ensures { result ≡ pool_found_of (layout_of layout.now) (shared_in_lists shared.now) slot (guest_in guest.now) frame }
+    ensures { result
+        ≡ pool_found_of (layout_of layout.now) (shared_in_lists shared.now) slot
+        (guest_in guest.now) frame }
 {
     if is_free(guest.free.as_slice(), frame) || is_table_frame(layout, &guest.tree, frame) {
         slot
@@ -178,7 +188,9 @@ fn usage_of(
     cpu: u64,
     own: &GhostCpu,
 ) -> Usage
-    ensures { result ≡ usage_found_of (layout_of layout.now) (shared_in_lists shared.now) slot (guest_in guest.now) frame cpu (cpu_in own.now) }
+    ensures { result
+        ≡ usage_found_of (layout_of layout.now) (shared_in_lists shared.now) slot
+        (guest_in guest.now) frame cpu (cpu_in own.now) }
 {
     if is_free(shared.free.as_slice(), frame)
         || is_table_frame(layout, &shared.host, frame)
@@ -211,7 +223,9 @@ fn row_found(
     requires kept { IsKeptShared shared.now }
     requires slot { IsLowSlot slot }
     requires guest { IsKeptGuest guest.now }
-    ensures value { result ≡ row_found_of (layout_of layout.now) (shared_in_lists shared.now) slot (guest_in guest.now) frame cpu (cpu_in own.now) }
+    ensures value { result
+        ≡ row_found_of (layout_of layout.now) (shared_in_lists shared.now) slot
+        (guest_in guest.now) frame cpu (cpu_in own.now) }
     ensures small { HasPageBelow result 1 }
 {
     let other = lender(layout, shared, slot, guest, frame);
@@ -262,7 +276,9 @@ fn find_row(
     requires kept { IsKeptShared shared.old }
     requires slot { IsLowSlot slot }
     requires guest { IsKeptGuest guest.now }
-    ensures rows { OnOk result (IsFoundAt layout.now shared.old shared.new frame slot (guest_in guest.now) cpu (cpu_in own.now)) }
+    ensures rows { OnOk result
+        (IsFoundAt layout.now shared.old shared.new frame slot (guest_in guest.now) cpu
+        (cpu_in own.now)) }
     ensures host { shared.new.host ≡ shared.old.host }
     ensures hyp { shared.new.hyp ≡ shared.old.hyp }
     ensures free { shared.new.free ≡ shared.old.free }
@@ -290,7 +306,9 @@ pub(crate) fn find_range(
     requires slot { IsLowSlot slot }
     requires guest { IsKeptGuest guest.now }
     requires range { end_of range ≤ 2 ^ 63 }
-    ensures rows { OnOk result (AreFoundIn layout.now shared.old shared.new range slot (guest_in guest.now) cpu (cpu_in own.now)) }
+    ensures rows { OnOk result
+        (AreFoundIn layout.now shared.old shared.new range slot (guest_in guest.now) cpu
+        (cpu_in own.now)) }
     ensures host { shared.new.host ≡ shared.old.host }
     ensures hyp { shared.new.hyp ≡ shared.old.hyp }
     ensures free { shared.new.free ≡ shared.old.free }
@@ -317,7 +335,9 @@ pub(crate) fn find_rows(
     requires slot { IsLowSlot slot }
     requires guest { IsKeptGuest guest.now }
     requires touched { (range : PageRangeOf) → touched ≡ Some range → end_of range ≤ 2 ^ 63 }
-    ensures found { OnOk result (AreFoundAfter layout.now shared.old shared.new touched slot (guest_in guest.now) cpu (cpu_in own.now)) }
+    ensures found { OnOk result
+        (AreFoundAfter layout.now shared.old shared.new touched slot (guest_in guest.now) cpu
+        (cpu_in own.now)) }
     ensures kept { IsKeptShared shared.new }
 {
     match touched {
@@ -367,7 +387,9 @@ pub(crate) fn find_all(
     shared: &mut Shared,
 ) -> Result<(), AllocError>
     requires kept { IsKeptShared shared.old }
-    ensures rows { OnOk result (AreFoundWhere layout.now shared.old shared.new (is_memory (layout_of layout.now)) None no_guest 0 no_cpu) }
+    ensures rows { OnOk result
+        (AreFoundWhere layout.now shared.old shared.new
+        (is_memory (layout_of layout.now)) None no_guest 0 no_cpu) }
     ensures host { shared.new.host ≡ shared.old.host }
     ensures hyp { shared.new.hyp ≡ shared.old.hyp }
     ensures free { shared.new.free ≡ shared.old.free }

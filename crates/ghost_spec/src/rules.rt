@@ -64,7 +64,8 @@ fn hyp_entry(shared: &Shared, frame: u64) -> Entry
 #[tactic(auto, unfolding(reference_model::specs::model::Rules::rule))]
 pub(crate) fn share_hyp(layout: &Layout, used: &GhostUsed, pfn: u64) -> Result<Changes, Refusal>
     requires { IsKeptUsed used.now }
-    ensures decided { (cpu : ℕ) (slot : Option ℕ) → result ≡ decides (layout_of layout.now) cpu slot (ShareHyp pfn) (used_in used.now) }
+    ensures decided { (cpu : ℕ) (slot : Option ℕ)
+        → result ≡ decides (layout_of layout.now) cpu slot (ShareHyp pfn) (used_in used.now) }
     ensures small { IfOk result AreSmallChanges }
 {
     let shared = &used.shared;
@@ -85,7 +86,8 @@ pub(crate) fn share_hyp(layout: &Layout, used: &GhostUsed, pfn: u64) -> Result<C
 #[tactic(auto, unfolding(reference_model::specs::model::Rules::rule))]
 pub(crate) fn unshare_hyp(layout: &Layout, used: &GhostUsed, pfn: u64) -> Result<Changes, Refusal>
     requires { IsKeptUsed used.now }
-    ensures decided { (cpu : ℕ) (slot : Option ℕ) → result ≡ decides (layout_of layout.now) cpu slot (UnshareHyp pfn) (used_in used.now) }
+    ensures decided { (cpu : ℕ) (slot : Option ℕ)
+        → result ≡ decides (layout_of layout.now) cpu slot (UnshareHyp pfn) (used_in used.now) }
     ensures small { IfOk result AreSmallChanges }
 {
     let shared = &used.shared;
@@ -136,7 +138,8 @@ pub(crate) fn donate_hyp(
     n: u64,
 ) -> Result<Changes, Refusal>
     requires { IsKeptUsed used.now }
-    ensures decided { (cpu : ℕ) (slot : Option ℕ) → result ≡ decides (layout_of layout.now) cpu slot (DonateHyp pfn n) (used_in used.now) }
+    ensures decided { (cpu : ℕ) (slot : Option ℕ)
+        → result ≡ decides (layout_of layout.now) cpu slot (DonateHyp pfn n) (used_in used.now) }
     ensures small { IfOk result AreSmallChanges }
 {
     let shared = &used.shared;
@@ -196,7 +199,9 @@ pub(crate) fn hyp_donate_host(
     n: u64,
 ) -> Result<Changes, Refusal>
     requires { IsKeptUsed used.now }
-    ensures decided { (cpu : ℕ) (slot : Option ℕ) → result ≡ decides (layout_of layout.now) cpu slot (HypDonateHost pfn n) (used_in used.now) }
+    ensures decided { (cpu : ℕ) (slot : Option ℕ)
+        → result
+        ≡ decides (layout_of layout.now) cpu slot (HypDonateHost pfn n) (used_in used.now) }
     ensures small { IfOk result AreSmallChanges }
 {
     let shared = &used.shared;
@@ -276,7 +281,8 @@ fn abort_leaf(region: Region, first: u64) -> Entry
 #[tactic(auto, unfolding(reference_model::specs::model::Rules::rule, reference_model::specs::model::SharedRules::abort_edit))]
 pub(crate) fn host_abort(layout: &Layout, used: &GhostUsed, page: u64) -> Result<Changes, Refusal>
     requires { IsKeptUsed used.now }
-    ensures decided { (cpu : ℕ) (slot : Option ℕ) → result ≡ decides (layout_of layout.now) cpu slot (HostAbort page) (used_in used.now) }
+    ensures decided { (cpu : ℕ) (slot : Option ℕ)
+        → result ≡ decides (layout_of layout.now) cpu slot (HostAbort page) (used_in used.now) }
     ensures small { IfOk result AreSmallChanges }
 {
     let shared = &used.shared;
@@ -310,7 +316,9 @@ pub(crate) fn host_translate(
     page: u64,
 ) -> Result<Changes, Refusal>
     requires { IsKeptUsed used.now }
-    ensures decided { (cpu : ℕ) (slot : Option ℕ) → result ≡ decides (layout_of layout.now) cpu slot (HostTranslate page) (used_in used.now) }
+    ensures decided { (cpu : ℕ) (slot : Option ℕ)
+        → result
+        ≡ decides (layout_of layout.now) cpu slot (HostTranslate page) (used_in used.now) }
     ensures small { IfOk result AreSmallChanges }
 {
     let shared = &used.shared;
@@ -331,7 +339,9 @@ pub(crate) fn hyp_translate(
     page: u64,
 ) -> Result<Changes, Refusal>
     requires { IsKeptUsed used.now }
-    ensures decided { (cpu : ℕ) (slot : Option ℕ) → result ≡ decides (layout_of layout.now) cpu slot (HypTranslate page) (used_in used.now) }
+    ensures decided { (cpu : ℕ) (slot : Option ℕ)
+        → result
+        ≡ decides (layout_of layout.now) cpu slot (HypTranslate page) (used_in used.now) }
     ensures small { IfOk result AreSmallChanges }
 {
     let shared = &used.shared;
@@ -347,7 +357,8 @@ pub(crate) fn hyp_translate(
 /// The row of a frame.
 #[tactic(auto, unfolding(reference_model::specs::model::Rules::rule))]
 pub(crate) fn owner_of(layout: &Layout, used: &GhostUsed, pfn: u64) -> Result<Changes, Refusal>
-    ensures decided { (cpu : ℕ) (slot : Option ℕ) → result ≡ decides (layout_of layout.now) cpu slot (OwnerOf pfn) (used_in used.now) }
+    ensures decided { (cpu : ℕ) (slot : Option ℕ)
+        → result ≡ decides (layout_of layout.now) cpu slot (OwnerOf pfn) (used_in used.now) }
     ensures small { IfOk result AreSmallChanges }
 {
     let shared = &used.shared;
@@ -364,7 +375,8 @@ pub(crate) fn owner_of(layout: &Layout, used: &GhostUsed, pfn: u64) -> Result<Ch
 #[tactic(auto, unfolding(reference_model::specs::model::Rules::rule))]
 pub(crate) fn fund(layout: &Layout, used: &GhostUsed, pfn: u64, n: u64) -> Result<Changes, Refusal>
     requires { IsKeptUsed used.now }
-    ensures decided { (cpu : ℕ) (slot : Option ℕ) → result ≡ decides (layout_of layout.now) cpu slot (Fund pfn n) (used_in used.now) }
+    ensures decided { (cpu : ℕ) (slot : Option ℕ)
+        → result ≡ decides (layout_of layout.now) cpu slot (Fund pfn n) (used_in used.now) }
     ensures small { IfOk result AreSmallChanges }
 {
     let shared = &used.shared;
@@ -397,7 +409,8 @@ pub(crate) fn fund(layout: &Layout, used: &GhostUsed, pfn: u64, n: u64) -> Resul
 #[tactic(auto, unfolding(reference_model::specs::model::Rules::rule))]
 pub(crate) fn unfund(layout: &Layout, used: &GhostUsed) -> Result<Changes, Refusal>
     requires { IsKeptUsed used.now }
-    ensures decided { (cpu : ℕ) (slot : Option ℕ) → result ≡ decides (layout_of layout.now) cpu slot Unfund (used_in used.now) }
+    ensures decided { (cpu : ℕ) (slot : Option ℕ)
+        → result ≡ decides (layout_of layout.now) cpu slot Unfund (used_in used.now) }
     ensures small { IfOk result AreSmallChanges }
 {
     let own = &used.own;

@@ -108,10 +108,13 @@ pub(crate) fn edit(
     requires depth { depth ≤ 3 }
     requires kept { IsKeptTree tree.old }
     requires small { IsSmallChange change }
-    ensures tree { OnOk result (tree_in_lists tree.new ≡ edited_of depth (tree_in_lists tree.old) (edit_of change) frames.now) }
+    ensures tree { OnOk result
+        (tree_in_lists tree.new
+        ≡ edited_of depth (tree_in_lists tree.old) (edit_of change) frames.now) }
     ensures kept { IsKeptTree tree.new }
     ensures need { IfOk result (λ e. e.need ≡ need_of depth (tree_in_lists tree.old) (edit_of change)) }
-    ensures returned { IfOk result (λ e. e.returned.items ≡ returned_of depth (tree_in_lists tree.old) (edit_of change)) }
+    ensures returned { IfOk result
+        (λ e. e.returned.items ≡ returned_of depth (tree_in_lists tree.old) (edit_of change)) }
 {
     match change {
         Some(change) => {
@@ -155,7 +158,10 @@ pub(crate) fn is_short(
     requires kept { IsKeptShared shared.now }
     requires host { IsSmallChange changes.now.host }
     requires hyp { IsSmallChange changes.now.hyp }
-    ensures { IfOk result (λ b. b ≡ nat_lt (length shared.now.free.items) (shared_need depth changes.now (shared_in_lists shared.now))) }
+    ensures { IfOk result
+        (λ b. b
+        ≡ nat_lt (length shared.now.free.items)
+        (shared_need depth changes.now (shared_in_lists shared.now))) }
 {
     let host_need = needed(alloc, depth, &shared.host, changes.host)?;
     let hyp_need = needed(alloc, depth, &shared.hyp, changes.hyp)?;
@@ -174,7 +180,9 @@ pub(crate) fn change(
     requires kept { IsKeptShared shared.old }
     requires host { IsSmallChange changes.now.host }
     requires hyp { IsSmallChange changes.now.hyp }
-    ensures after { OnOk result (shared_in_lists shared.new ≡ shared_after depth changes.now (shared_in_lists shared.old)) }
+    ensures after { OnOk result
+        (shared_in_lists shared.new
+        ≡ shared_after depth changes.now (shared_in_lists shared.old)) }
     ensures rows { shared.new.rows ≡ shared.old.rows }
     ensures kept { IsKeptShared shared.new }
 {

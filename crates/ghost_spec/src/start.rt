@@ -67,7 +67,8 @@ fn unused_rooms(alloc: Global, config: Config) -> Result<GhostRooms, AllocError>
 fn shared_at_boot(alloc: Global, layout: &Layout) -> Result<Option<Shared>, AllocError>
     requires { 0 < layout.now.config.cpus }
     ensures enough { IfOk result (λ o. IsSome o ↔ IsCarveEnough (layout_of layout.now)) }
-    ensures shared { IfOk result (λ o. IfSome o (λ s. shared_in_lists s ≡ (booted (layout_of layout.now)).shared)) }
+    ensures shared { IfOk result
+        (λ o. IfSome o (λ s. shared_in_lists s ≡ (booted (layout_of layout.now)).shared)) }
     ensures kept { IfOk result (λ o. IfSome o IsKeptShared) }
 {
     let Some(mut shared) = boot::boot(alloc, &layout.map, layout.config, depth(layout))? else {

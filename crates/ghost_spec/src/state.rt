@@ -86,7 +86,9 @@ pub fn predict_last(
 ) -> Result<(Reply, Ghost), AllocError>
     requires cpu { cpu < state.layout.config.cpus }
     requires generation { HasNextGeneration ((contents_in state).cpu cpu).ticket step }
-    ensures foretold { IfOk result (λ r. (r.0, ghost_state r.1) ≡ foretell (layout_of state.layout) (ghost_state state) cpu step) }
+    ensures foretold { IfOk result
+        (λ r. (r.0, ghost_state r.1)
+        ≡ foretell (layout_of state.layout) (ghost_state state) cpu step) }
     ensures layout { IfOk result (λ r. r.1.layout ≡ state.layout) }
 {
     let mut lists = state.into_lists();
@@ -106,7 +108,9 @@ pub fn predict(
 ) -> Result<(Reply, Ghost), AllocError>
     requires cpu { cpu < state.now.layout.config.cpus }
     requires generation { HasNextGeneration ((contents_in state.now).cpu cpu).ticket step }
-    ensures foretold { IfOk result (λ r. (r.0, ghost_state r.1) ≡ foretell (layout_of state.now.layout) (ghost_state state.now) cpu step) }
+    ensures foretold { IfOk result
+        (λ r. (r.0, ghost_state r.1)
+        ≡ foretell (layout_of state.now.layout) (ghost_state state.now) cpu step) }
     ensures layout { IfOk result (λ r. layout_of r.1.layout ≡ layout_of state.now.layout) }
 {
     let after = state.copied(alloc)?;

@@ -32,7 +32,8 @@ pub(crate) fn used_vms(
     vms: &[GhostSlot],
     step: Step,
 ) -> Result<Vec<GhostSlot>, AllocError>
-    ensures vms { IfOk result (λ v. vms_in v.items ≡ (if uses_vms_of (names step) then vms_in vms.now else no_vms)) }
+    ensures vms { IfOk result
+        (λ v. vms_in v.items ≡ (if uses_vms_of (names step) then vms_in vms.now else no_vms)) }
     ensures count { uses_vms_of (names step) ≡ true → IfOk result (λ v. length v.items ≡ length vms.now) }
 {
     if uses_vms(step) {
@@ -50,7 +51,8 @@ pub(crate) fn take_shared(
     slot: Option<u64>,
 ) -> Shared
     requires { IsKeptShared shared.old }
-    ensures shared { shared_in_lists result ≡ (if uses_shared_of (names step) slot then shared_in_lists shared.old else no_shared) }
+    ensures shared { shared_in_lists result
+        ≡ (if uses_shared_of (names step) slot then shared_in_lists shared.old else no_shared) }
     ensures kept { IsKeptShared result }
     ensures stays { uses_shared_of (names step) slot ≡ false → shared.new ≡ shared.old }
     ensures left { IsKeptShared shared.new }
@@ -73,7 +75,9 @@ pub(crate) fn take_guest(
     requires slot { IsLowSlot slot }
     ensures guest { guest_in result ≡ guest_at (guests_in guests.old.items) slot }
     ensures kept { IsKeptGuest result }
-    ensures others { (g : Guest) → put_guest_of (guests_in guests.new.items) slot g ≡ put_guest_of (guests_in guests.old.items) slot g }
+    ensures others { (g : Guest)
+        → put_guest_of (guests_in guests.new.items) slot g
+        ≡ put_guest_of (guests_in guests.old.items) slot g }
     ensures count { length guests.new.items ≡ 64 }
     ensures left { AreKeptGuests guests.new.items }
 {
@@ -85,8 +89,10 @@ pub(crate) fn take_guest(
 
 /// The slots after a call that may use them.
 pub(crate) fn put_vms(vms: &mut Vec<GhostSlot>, new: Vec<GhostSlot>, step: Step)
-    ensures vms { vms_in vms.new.items ≡ (if uses_vms_of (names step) then vms_in new.items else vms_in vms.old.items) }
-    ensures count { (uses_vms_of (names step) ≡ true → length new.items ≡ length vms.old.items) → length vms.new.items ≡ length vms.old.items }
+    ensures vms { vms_in vms.new.items
+        ≡ (if uses_vms_of (names step) then vms_in new.items else vms_in vms.old.items) }
+    ensures count { (uses_vms_of (names step) ≡ true → length new.items ≡ length vms.old.items)
+        → length vms.new.items ≡ length vms.old.items }
 {
     if uses_vms(step) {
         *vms = new;
@@ -97,7 +103,9 @@ pub(crate) fn put_vms(vms: &mut Vec<GhostSlot>, new: Vec<GhostSlot>, step: Step)
 pub(crate) fn put_shared(shared: &mut Shared, new: Shared, step: Step, slot: Option<u64>)
     requires kept { IsKeptShared shared.old }
     requires new { IsKeptShared new }
-    ensures shared { shared_in_lists shared.new ≡ (if uses_shared_of (names step) slot then shared_in_lists new else shared_in_lists shared.old) }
+    ensures shared { shared_in_lists shared.new
+        ≡ (if uses_shared_of (names step) slot then shared_in_lists new
+        else shared_in_lists shared.old) }
     ensures kept { IsKeptShared shared.new }
 {
     if uses_shared(step, slot) {
@@ -124,7 +132,10 @@ pub(crate) fn put_guest(guests: &mut Vec<GhostGuest>, new: GhostGuest, slot: Opt
 pub(crate) fn store_in(rooms: &mut Vec<u64>, slot: Option<u64>)
     requires count { length rooms.old.items ≡ 64 }
     requires slot { IsLowSlot slot }
-    ensures rooms { (log : ℕ) → rooms_of log rooms.new.items ≡ put_room (rooms_of log rooms.old.items) slot (room_at (rooms_of log rooms.old.items) slot - 1) }
+    ensures rooms { (log : ℕ)
+        → rooms_of log rooms.new.items
+        ≡ put_room (rooms_of log rooms.old.items) slot
+        (room_at (rooms_of log rooms.old.items) slot - 1) }
     ensures count { length rooms.new.items ≡ 64 }
 {
     if let Some(v) = slot {

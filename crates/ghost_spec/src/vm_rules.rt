@@ -133,7 +133,8 @@ fn is_good_count(vcpus: u64) -> bool
 #[tactic(auto, unfolding(reference_model::specs::model::Rules::rule))]
 pub(crate) fn vm_reserve(used: &GhostUsed, kind: VmKind, vcpus: u64) -> Result<Changes, Refusal>
     requires { length used.now.vms.items ≡ 64 }
-    ensures decided { (l : ReferenceLayout) (cpu : ℕ) (slot : Option ℕ) → result ≡ decides l cpu slot (VmReserve kind vcpus) (used_in used.now) }
+    ensures decided { (l : ReferenceLayout) (cpu : ℕ) (slot : Option ℕ)
+        → result ≡ decides l cpu slot (VmReserve kind vcpus) (used_in used.now) }
     ensures small { IfOk result AreSmallChanges }
 {
     if !is_good_count(vcpus) {
@@ -165,7 +166,8 @@ pub(crate) fn vm_reserve(used: &GhostUsed, kind: VmKind, vcpus: u64) -> Result<C
 #[tactic(auto, unfolding(reference_model::specs::model::Rules::rule))]
 pub(crate) fn vm_open(used: &GhostUsed) -> Result<Changes, Refusal>
     requires { IsKeptUsed used.now }
-    ensures decided { (l : ReferenceLayout) (cpu : ℕ) (slot : Option ℕ) → result ≡ decides l cpu slot VmOpen (used_in used.now) }
+    ensures decided { (l : ReferenceLayout) (cpu : ℕ) (slot : Option ℕ)
+        → result ≡ decides l cpu slot VmOpen (used_in used.now) }
     ensures small { IfOk result AreSmallChanges }
 {
     if !has_stage(Stage::Installed, &used.own) {
@@ -184,7 +186,8 @@ pub(crate) fn vm_open(used: &GhostUsed) -> Result<Changes, Refusal>
 #[tactic(auto, unfolding(reference_model::specs::model::Rules::rule))]
 pub(crate) fn vcpu_load(used: &GhostUsed, cpu: u64, vm: VmId, vcpu: u64) -> Result<Changes, Refusal>
     requires { nat_lt vm.slot 64 ≡ true → length used.now.vms.items ≡ 64 }
-    ensures decided { (l : ReferenceLayout) (slot : Option ℕ) → result ≡ decides l cpu slot (VcpuLoad vm vcpu) (used_in used.now) }
+    ensures decided { (l : ReferenceLayout) (slot : Option ℕ)
+        → result ≡ decides l cpu slot (VcpuLoad vm vcpu) (used_in used.now) }
     ensures small { IfOk result AreSmallChanges }
 {
     if vm.slot >= SLOTS || vcpu >= MOST_VCPUS {
@@ -215,7 +218,8 @@ pub(crate) fn vcpu_load(used: &GhostUsed, cpu: u64, vm: VmId, vcpu: u64) -> Resu
 #[tactic(auto, unfolding(reference_model::specs::model::Rules::rule))]
 pub(crate) fn vcpu_put(used: &GhostUsed) -> Result<Changes, Refusal>
     requires { IsKeptUsed used.now }
-    ensures decided { (l : ReferenceLayout) (cpu : ℕ) (slot : Option ℕ) → result ≡ decides l cpu slot VcpuPut (used_in used.now) }
+    ensures decided { (l : ReferenceLayout) (cpu : ℕ) (slot : Option ℕ)
+        → result ≡ decides l cpu slot VcpuPut (used_in used.now) }
     ensures small { IfOk result AreSmallChanges }
 {
     if used.own.loaded.is_none() {
@@ -236,7 +240,8 @@ pub(crate) fn vcpu_put(used: &GhostUsed) -> Result<Changes, Refusal>
 #[tactic(auto, unfolding(reference_model::specs::model::Rules::rule))]
 pub(crate) fn teardown(used: &GhostUsed, vm: VmId) -> Result<Changes, Refusal>
     requires { nat_lt vm.slot 64 ≡ true → length used.now.vms.items ≡ 64 }
-    ensures decided { (l : ReferenceLayout) (cpu : ℕ) (slot : Option ℕ) → result ≡ decides l cpu slot (Teardown vm) (used_in used.now) }
+    ensures decided { (l : ReferenceLayout) (cpu : ℕ) (slot : Option ℕ)
+        → result ≡ decides l cpu slot (Teardown vm) (used_in used.now) }
     ensures small { IfOk result AreSmallChanges }
 {
     if vm.slot >= SLOTS {
@@ -262,7 +267,9 @@ pub(crate) fn teardown(used: &GhostUsed, vm: VmId) -> Result<Changes, Refusal>
 
 /// Whether nothing of the ticket's VM is installed, or everything given back.
 fn is_at_end(own: &GhostCpu) -> bool
-    ensures { result ≡ (has_stage_of Stage.Booked (cpu_in own.now) || has_stage_of Stage.Finished (cpu_in own.now)) }
+    ensures { result
+        ≡ (has_stage_of Stage.Booked (cpu_in own.now)
+        || has_stage_of Stage.Finished (cpu_in own.now)) }
 {
     has_stage(Stage::Booked, own) || has_stage(Stage::Finished, own)
 }
@@ -272,7 +279,8 @@ fn is_at_end(own: &GhostCpu) -> bool
 pub(crate) fn vm_release(used: &GhostUsed) -> Result<Changes, Refusal>
     requires kept { IsKeptUsed used.now }
     requires generation { HasNextGeneration used.now.own.ticket VmRelease }
-    ensures decided { (l : ReferenceLayout) (cpu : ℕ) (slot : Option ℕ) → result ≡ decides l cpu slot VmRelease (used_in used.now) }
+    ensures decided { (l : ReferenceLayout) (cpu : ℕ) (slot : Option ℕ)
+        → result ≡ decides l cpu slot VmRelease (used_in used.now) }
     ensures small { IfOk result AreSmallChanges }
 {
     if !is_at_end(&used.own) {

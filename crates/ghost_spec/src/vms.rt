@@ -13,7 +13,8 @@ use std::alloc::{AllocError, Global};
 
 /// A slot becomes Reserved for a VM of the kind with `vcpus` vCPUs.
 fn reserve(slot: &mut GhostSlot, kind: VmKind, vcpus: u64)
-    ensures { slot_in slot.new ≡ record (slot_in slot.old) { stand = reserved; kind = kind; vcpus = vcpus } }
+    ensures { slot_in slot.new
+        ≡ record (slot_in slot.old) { stand = reserved; kind = kind; vcpus = vcpus } }
 {
     slot.stand = GhostStand::Reserved;
     slot.kind = kind;
@@ -61,7 +62,9 @@ fn reach(loaded: &mut Vec<Option<u64>>, vcpu: usize) -> Result<(), AllocError>
 
 /// The CPU that has a vCPU loaded becomes this.
 fn set_loaded(slot: &mut GhostSlot, vcpu: u64, cpu: Option<u64>) -> Result<(), AllocError>
-    ensures { OnOk result (slot_in slot.new ≡ record (slot_in slot.old) { loaded = put_at (slot_in slot.old).loaded vcpu cpu }) }
+    ensures { OnOk result
+        (slot_in slot.new
+        ≡ record (slot_in slot.old) { loaded = put_at (slot_in slot.old).loaded vcpu cpu }) }
 {
     let place = vcpu as usize;
     reach(&mut slot.loaded, place)?;

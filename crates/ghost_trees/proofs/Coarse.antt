@@ -27,27 +27,38 @@ rest_of P r rs h = λ k d l. h (suc k) d (omega arith)
 -- a run in front of a list
 
 pub continues_page : (r n : Run) → continues r n ≡ true → run_end r ≡ n.pages.first.0
-continues_page r n h = eq-same (run_end r) n.pages.first.0 (and-left (run_end r == n.pages.first.0) (entry_eq (entry_on r (run_end r)) (entry_of_target n.target)) h)
+continues_page r n h =
+    eq-same (run_end r) n.pages.first.0
+    (and-left (run_end r == n.pages.first.0) (entry_eq (entry_on r (run_end r)) (entry_of_target n.target)) h)
 
 pub from_first : (r : Run) → run_end r - r.pages.first.0 ≡ r.pages.count
 from_first r = omega arith
 
-pub continues_entry : (r n : Run) → continues r n ≡ true → advance (entry_of_target r.target) r.pages.count ≡ entry_of_target n.target
+pub continues_entry : (r n : Run)
+    → continues r n ≡ true
+    → advance (entry_of_target r.target) r.pages.count ≡ entry_of_target n.target
 continues_entry r n h =
     ap (advance (entry_of_target r.target)) (sym (from_first r))
-    ∙ entry_eq-same (entry_on r (run_end r)) (entry_of_target n.target) (and-right (run_end r == n.pages.first.0) (entry_eq (entry_on r (run_end r)) (entry_of_target n.target)) h)
+    ∙ entry_eq-same (entry_on r (run_end r)) (entry_of_target n.target)
+    (and-right (run_end r == n.pages.first.0) (entry_eq (entry_on r (run_end r)) (entry_of_target n.target)) h)
 
-does_continue : (r n : Run) → run_end r ≡ n.pages.first.0 → entry_on r (run_end r) ≡ entry_of_target n.target → continues r n ≡ true
+does_continue : (r n : Run)
+    → run_end r ≡ n.pages.first.0
+    → entry_on r (run_end r) ≡ entry_of_target n.target
+    → continues r n ≡ true
 does_continue r n e f =
     let p : (run_end r == n.pages.first.0) ≡ true = grind (arith, nat_tests) in
     rw (p, f) (entry_eq-self (entry_of_target n.target))
 
 -- where the pages go on, the code's test of the targets says whether the run does
-pub target_continues : (r n : Run) → run_end r ≡ n.pages.first.0 → targets.ghosts.eq (advance_target r.target r.pages.count) n.target ≡ continues r n
+pub target_continues : (r n : Run)
+    → run_end r ≡ n.pages.first.0
+    → targets.ghosts.eq (advance_target r.target r.pages.count) n.target ≡ continues r n
 target_continues r n e =
     let p : (run_end r == n.pages.first.0) ≡ true = grind (arith, nat_tests) in
     targets_test (advance_target r.target r.pages.count) n.target
-    ∙ ap (λ (x : Entry). entry_eq x (entry_of_target n.target)) (entry_advanced r.target r.pages.count ∙ ap (advance (entry_of_target r.target)) (sym (from_first r)))
+    ∙ ap (λ (x : Entry). entry_eq x (entry_of_target n.target))
+    (entry_advanced r.target r.pages.count ∙ ap (advance (entry_of_target r.target)) (sym (from_first r)))
     ∙ sym (ap (λ (b : Bool). b && entry_eq (entry_on r (run_end r)) (entry_of_target n.target)) p)
 
 in_both : (a b c d p : ℕ) → a + c ≡ b → is_within b d p ≡ true → is_within a (c + d) p ≡ true
@@ -56,10 +67,16 @@ in_both a b c d p e h = grind (arith, nat_tests)
 in_first : (a c d p : ℕ) → is_within a c p ≡ true → is_within a (c + d) p ≡ true
 in_first a c d p h = grind (arith, nat_tests)
 
-in_neither : (a b c d p : ℕ) → a + c ≡ b → is_within a c p ≡ false → is_within b d p ≡ false → is_within a (c + d) p ≡ false
+in_neither : (a b c d p : ℕ)
+    → a + c ≡ b
+    → is_within a c p ≡ false
+    → is_within b d p ≡ false
+    → is_within a (c + d) p ≡ false
 in_neither a b c d p e h k = grind (arith, nat_tests)
 
-map_of-longer : (r n : Run) (rs : List Run) (p : ℕ) → continues r n ≡ true → map_of (longer r n ∷ rs) p ≡ map_of (r ∷ (n ∷ rs)) p
+map_of-longer : (r n : Run) (rs : List Run) (p : ℕ)
+    → continues r n ≡ true
+    → map_of (longer r n ∷ rs) p ≡ map_of (r ∷ (n ∷ rs)) p
 map_of-longer r n rs p h =
     let b : r.pages.first.0 + r.pages.count ≡ n.pages.first.0 = continues_page r n h in
     let t = continues_entry r n h in
@@ -69,7 +86,9 @@ map_of-longer r n rs p h =
     (λ v. let m = within_means n.pages.first.0 n.pages.count p v in
     let e : p - r.pages.first.0 ≡ r.pages.count + (p - n.pages.first.0) = omega (arith, m.0) in
     rw (w, v, in_both r.pages.first.0 n.pages.first.0 r.pages.count n.pages.count p b v)
-    (ap (advance (entry_of_target r.target)) e ∙ sym (advance-more (entry_of_target r.target) r.pages.count (p - n.pages.first.0)) ∙ ap (λ x. advance x (p - n.pages.first.0)) t))
+    (ap (advance (entry_of_target r.target)) e
+    ∙ sym (advance-more (entry_of_target r.target) r.pages.count (p - n.pages.first.0))
+    ∙ ap (λ x. advance x (p - n.pages.first.0)) t))
     (λ v. rw (w, v, in_neither r.pages.first.0 n.pages.first.0 r.pages.count n.pages.count p b w v) refl))
 
 pub map_of-joined : (r : Run) (rs : List Run) (p : ℕ) → map_of (joined r rs) p ≡ map_of (r ∷ rs) p
@@ -84,8 +103,10 @@ small_joined r (n ∷ rs) h s =
     let next : IsSmall n = head_of IsSmall n rs s in
     by_test (continues r n)
     (λ k. let b : r.pages.first.0 + r.pages.count ≡ n.pages.first.0 = continues_page r n k in
-    let frames : HasLowFrames (advance (entry_of_target r.target) r.pages.count) n.pages.count = rw (continues_entry r n k) next.1 in
-    let long : IsSmall (longer r n) = (omega (arith, next.0), low_before (entry_of_target r.target) r.pages.count n.pages.count frames) in
+    let frames : HasLowFrames (advance (entry_of_target r.target) r.pages.count) n.pages.count =
+    rw (continues_entry r n k) next.1 in
+    let long : IsSmall (longer r n) =
+    (omega (arith, next.0), low_before (entry_of_target r.target) r.pages.count n.pages.count frames) in
     rw k (All-cons IsSmall (longer r n) rs long (rest_of IsSmall n rs s)))
     (λ k. rw k (All-cons IsSmall r (n ∷ rs) h s))
 
@@ -117,7 +138,8 @@ longer_precedes r n m h p =
     let b : r.pages.first.0 + r.pages.count ≡ n.pages.first.0 = continues_page r n h in
     let t = continues_entry r n h in
     let far : entry_on (longer r n) (run_end (longer r n)) ≡ entry_on n (run_end n) =
-    ap (advance (entry_of_target r.target)) (from_first (longer r n)) ∙ sym (advance-more (entry_of_target r.target) r.pages.count n.pages.count)
+    ap (advance (entry_of_target r.target)) (from_first (longer r n))
+    ∙ sym (advance-more (entry_of_target r.target) r.pages.count n.pages.count)
     ∙ ap (λ x. advance x n.pages.count) t ∙ ap (advance (entry_of_target n.target)) (sym (from_first n)) in
     record { before = omega (arith, p.before); apart = λ e u. p.apart (omega arith) (sym far ∙ u) }
 
@@ -125,7 +147,11 @@ longer_first : (r n : Run) (rs : List Run) → continues r n ≡ true → Preced
 longer_first r n [] h p = tt
 longer_first r n (m ∷ rs) h p = longer_precedes r n m h p
 
-pub joined_coarsest : (r : Run) (rs : List Run) → 0 < r.pages.count → BeginsFrom (run_end r) rs → IsCoarsest rs → IsCoarsest (joined r rs)
+pub joined_coarsest : (r : Run) (rs : List Run)
+    → 0 < r.pages.count
+    → BeginsFrom (run_end r) rs
+    → IsCoarsest rs
+    → IsCoarsest (joined r rs)
 joined_coarsest r [] h b c = (h, tt, tt)
 joined_coarsest r (n ∷ rs) h b c = by_test (continues r n)
     (λ k. rw k (omega arith, longer_first r n rs k c.1, c.2))

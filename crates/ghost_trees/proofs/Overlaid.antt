@@ -78,38 +78,61 @@ module _ (x : ℕ) where
   from_high (r ∷ rs) d p h =
       rw (from_keeps r.pages.first.0 r.pages.count x p h, from_high rs d p h)
       (by_test (is_within r.pages.first.0 r.pages.count p)
-      (λ w. rw w (entry_on_behind r (min (x - r.pages.first.0) r.pages.count) p (skipped_few r.pages.first.0 r.pages.count x p (within_means r.pages.first.0 r.pages.count p w).0 h)))
+      (λ w. rw w
+      (entry_on_behind r (min (x - r.pages.first.0) r.pages.count) p
+      (skipped_few r.pages.first.0 r.pages.count x p (within_means r.pages.first.0 r.pages.count p w).0 h)))
       (λ w. rw w refl))
 
   small_behind : (r : Run) (m : ℕ) → m ≤ r.pages.count → IsSmall r → IsSmall (run_behind r m)
   small_behind r m h s =
-      let e : r.pages.count ≡ m + (r.pages.count - m) = omega arith in
-      (omega (arith, s.0), rw (entry_advanced r.target m) (low_behind (entry_of_target r.target) m (r.pages.count - m) (subst (λ (n : ℕ). HasLowFrames (entry_of_target r.target) n) e s.1)))
+      let e : r.pages.count ≡ m + (r.pages.count - m) = omega arith in (
+        omega (arith, s.0),
+        rw (entry_advanced r.target m)
+            (low_behind (entry_of_target r.target) m (r.pages.count - m)
+            (subst (λ (n : ℕ). HasLowFrames (entry_of_target r.target) n) e s.1)),
+      )
 
   pub small_part : (side : Side) (r : Run) → IsSmall r → IsSmall (run_part side x r)
-  small_part Before r s = (omega (arith, s.0), low_fewer (entry_of_target r.target) (min (x - r.pages.first.0) r.pages.count) r.pages.count (omega arith) s.1)
+  small_part Before r s = (
+    omega (arith, s.0),
+    low_fewer (entry_of_target r.target) (min (x - r.pages.first.0) r.pages.count) r.pages.count
+        (omega arith) s.1,
+  )
   small_part From r s = small_behind r (min (x - r.pages.first.0) r.pages.count) (omega arith) s
 
   pub small_parts : (side : Side) (rs : List Run) → AreSmall rs → AreSmall (all_parts side rs)
   small_parts side [] s = All-nil IsSmall
-  small_parts side (r ∷ rs) s = All-cons IsSmall (run_part side x r) (all_parts side rs) (small_part side r (s 0 r (omega arith))) (small_parts side rs (λ k d h. s (suc k) d (omega arith)))
+  small_parts side (r ∷ rs) s =
+      All-cons IsSmall (run_part side x r) (all_parts side rs) (small_part side r (s 0 r (omega arith)))
+      (small_parts side rs (λ k d h. s (suc k) d (omega arith)))
 
 -- the run of a range with an entry
 module _ (range : PageRange) where
-  pub entry_inside : (e d : Entry) (p : ℕ) → is_within range.first.0 range.count p ≡ true → d ≡ Unmapped → over (runs_for range e) d p ≡ advance e (p - range.first.0)
+  pub entry_inside : (e d : Entry) (p : ℕ)
+      → is_within range.first.0 range.count p ≡ true
+      → d ≡ Unmapped
+      → over (runs_for range e) d p ≡ advance e (p - range.first.0)
   entry_inside Unmapped d p h n = n
   entry_inside Malformed d p h n = rw h refl
   entry_inside (Annotated o) d p h n = rw h refl
   entry_inside (Leaf f q k s) d p h n = rw h refl
 
-  pub entry_outside : (e d : Entry) (p : ℕ) → is_within range.first.0 range.count p ≡ false → over (runs_for range e) d p ≡ d
+  pub entry_outside : (e d : Entry) (p : ℕ)
+      → is_within range.first.0 range.count p ≡ false
+      → over (runs_for range e) d p ≡ d
   entry_outside Unmapped d p h = refl
   entry_outside Malformed d p h = rw h refl
   entry_outside (Annotated o) d p h = rw h refl
   entry_outside (Leaf f q k s) d p h = rw h refl
 
-  pub small_entry : (e : Entry) → range.first.0 + range.count ≤ 2 ^ 63 → HasLowFrames e range.count → AreSmall (runs_for range e)
+  pub small_entry : (e : Entry)
+      → range.first.0 + range.count ≤ 2 ^ 63
+      → HasLowFrames e range.count
+      → AreSmall (runs_for range e)
   small_entry Unmapped h l = All-nil IsSmall
-  small_entry Malformed h l = All-cons IsSmall (record { pages = range; target = MalformedTarget }) [] (h, tt) (All-nil IsSmall)
-  small_entry (Annotated o) h l = All-cons IsSmall (record { pages = range; target = AnnotatedTarget o }) [] (h, tt) (All-nil IsSmall)
-  small_entry (Leaf f p k s) h l = All-cons IsSmall (record { pages = range; target = LeafTarget f p k s }) [] (h, l) (All-nil IsSmall)
+  small_entry Malformed h l =
+      All-cons IsSmall (record { pages = range; target = MalformedTarget }) [] (h, tt) (All-nil IsSmall)
+  small_entry (Annotated o) h l =
+      All-cons IsSmall (record { pages = range; target = AnnotatedTarget o }) [] (h, tt) (All-nil IsSmall)
+  small_entry (Leaf f p k s) h l =
+      All-cons IsSmall (record { pages = range; target = LeafTarget f p k s }) [] (h, l) (All-nil IsSmall)

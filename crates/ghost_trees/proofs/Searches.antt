@@ -7,10 +7,17 @@ use Rattle.page_state.specs.EntryTests.{entry_eq, is_unmapped}
 use Rattle.page_state.proofs.Cases.{by_test, by_eq}
 use Rattle.page_state.proofs.Blocks.{all_from-by}
 
-all_from_false : (from n k : ℕ) (test : ℕ → Bool) → from ≤ k → k < from + n → test k ≡ false → all_from from n test ≡ false
+all_from_false : (from n k : ℕ) (test : ℕ → Bool)
+    → from ≤ k
+    → k < from + n
+    → test k ≡ false
+    → all_from from n test ≡ false
 all_from_false from zero k test l m h = absurd (omega arith)
 all_from_false from (suc n) k test l m h = by_test (test from)
-    (λ t. rw (t, all_from) (all_from_false (suc from) n k test (by_eq from k (λ e. let c : true ≡ false = sym t ∙ ap test e ∙ h in cc) (λ e. omega arith)) (omega arith) h))
+    (λ t. rw (t, all_from)
+    (all_from_false (suc from) n k test
+    (by_eq from k (λ e. let c : true ≡ false = sym t ∙ ap test e ∙ h in cc) (λ e. omega arith))
+    (omega arith) h))
     (λ t. rw (t, all_from) refl)
 
 pub all_below_true : (n : ℕ) (test : ℕ → Bool) → ((k : ℕ) → k < n → test k ≡ true) → all_below n test ≡ true

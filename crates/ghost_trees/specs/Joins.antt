@@ -7,7 +7,8 @@ use Rattle.page_state.specs.Runs.{run_end, entry_on}
 
 -- whether the second run continues the first
 abbrev pub continues : Run → Run → Bool
-continues r n = run_end r == n.pages.first.0 && entry_eq (entry_on r (run_end r)) (entry_of_target n.target)
+continues r n =
+    run_end r == n.pages.first.0 && entry_eq (entry_on r (run_end r)) (entry_of_target n.target)
 
 -- a run with the pages of the run that continues it
 abbrev pub longer : Run → Run → Run

@@ -12,13 +12,15 @@ use Rattle.ghost_trees.specs.declared.runs.Side.TheVariants.{Before, From}
 -- a run without its first pages
 abbrev pub run_behind : Run → ℕ → Run
 run_behind r skipped = record {
-  pages = record { first = record { 0 = r.pages.first.0 + skipped }; count = r.pages.count - skipped };
+  pages =
+      record { first = record { 0 = r.pages.first.0 + skipped }; count = r.pages.count - skipped };
   target = advance_target r.target skipped;
 }
 
 -- the part of a run on one side of a page
 abbrev pub run_part : Side → ℕ → Run → Run
-run_part Before page r = record r { pages = record r.pages { count = min (page - r.pages.first.0) r.pages.count } }
+run_part Before page r =
+    record r { pages = record r.pages { count = min (page - r.pages.first.0) r.pages.count } }
 run_part From page r = run_behind r (min (page - r.pages.first.0) r.pages.count)
 
 -- the run of a range whose pages have an entry, or no run where nothing is mapped there

@@ -94,7 +94,10 @@ fn first_page(block: Block) -> u64
 fn push_blocks(blocks: &mut Vec<Block>, top: u64, page: u64, all: bool) -> Result<(), AllocError>
     requires top { top ≤ 3 }
     requires page { page ≤ 2 ^ 63 }
-    ensures { OnOk result (blocks.new.items ≡ blocks.old.items ++ filter (λ b. all || first_page_of b == page) (blocks_with top page)) }
+    ensures { OnOk result
+        (blocks.new.items
+        ≡ blocks.old.items
+        ++ filter (λ b. all || first_page_of b == page) (blocks_with top page)) }
 {
     for i in 0..top {
         let block = (top - i, page / span(top - i));

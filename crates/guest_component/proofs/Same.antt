@@ -10,11 +10,13 @@ use Rattle.table_tree.specs.View.{tree_of}
 use Rattle.table_tree.proofs.Same.{by_views}
 use Rattle.component.specs.View.{need_for, tree_after, back_from}
 
-pub after_take : {A : Type 0} (t : TableTree A) (c : Option MapChange) (fs : List ℕ) → tree_after t c (take (need_for t c) fs) ≡ tree_after t c fs
+pub after_take : {A : Type 0} (t : TableTree A) (c : Option MapChange) (fs : List ℕ)
+    → tree_after t c (take (need_for t c) fs) ≡ tree_after t c fs
 after_take t c fs = edited_take (levels_below t.geometry) (tree_of t) (edit_of c) fs
 
 -- trees that are one but for their spares
-module _ {A : Type 0} (u t : TableTree A) (geometry : u.geometry ≡ t.geometry) (table : u.table ≡ t.table) (c : Option MapChange) where
+module _ {A : Type 0} (u t : TableTree A) (geometry : u.geometry ≡ t.geometry) (table : u.table ≡ t.table)
+    (c : Option MapChange) where
   pub need_same : need_for u c ≡ need_for t c
   need_same = by_views u t geometry table (λ x y. need (levels_below x) y (edit_of c))
 

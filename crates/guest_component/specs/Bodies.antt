@@ -16,13 +16,21 @@ phase_of Dying = dying
 
 -- all of it
 abbrev pub body_of : {A : Type 0} → Body A → Guest
-body_of b = record { phase = phase_of b.phase; generation = b.generation; kind = b.kind; tree = tree_of b.map.tree; free = b.pool.frames }
+body_of b =
+    record {
+      phase = phase_of b.phase;
+      generation = b.generation;
+      kind = b.kind;
+      tree = tree_of b.map.tree;
+      free = b.pool.frames;
+    }
 
 -- its tree, if there is one, has the geometry
 abbrev pub IsOfGeometry : {A : Type 0} → Geometry → Option (Body A) → Type 0
 IsOfGeometry geometry None = Unit {0}
 IsOfGeometry geometry (Some b) = b.map.tree.geometry ≡ geometry
 
-pub IsOfGeometry-prop : {A : Type 0} (geometry : Geometry) (o : Option (Body A)) → IsProp (IsOfGeometry geometry o)
+pub IsOfGeometry-prop : {A : Type 0} (geometry : Geometry) (o : Option (Body A))
+    → IsProp (IsOfGeometry geometry o)
 IsOfGeometry-prop geometry None = Unit-prop
 IsOfGeometry-prop geometry (Some b) = hlevel props

@@ -28,7 +28,13 @@ pub record GuestCanChange (d : ℕ) (h : Changes) (g : Guest) : Type 0 where
 
 -- the guest with its map changed
 abbrev pub map_changed : ℕ → Option MapChange → Guest → Guest
-map_changed d c g = record g { tree = edited d g.tree (edit_of c) g.free; free = all_given (returned d g.tree (edit_of c)) (drop (need d g.tree (edit_of c)) g.free) }
+map_changed d c g =
+    record g {
+      tree = edited d g.tree (edit_of c) g.free;
+      free =
+          all_given (returned d g.tree (edit_of c))
+          (drop (need d g.tree (edit_of c)) g.free);
+    }
 
 -- a guest can be made of the hand's frames
 pub record IsHand (hand : PageRange) : Type 0 where
@@ -41,8 +47,10 @@ abbrev pub CanInstallFrom : GuestChange → Type 0
 CanInstallFrom (Install kind generation hand) = IsHand hand
 CanInstallFrom other = Unit {0}
 
--- the frames of a range can come to a pool beside a tree: neither has them, they are 512 at most with them, and they are low
-pub record CanGainFrames {A : Type 0} (t : TableTree A) (p : StoredFrames) (r : PageRange) : Type 0 where
+-- the frames of a range can come to a pool beside a tree: neither has them, they are 512 at most
+-- with them, and they are low
+pub record CanGainFrames {A : Type 0} (t : TableTree A) (p : StoredFrames)
+    (r : PageRange) : Type 0 where
   pub apart : (f : ℕ) → is_in_range r f ≡ true → uses t f + frame_count f p.frames ≡ 0
   pub few : tables_of t + length p.frames + r.count ≤ 512
   pub low : end_of r ≤ 2 ^ 36

@@ -17,7 +17,8 @@ pool_with p b = record { frames = frames_of p.spare.stock ++ b.pool.frames; room
 abbrev pub body_with : {A : Type 0} → Plan A → Body A → Guest
 body_with p b = record (body_of b) { free = frames_of p.spare.stock ++ b.pool.frames }
 
--- a plan has just the tables that a change needs, with the lowest frames of the pool as it was, and the maplets have room
+-- a plan has just the tables that a change needs, with the lowest frames of the pool as it was, and
+-- the maplets have room
 pub record IsInHand {A : Type 0} (c : Option MapChange) (b : Body A) (p : Plan A) : Type 0 where
   pub change : p.change ≡ c
   pub just : length (frames_of p.spare.stock) ≡ need_for b.map.tree c

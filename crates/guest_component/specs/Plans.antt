@@ -20,7 +20,9 @@ use Rattle.guest_component.specs.View.{guest_of, guest_in, guest_depth}
 -- the guest that an install makes is there
 abbrev pub IsMadeFor : {A : Type 0} → Geometry → GuestChange → Option (Body A) → Type 0
 IsMadeFor geometry (Install kind generation hand) None = ⊥
-IsMadeFor geometry (Install kind generation hand) (Some b) = (body_of b ≡ guest_by (levels_below geometry) (Install kind generation hand) no_guest) × (b.map.tree.geometry ≡ geometry)
+IsMadeFor geometry (Install kind generation hand) (Some b) =
+    (body_of b ≡ guest_by (levels_below geometry) (Install kind generation hand) no_guest)
+    × (b.map.tree.geometry ≡ geometry)
 IsMadeFor geometry other o = Unit {0}
 
 -- there is a plan of the map's change exactly if there is a guest, and it is for its present tree
@@ -42,14 +44,17 @@ map_with p o = guest_in o
 abbrev pub guest_with : {A : Type 0} → GuestPlan A → GuestComponent A → Guest
 guest_with p g = map_with p.map g.body
 
--- a plan of the map's change was made of guest `g`, which is now `h`: with the frames in hand given back it is as it was
-pub record IsMapPlanned {A : Type 0} (c : Option MapChange) (g h : GuestComponent A) (p : Option (Plan A)) : Type 0 where
+-- a plan of the map's change was made of guest `g`, which is now `h`: with the frames in hand given
+-- back it is as it was
+pub record IsMapPlanned {A : Type 0} (c : Option MapChange) (g h : GuestComponent A)
+    (p : Option (Plan A)) : Type 0 where
   pub in_hand : IsMapInHand h.body p
   pub planned : PlansFor c p
   pub whole : map_with p h.body ≡ guest_of g
 
 -- the changes can be made of the guest, and all that they need is in hand
-pub record IsReadyFor {A : Type 0} (h : Changes) (g : GuestComponent A) (p : GuestPlan A) : Type 0 where
+pub record IsReadyFor {A : Type 0} (h : Changes) (g : GuestComponent A)
+    (p : GuestPlan A) : Type 0 where
   pub fits : GuestCanChange (guest_depth g) h (guest_with p g)
   pub map : IsMapInHand g.body p.map
   pub planned : PlansFor h.guest p.map

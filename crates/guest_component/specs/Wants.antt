@@ -25,7 +25,8 @@ abbrev pub MakesNone : GuestChange → Type 0
 MakesNone (Install kind generation hand) = ⊥
 MakesNone other = Unit {0}
 
--- memory for the changes is there already: they make no guest, and the tree has spares for them and the maplets room
+-- memory for the changes is there already: they make no guest, and the tree has spares for them and
+-- the maplets room
 pub record WantsNoMemory {A : Type 0} (h : Changes) (g : GuestComponent A) : Type 0 where
   pub made : MakesNone h.part
   pub map : HasReadyMap (need_of g h) h.guest g.body

@@ -48,7 +48,12 @@ impl<A: Allocator> Body<A> {
     ghost use Rattle.reference_model.specs.model.Changes.{guest_by};
     ghost use Rattle.reference_model.specs.model.GuestRules.{guest_table_count, is_guest};
     ghost use Rattle.reference_model.specs.model.State.{Guest as ReferenceGuest};
-    ghost use Rattle.reference_model.specs.declared.changes.GuestChange.TheVariants.{Die, Gain, Install, LoseLowest};
+    ghost use Rattle.reference_model.specs.declared.changes.GuestChange.TheVariants.{
+      Die,
+      Gain,
+      Install,
+      LoseLowest,
+    };
     ghost use Rattle.table_tree.specs.View.{tables_of, uses};
 
     /// A Live guest of the hand's frames: its root is the first, and its pool has the others.
@@ -61,7 +66,9 @@ impl<A: Allocator> Body<A> {
         hand: PageRange,
     ) -> Result<Body<A>, AllocError>
         requires { IsHand hand }
-        ensures made { IfOk result (λ b. (g : ReferenceGuest) → body_of b ≡ guest_by (levels_below geometry) (Install kind generation hand) g) }
+        ensures made { IfOk result
+            (λ b. (g : ReferenceGuest)
+            → body_of b ≡ guest_by (levels_below geometry) (Install kind generation hand) g) }
         ensures geometry { IfOk result (λ b. b.map.tree.geometry ≡ geometry) }
     {
         let (root, pool) = split_hand(global, hand)?;
@@ -84,7 +91,9 @@ impl<A: Allocator> Body<A> {
 
     /// How many tables it has.
     pub(crate) fn tables(&self) -> usize
-        ensures value { (l : Layout) → l.depth ≡ levels_below self.now.map.tree.geometry → result ≡ guest_table_count l (body_of self.now).tree }
+        ensures value { (l : Layout)
+            → l.depth ≡ levels_below self.now.map.tree.geometry
+            → result ≡ guest_table_count l (body_of self.now).tree }
         ensures few { result + length self.now.pool.frames ≤ 512 }
     {
         let map = &self.map;
@@ -93,7 +102,9 @@ impl<A: Allocator> Body<A> {
 
     /// Whether no page is mapped, by a look at each slot of the root.
     pub(crate) fn is_unmapped(&self) -> bool
-        ensures { result ≡ all_below (pages_below (levels_below self.now.map.tree.geometry)) (λ p. is_unmapped_entry ((body_of self.now).tree.map p)) }
+        ensures { result
+            ≡ all_below (pages_below (levels_below self.now.map.tree.geometry))
+            (λ p. is_unmapped_entry ((body_of self.now).tree.map p)) }
     {
         let map = &self.map;
         let depth = map.tree().geometry().depth();
@@ -107,7 +118,9 @@ impl<A: Allocator> Body<A> {
 
     /// The pool gets frames that the guest doesn't have.
     fn gain(&mut self, frames: PageRange)
-        requires apart { (f : ℕ) → is_in_range frames f ≡ true → uses self.old.map.tree f + frame_count f self.old.pool.frames ≡ 0 }
+        requires apart { (f : ℕ)
+            → is_in_range frames f ≡ true
+            → uses self.old.map.tree f + frame_count f self.old.pool.frames ≡ 0 }
         requires few { tables_of self.old.map.tree + length self.old.pool.frames + frames.count ≤ 512 }
         requires low { end_of frames ≤ 2 ^ 36 }
         ensures made { (d : ℕ) → body_of self.new ≡ guest_by d (Gain frames) (body_of self.old) }
@@ -153,7 +166,8 @@ impl<A: Allocator> Body<A> {
     pub(crate) fn release(&mut self, plan: Plan<A>)
         requires { IsInHand plan.change self.old plan }
         ensures same { body_of self.new ≡ body_with plan self.old }
-        ensures spares { spares_of self.new.map.tree ≡ spares_of self.old.map.tree + length (frames_of plan.spare.stock) }
+        ensures spares { spares_of self.new.map.tree
+            ≡ spares_of self.old.map.tree + length (frames_of plan.spare.stock) }
         ensures geometry { self.new.map.tree.geometry ≡ self.old.map.tree.geometry }
         ensures runs { self.new.map.maplets.runs ≡ self.old.map.maplets.runs }
     {
@@ -166,8 +180,11 @@ impl<A: Allocator> Body<A> {
     fn set(&mut self, plan: Plan<A>)
         requires change { FitsWhere (levels_below self.old.map.tree.geometry) plan.change }
         requires in_hand { IsInHand plan.change self.old plan }
-        ensures made { body_of self.new ≡ map_changed (levels_below self.old.map.tree.geometry) plan.change (body_with plan self.old) }
-        ensures keeps { KeepsFrames self.old.map.tree (frames_of plan.spare.stock) self.old.pool self.new.map.tree self.new.pool }
+        ensures made { body_of self.new
+            ≡ map_changed (levels_below self.old.map.tree.geometry) plan.change
+            (body_with plan self.old) }
+        ensures keeps { KeepsFrames self.old.map.tree
+            (frames_of plan.spare.stock) self.old.pool self.new.map.tree self.new.pool }
     {
         let map = &mut self.map;
         let pool = &mut self.pool;
@@ -180,7 +197,9 @@ impl<A: Allocator> Body<A> {
         requires part { CanTake self.old.map.tree (pool_with plan self.old) changes.now.part }
         requires change { FitsWhere (levels_below self.old.map.tree.geometry) changes.now.guest }
         requires in_hand { IsInHand changes.now.guest self.old plan }
-        ensures made { body_of self.new ≡ guest_after (levels_below self.old.map.tree.geometry) changes.now (body_with plan self.old) }
+        ensures made { body_of self.new
+            ≡ guest_after (levels_below self.old.map.tree.geometry) changes.now
+            (body_with plan self.old) }
         ensures geometry { self.new.map.tree.geometry ≡ self.old.map.tree.geometry }
     {
         self.set(plan);
@@ -213,8 +232,11 @@ impl<A: Allocator + Copy> Body<A> {
         requires { FitsWhere (levels_below self.old.map.tree.geometry) change }
         ensures in_hand { IfOk result (λ p. IsInHand change self.new p) }
         ensures whole { IfOk result (λ p. body_with p self.new ≡ body_of self.old) }
-        ensures no_pool { (result ≡ Err PoolFault.NoPool) ↔ (length self.old.pool.frames < need_for self.old.map.tree change) }
-        ensures no_memory { result ≡ Err PoolFault.NoMemory → HasReadyMap (need_for self.old.map.tree change) change (Some self.old) → ⊥ }
+        ensures no_pool { (result ≡ Err PoolFault.NoPool)
+            ↔ (length self.old.pool.frames < need_for self.old.map.tree change) }
+        ensures no_memory { result ≡ Err PoolFault.NoMemory
+            → HasReadyMap (need_for self.old.map.tree change) change (Some self.old)
+            → ⊥ }
         ensures err { OnErr result (body_of self.new ≡ body_of self.old) }
         ensures err_spares { OnErr result (spares_of self.old.map.tree ≤ spares_of self.new.map.tree) }
         ensures geometry { self.new.map.tree.geometry ≡ self.old.map.tree.geometry }

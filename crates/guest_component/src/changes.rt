@@ -72,7 +72,8 @@ impl<A: Allocator> Guest<A> {
     /// Makes changes with all that they need in hand. It takes no memory and can't fail.
     pub fn commit(&mut self, changes: &Changes, plan: GuestPlan<A>)
         requires { IsReadyFor changes.now self.old plan }
-        ensures made { guest_of self.new ≡ guest_after (guest_depth self.old) changes.now (guest_with plan self.old) }
+        ensures made { guest_of self.new
+            ≡ guest_after (guest_depth self.old) changes.now (guest_with plan self.old) }
         ensures depth { guest_depth self.new ≡ guest_depth self.old }
     {
         let GuestPlan { map, made } = plan;
@@ -101,7 +102,8 @@ impl<A: Allocator> Guest<A> {
         requires fits { GuestCanChange (guest_depth self.old) changes.now (map_with plan self.old.body) }
         requires in_hand { IsMapInHand self.old.body plan }
         requires planned { PlansFor changes.now.guest plan }
-        ensures made { guest_of self.new ≡ guest_after (guest_depth self.old) changes.now (map_with plan self.old.body) }
+        ensures made { guest_of self.new
+            ≡ guest_after (guest_depth self.old) changes.now (map_with plan self.old.body) }
         ensures depth { guest_depth self.new ≡ guest_depth self.old }
     {
         if let Some(plan) = plan {
@@ -115,8 +117,11 @@ impl<A: Allocator + Copy> Guest<A> {
     fn reserve_map(&mut self, alloc: A, changes: &Changes) -> Result<Option<Plan<A>>, PoolFault>
         requires { GuestCanChange (guest_depth self.old) changes.now (guest_of self.old) }
         ensures planned { IfOk result (IsMapPlanned changes.now.guest self.old self.new) }
-        ensures no_pool { (result ≡ Err PoolFault.NoPool) ↔ (length (guest_of self.old).free < need_of self.old changes.now) }
-        ensures no_memory { result ≡ Err PoolFault.NoMemory → HasReadyMap (need_of self.old changes.now) changes.now.guest self.old.body → ⊥ }
+        ensures no_pool { (result ≡ Err PoolFault.NoPool)
+            ↔ (length (guest_of self.old).free < need_of self.old changes.now) }
+        ensures no_memory { result ≡ Err PoolFault.NoMemory
+            → HasReadyMap (need_of self.old changes.now) changes.now.guest self.old.body
+            → ⊥ }
         ensures err { OnErr result (guest_of self.new ≡ guest_of self.old) }
         ensures err_spares { OnErr result (guest_spares self.old.body ≤ guest_spares self.new.body) }
         ensures geometry { self.new.geometry ≡ self.old.geometry }
@@ -136,7 +141,8 @@ impl<A: Allocator + Copy> Guest<A> {
         requires { GuestCanChange (guest_depth self.old) changes.now (guest_of self.old) }
         ensures ready { IfOk result (λ p. IsReadyFor changes.now self.new p) }
         ensures whole { IfOk result (λ p. guest_with p self.new ≡ guest_of self.old) }
-        ensures no_pool { (result ≡ Err PoolFault.NoPool) ↔ (length (guest_of self.old).free < need_of self.old changes.now) }
+        ensures no_pool { (result ≡ Err PoolFault.NoPool)
+            ↔ (length (guest_of self.old).free < need_of self.old changes.now) }
         ensures no_memory { result ≡ Err PoolFault.NoMemory → WantsNoMemory changes.now self.old → ⊥ }
         ensures err { OnErr result (guest_of self.new ≡ guest_of self.old) }
         ensures err_spares { OnErr result (guest_spares self.old.body ≤ guest_spares self.new.body) }
@@ -156,8 +162,11 @@ impl<A: Allocator + Copy> Guest<A> {
     /// Makes changes of the guest alone, or none: NoPool and NoMemory as `reserve` answers them.
     pub fn change(&mut self, alloc: A, changes: &Changes) -> Result<(), PoolFault>
         requires { GuestCanChange (guest_depth self.old) changes.now (guest_of self.old) }
-        ensures made { OnOk result (guest_of self.new ≡ guest_after (guest_depth self.old) changes.now (guest_of self.old)) }
-        ensures no_pool { (result ≡ Err PoolFault.NoPool) ↔ (length (guest_of self.old).free < need_of self.old changes.now) }
+        ensures made { OnOk result
+            (guest_of self.new
+            ≡ guest_after (guest_depth self.old) changes.now (guest_of self.old)) }
+        ensures no_pool { (result ≡ Err PoolFault.NoPool)
+            ↔ (length (guest_of self.old).free < need_of self.old changes.now) }
         ensures no_memory { result ≡ Err PoolFault.NoMemory → WantsNoMemory changes.now self.old → ⊥ }
         ensures err { OnErr result (guest_of self.new ≡ guest_of self.old) }
         ensures err_runs { OnErr result (runs_of self.new.body ≡ runs_of self.old.body) }

@@ -80,7 +80,9 @@ impl<A: Allocator> Guest<A> {
 
     /// How many tables it has, its root among them. With the free frames they are 512 at most.
     pub fn tables(&self) -> usize
-        ensures value { (l : Layout) → l.depth ≡ guest_depth self.now → result ≡ guest_table_count l (guest_of self.now).tree }
+        ensures value { (l : Layout)
+            → l.depth ≡ guest_depth self.now
+            → result ≡ guest_table_count l (guest_of self.now).tree }
         ensures few { result + length (guest_of self.now).free ≤ 512 }
     {
         match &self.body {
@@ -121,7 +123,9 @@ impl<A: Allocator> Guest<A> {
 
     /// Whether no page is mapped. It looks at the root alone.
     pub fn is_unmapped(&self) -> bool
-        ensures { result ≡ all_below (pages_below (guest_depth self.now)) (λ p. is_unmapped_entry ((guest_of self.now).tree.map p)) }
+        ensures { result
+            ≡ all_below (pages_below (guest_depth self.now))
+            (λ p. is_unmapped_entry ((guest_of self.now).tree.map p)) }
     {
         match &self.body {
             Some(body) => body.is_unmapped(),

@@ -1,4 +1,5 @@
--- Maps of a host that has touched all its pages, or whose leaves of devices' pages are all of one kind.
+-- Maps of a host that has touched all its pages, or whose leaves of devices' pages are all of one
+-- kind.
 use Rattle.std.specs.Prelude.{ℕ, true, false, List, Some, None}
 use Rattle.descriptor.specs.declared.Kind.TheVariants.{Device as device_kind}
 use Rattle.page_state.specs.declared.entry.Entry.{Entry}

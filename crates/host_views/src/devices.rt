@@ -82,7 +82,9 @@ fn of_region(alloc: Global, runs: &[Run], region: Region) -> Result<Vec<Run>, Al
     requires runs { AreSmall runs.now }
     requires coarsest { IsCoarsest runs.now }
     requires pages { end_of region.pages ≤ 2 ^ 63 }
-    ensures map { IfOk result (λ v. map_of v.items ≡ within_range region.pages (λ p. of_kind region.kind (map_of runs.now p))) }
+    ensures map { IfOk result
+        (λ v. map_of v.items
+        ≡ within_range region.pages (λ p. of_kind region.kind (map_of runs.now p))) }
     ensures small { IfOk result (λ v. AreSmall v.items) }
 {
     let part = within(alloc, runs, region.pages)?;

@@ -36,17 +36,28 @@ count-without f h (g ∷ gs) l = elim (cases_eq g f) [
   | inl e ↦ rw (without-same f g gs e, e) refl
   | inr n ↦
       let rest : 0 < frame_count f gs = rw (count-other f g gs n) at l in
-      rw (without-other f g gs n) (omega (arith, count-without f h gs rest, count_next h f (g ∷ without f gs), count_next h g (without f gs), count_next h f (without f gs), count_next h g gs))
+      rw (without-other f g gs n)
+      (omega (
+        arith,
+        count-without f h gs rest,
+        count_next h f (g ∷ without f gs),
+        count_next h g (without f gs),
+        count_next h f (without f gs),
+        count_next h g gs,
+      ))
 ]
 
 -- and so is what they make of a pool
-given-without : (f : ℕ) (gs : List ℕ) (p : Pool) → 0 < frame_count f gs → given f (all_given (without f gs) p) ≡ all_given gs p
+given-without : (f : ℕ) (gs : List ℕ) (p : Pool)
+    → 0 < frame_count f gs
+    → given f (all_given (without f gs) p) ≡ all_given gs p
 given-without f [] p l = absurd (omega arith)
 given-without f (g ∷ gs) p l = elim (cases_eq g f) [
   | inl e ↦ rw (without-same f g gs e, e) refl
   | inr n ↦
       let rest : 0 < frame_count f gs = rw (count-other f g gs n) at l in
-      ap (λ q. given f (all_given q p)) (without-other f g gs n) ∙ (given_swap f g (all_given (without f gs) p) ∙ ap (given g) (given-without f gs p rest))
+      ap (λ q. given f (all_given q p)) (without-other f g gs n)
+      ∙ (given_swap f g (all_given (without f gs) p) ∙ ap (given g) (given-without f gs p rest))
 ]
 
 cancel : (a b c d : ℕ) → a + b ≡ c → a + d ≡ c → b ≡ d
@@ -54,21 +65,31 @@ cancel a b c d p q = omega arith
 
 pub given_counted : GivenCounted
 given_counted [] [] p same = refl
-given_counted [] (g ∷ gs) p same = let none : 0 ≡ frame_count g (g ∷ gs) = same g in absurd (omega (arith, count-same g g gs refl))
+given_counted [] (g ∷ gs) p same = let none : 0 ≡ frame_count g (g ∷ gs) = same g in
+    absurd (omega (arith, count-same g g gs refl))
 given_counted (f ∷ fs) gs p same =
     let some : 0 < frame_count f gs = omega (arith, same f, count-same f f fs refl) in
-    ap (given f) (given_counted fs (without f gs) p (λ h. cancel (if f == h then 1 else 0) (frame_count h fs) (frame_count h gs) (frame_count h (without f gs)) (sym (count_next h f fs) ∙ same h) (sym (count_next h f (without f gs)) ∙ count-without f h gs some))) ∙ given-without f gs p some
+    ap (given f)
+    (given_counted fs (without f gs) p
+    (λ h. cancel (if f == h then 1 else 0) (frame_count h fs) (frame_count h gs) (frame_count h (without f gs))
+    (sym (count_next h f fs) ∙ same h) (sym (count_next h f (without f gs)) ∙ count-without f h gs some)))
+    ∙ given-without f gs p some
 
 pub given_append : GivenAppend
 given_append [] gs p = refl
 given_append (f ∷ fs) gs p = ap (given f) (given_append fs gs p)
 
 -- where another frame is in front
-contains_behind : (f g : ℕ) (gs : List ℕ) → (g ≡ f → ⊥) → (Contains gs f ↔ (0 < frame_count f gs)) → Contains (g ∷ gs) f ↔ (0 < frame_count f (g ∷ gs))
-contains_behind f g gs n w = rw (count-other f g gs n) ((λ h. behind ((contains_cons g f gs).0 h)), (λ l. (contains_cons g f gs).1 (inr (w.1 l)))) where
-  behind : ((g ≡ f) ⊎ Contains gs f) → 0 < frame_count f gs
-  behind (inl e) = absurd (n e)
-  behind (inr h) = w.0 h
+contains_behind : (f g : ℕ) (gs : List ℕ)
+    → (g ≡ f → ⊥)
+    → (Contains gs f ↔ (0 < frame_count f gs))
+    → Contains (g ∷ gs) f ↔ (0 < frame_count f (g ∷ gs))
+contains_behind f g gs n w =
+    rw (count-other f g gs n)
+    ((λ h. behind ((contains_cons g f gs).0 h)), (λ l. (contains_cons g f gs).1 (inr (w.1 l)))) where
+      behind : ((g ≡ f) ⊎ Contains gs f) → 0 < frame_count f gs
+      behind (inl e) = absurd (n e)
+      behind (inr h) = w.0 h
 
 pub count_contains : CountContains
 count_contains f [] = ((λ w. absurd (omega (arith, w.1))), (λ l. absurd (omega arith)))
@@ -83,7 +104,14 @@ all_given_length (f ∷ fs) p = omega (arith, given_length f (all_given fs p), a
 
 pub all_given_count : AllGivenCount
 all_given_count f [] p = omega arith
-all_given_count f (g ∷ gs) p = omega (arith, given_count g f (all_given gs p), count_next f g (all_given gs p), count_next f g gs, all_given_count f gs p)
+all_given_count f (g ∷ gs) p =
+    omega (
+      arith,
+      given_count g f (all_given gs p),
+      count_next f g (all_given gs p),
+      count_next f g gs,
+      all_given_count f gs p,
+    )
 
 -- a frame below all others isn't there, and none is there twice
 rise_none : (low f : ℕ) (xs : Pool) → f < low → Rise low xs → frame_count f xs ≡ 0

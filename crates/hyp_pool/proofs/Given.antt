@@ -17,10 +17,15 @@ pub given-behind : (f g : ℕ) (p : Pool) → g ≤ f → given f (g ∷ p) ≡ 
 given-behind f g p h = grind (arith, nat_tests)
 
 -- a frame that goes to the front, and a smaller one after it
-pair_in_front : (f g : ℕ) (p : Pool) → f < g → given f p ≡ f ∷ p → given g p ≡ g ∷ p → given f (given g p) ≡ given g (given f p)
+pair_in_front : (f g : ℕ) (p : Pool)
+    → f < g
+    → given f p ≡ f ∷ p
+    → given g p ≡ g ∷ p
+    → given f (given g p) ≡ given g (given f p)
 pair_in_front f g p h a b =
     let left : given f (given g p) ≡ f ∷ (g ∷ p) = ap (given f) b ∙ given-front f g p h in
-    let right : given g (given f p) ≡ f ∷ (g ∷ p) = ap (given g) a ∙ (given-behind g f p (omega arith) ∙ ap (λ q. f ∷ q) b) in
+    let right : given g (given f p) ≡ f ∷ (g ∷ p) =
+    ap (given g) a ∙ (given-behind g f p (omega arith) ∙ ap (λ q. f ∷ q) b) in
     left ∙ sym right
 
 -- two frames at the front
@@ -34,15 +39,24 @@ swap_in_front f g p a b = elim (cases_order f g) [
 -- one frame goes before the first, the other behind it
 swap_around : (f g x : ℕ) (xs : Pool) → f < x → x ≤ g → given f (given g (x ∷ xs)) ≡ given g (given f (x ∷ xs))
 swap_around f g x xs a b =
-    let left : given f (given g (x ∷ xs)) ≡ f ∷ (x ∷ given g xs) = ap (given f) (given-behind g x xs b) ∙ given-front f x (given g xs) a in
-    let right : given g (given f (x ∷ xs)) ≡ f ∷ (x ∷ given g xs) = ap (given g) (given-front f x xs a) ∙ (given-behind g f (x ∷ xs) (omega arith) ∙ ap (λ q. f ∷ q) (given-behind g x xs b)) in
+    let left : given f (given g (x ∷ xs)) ≡ f ∷ (x ∷ given g xs) =
+    ap (given f) (given-behind g x xs b) ∙ given-front f x (given g xs) a in
+    let right : given g (given f (x ∷ xs)) ≡ f ∷ (x ∷ given g xs) =
+    ap (given g) (given-front f x xs a)
+    ∙ (given-behind g f (x ∷ xs) (omega arith) ∙ ap (λ q. f ∷ q) (given-behind g x xs b)) in
     left ∙ sym right
 
 -- both go behind it
-swap_behind : (f g x : ℕ) (xs : Pool) → x ≤ f → x ≤ g → given f (given g xs) ≡ given g (given f xs) → given f (given g (x ∷ xs)) ≡ given g (given f (x ∷ xs))
+swap_behind : (f g x : ℕ) (xs : Pool)
+    → x ≤ f
+    → x ≤ g
+    → given f (given g xs) ≡ given g (given f xs)
+    → given f (given g (x ∷ xs)) ≡ given g (given f (x ∷ xs))
 swap_behind f g x xs a b e =
-    let left : given f (given g (x ∷ xs)) ≡ x ∷ given f (given g xs) = ap (given f) (given-behind g x xs b) ∙ given-behind f x (given g xs) a in
-    let right : given g (given f (x ∷ xs)) ≡ x ∷ given g (given f xs) = ap (given g) (given-behind f x xs a) ∙ given-behind g x (given f xs) b in
+    let left : given f (given g (x ∷ xs)) ≡ x ∷ given f (given g xs) =
+    ap (given f) (given-behind g x xs b) ∙ given-behind f x (given g xs) a in
+    let right : given g (given f (x ∷ xs)) ≡ x ∷ given g (given f xs) =
+    ap (given g) (given-behind f x xs a) ∙ given-behind g x (given f xs) b in
     left ∙ (ap (λ q. x ∷ q) e ∙ sym right)
 
 pub given_swap : GivenSwap
@@ -69,7 +83,15 @@ pub given_count : GivenCount
 given_count f g [] = refl
 given_count f g (x ∷ xs) = elim (cases_lt f x) [
   | inl h ↦ rw (given-front f x xs h) refl
-  | inr h ↦ rw (given-behind f x xs h) (omega (arith, given_count f g xs, count_next g x (given f xs), count_next g f (x ∷ xs), count_next g x xs, count_next g f xs))
+  | inr h ↦ rw (given-behind f x xs h)
+      (omega (
+        arith,
+        given_count f g xs,
+        count_next g x (given f xs),
+        count_next g f (x ∷ xs),
+        count_next g x xs,
+        count_next g f xs,
+      ))
 ]
 
 -- a list contains its first element, and what the rest contains
@@ -97,7 +119,9 @@ given_contains f g [] = contains_cons f g []
 given_contains f g (x ∷ xs) = elim (cases_lt f x) [
   | inl h ↦ rw (given-front f x xs h) (contains_cons f g (x ∷ xs))
   | inr h ↦ rw (given-behind f x xs h) (
-    (λ w. under (contains_cons x g xs).1 (exchange (under (given_contains f g xs).0 ((contains_cons x g (given f xs)).0 w)))),
-    (λ w. (contains_cons x g (given f xs)).1 (under (given_contains f g xs).1 (exchange (under (contains_cons x g xs).0 w)))),
+    (λ w. under (contains_cons x g xs).1
+        (exchange (under (given_contains f g xs).0 ((contains_cons x g (given f xs)).0 w)))),
+    (λ w. (contains_cons x g (given f xs)).1
+        (under (given_contains f g xs).1 (exchange (under (contains_cons x g xs).0 w)))),
   )
 ]

@@ -49,12 +49,17 @@ rise_given low f [] l new r = (l, tt)
 rise_given low f (x ∷ xs) l new r = elim (cases_lt f x) [
   | inl h ↦ rw (given-front f x xs h) (l, (omega arith, r.1))
   | inr h ↦
-      let other : x < f = elim (cases_eq x f) [ inl e ↦ absurd (new ((contains_cons x f xs).1 (inl e))) | inr n ↦ omega arith ] in
-      rw (given-behind f x xs h) (r.0, rise_given (x + 1) f xs (omega arith) (λ w. new ((contains_cons x f xs).1 (inr w))) r.1)
+      let other : x < f =
+      elim (cases_eq x f) [ inl e ↦ absurd (new ((contains_cons x f xs).1 (inl e))) | inr n ↦ omega arith ] in
+      rw (given-behind f x xs h)
+      (r.0, rise_given (x + 1) f xs (omega arith) (λ w. new ((contains_cons x f xs).1 (inr w))) r.1)
 ]
 
 -- a frame that wasn't there leaves them rising
-pub rising_given : (f : ℕ) (xs : Pool) → (Contains xs f → ⊥) → IsStrictlyIncreasing xs → IsStrictlyIncreasing (given f xs)
+pub rising_given : (f : ℕ) (xs : Pool)
+    → (Contains xs f → ⊥)
+    → IsStrictlyIncreasing xs
+    → IsStrictlyIncreasing (given f xs)
 rising_given f xs new r = rising 0 (given f xs) (rise_given 0 f xs (omega arith) new (rise xs r))
 
 rise_frames : (first n : ℕ) → Rise first (frames_from first n)
@@ -93,7 +98,9 @@ least_first x xs r = above x (x + 1) xs (omega arith) (rise (x ∷ xs) r).1
 least_front : (n low : ℕ) (p : Pool) → Rise low p → All (λ f. All (λ g. f < g) (drop n p)) (take n p)
 least_front zero low p r = All-nil (λ f. All (λ g. f < g) p)
 least_front (suc n) low [] r = All-nil (λ f. All (λ g. f < g) [])
-least_front (suc n) low (x ∷ xs) r = All-cons (λ f. All (λ g. f < g) (drop n xs)) x (take n xs) (above x (x + 1) (drop n xs) (omega arith) (rise_drop n (x + 1) xs r.1)) (least_front n (x + 1) xs r.1)
+least_front (suc n) low (x ∷ xs) r =
+    All-cons (λ f. All (λ g. f < g) (drop n xs)) x (take n xs)
+    (above x (x + 1) (drop n xs) (omega arith) (rise_drop n (x + 1) xs r.1)) (least_front n (x + 1) xs r.1)
 
 -- the first frames are below all others
 pub least_taken : (n : ℕ) (p : Pool) → IsStrictlyIncreasing p → All (λ f. All (λ g. f < g) (drop n p)) (take n p)

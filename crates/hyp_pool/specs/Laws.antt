@@ -11,7 +11,10 @@ GivenSwap = (f g : ℕ) (p : Pool) → given f (given g p) ≡ given g (given f 
 
 -- lists that have each frame equally often make one pool
 abbrev pub GivenCounted : Type 0
-GivenCounted = (fs gs : List ℕ) (p : Pool) → ((f : ℕ) → frame_count f fs ≡ frame_count f gs) → all_given fs p ≡ all_given gs p
+GivenCounted =
+    (fs gs : List ℕ) (p : Pool)
+    → ((f : ℕ) → frame_count f fs ≡ frame_count f gs)
+    → all_given fs p ≡ all_given gs p
 
 -- two lists one after the other: the second is given first
 abbrev pub GivenAppend : Type 0
@@ -35,7 +38,9 @@ AllGivenLength = (fs : List ℕ) (p : Pool) → length (all_given fs p) ≡ leng
 
 -- each of them as often as in both together
 abbrev pub AllGivenCount : Type 0
-AllGivenCount = (f : ℕ) (fs : List ℕ) (p : Pool) → frame_count f (all_given fs p) ≡ frame_count f fs + frame_count f p
+AllGivenCount =
+    (f : ℕ) (fs : List ℕ) (p : Pool)
+    → frame_count f (all_given fs p) ≡ frame_count f fs + frame_count f p
 
 -- the frames of the pool are those from before and the given one
 abbrev pub GivenContains : Type 0

@@ -4,7 +4,8 @@ use Rattle.std.specs.List.Sorted.{IsStrictlyIncreasing}
 use Rattle.page_state.specs.declared.Frame.{Frame}
 use Rattle.page_state.specs.Trees.{Pool}
 
--- what contracts see of a pool: its free frames, in increasing order, and for how many frames there is room
+-- what contracts see of a pool: its free frames, in increasing order, and for how many frames there
+-- is room
 pub record StoredFrames : Type 0 where
   pub frames : Pool
   pub room : ℕ
@@ -22,7 +23,8 @@ numbers fs = map (λ f. f.0) fs
 abbrev pub lowest_first : List Frame → List ℕ
 lowest_first fs = numbers (reverse fs)
 
--- the `n` lowest frames of pool `p` were taken, the lowest first: pool `q` is left, whose frames are all greater
+-- the `n` lowest frames of pool `p` were taken, the lowest first: pool `q` is left, whose frames
+-- are all greater
 pub record AreTaken (n : ℕ) (p q : StoredFrames) (fs : List Frame) : Type 0 where
   pub frames : numbers fs ≡ take n p.frames
   pub left : q.frames ≡ drop n p.frames

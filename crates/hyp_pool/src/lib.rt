@@ -54,7 +54,8 @@ impl Model for Pool {
 
     ghost view = { λ pool. record { frames = lowest_first pool.frames.items; room = pool.room } };
 
-    ghost invariant = { λ pool. IsPool (record { frames = lowest_first pool.frames.items; room = pool.room }) × (pool.room ≤ vec_capacity pool.frames) };
+    ghost invariant = { λ pool. IsPool (record { frames = lowest_first pool.frames.items; room = pool.room })
+        × (pool.room ≤ vec_capacity pool.frames) };
 }
 
 impl Pool {

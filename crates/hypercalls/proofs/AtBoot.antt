@@ -16,10 +16,25 @@ use Rattle.hypercalls.specs.Booted.{IsBooted}
 module _ {A : Type 0} (m : Memory) (c : Config) (p : Parts A) (booted : IsBooted m c p) where
   -- what there is of a state, with these logs
   abbrev with_calls : Reference → List Call → List Call → (ℕ → List Call) → (ℕ → List Call) → Kept
-  with_calls s vms shared guest own = record { vms = (s.contents.vms, vms); shared = (s.contents.shared, shared); guest = λ v. (s.contents.guest v, guest v); cpu = λ k. (s.contents.cpu k, own k) }
+  with_calls s vms shared guest own =
+      record {
+        vms = (s.contents.vms, vms);
+        shared = (s.contents.shared, shared);
+        guest = λ v. (s.contents.guest v, guest v);
+        cpu = λ k. (s.contents.cpu k, own k);
+      }
 
   pub ready : CanBoot (parts_layout p)
-  ready = subst CanBoot (sym booted.layout) (record { accepted = record { memory = booted.memory; config = booted.accepted.accepted; depth = subst HasItsDepth booted.layout booted.depth }; enough = booted.enough })
+  ready =
+      subst CanBoot (sym booted.layout)
+      (record {
+        accepted = record {
+          memory = booted.memory;
+          config = booted.accepted.accepted;
+          depth = subst HasItsDepth booted.layout booted.depth;
+        };
+        enough = booted.enough;
+      })
 
   pub at_boot : HasHistory p
   at_boot =
@@ -31,4 +46,8 @@ module _ {A : Type 0} (m : Memory) (c : Config) (p : Parts A) (booted : IsBooted
       ∙ ap (λ cs. with_calls s k.vms.1 cs (λ v. []) (λ i. [])) (sym booted.no_calls.shared)
       ∙ ap (λ cs. with_calls s k.vms.1 k.shared.1 cs (λ i. [])) (sym (fun_ext booted.no_calls.guests))
       ∙ ap (with_calls s k.vms.1 k.shared.1 (λ v. (k.guest v).1)) (sym (fun_ext booted.no_calls.cpus)) in
-      record { ready = ready; log = []; history = subst (λ (x : Kept). IsHistory (parts_layout p) x []) is (history_begins (parts_layout p)) }
+      record {
+        ready = ready;
+        log = [];
+        history = subst (λ (x : Kept). IsHistory (parts_layout p) x []) is (history_begins (parts_layout p));
+      }

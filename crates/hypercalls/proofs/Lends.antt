@@ -33,24 +33,39 @@ all_get Is (x ∷ xs) (suc v) p h e = all_get Is xs v p (λ k d less. h (suc k) 
 
 module _ {A : Type 0} (p : Parts A) where
   -- a CPU's own state, and a guest
-  pub own_at : (cpu : ℕ) (k : CpuState) → cpu < p.layout.config.cpus → k ≡ get_or p.cpus.items cpu k → slice_get p.cpus.items cpu ≡ Some k
-  own_at cpu k known e = let within : cpu < length p.cpus.items = omega (arith, p.counted, p.cpus.ok.0, known) in slice_get_read p.cpus.items (length p.cpus.items) cpu k refl within e
+  pub own_at : (cpu : ℕ) (k : CpuState)
+      → cpu < p.layout.config.cpus
+      → k ≡ get_or p.cpus.items cpu k
+      → slice_get p.cpus.items cpu ≡ Some k
+  own_at cpu k known e = let within : cpu < length p.cpus.items = omega (arith, p.counted, p.cpus.ok.0, known) in
+      slice_get_read p.cpus.items (length p.cpus.items) cpu k refl within e
 
   -- its number is that of its place
-  pub known_here : (cpu : ℕ) (k : CpuState) → slice_get p.cpus.items cpu ≡ Some k → cpu < p.layout.config.cpus → k.id < p.layout.config.cpus
+  pub known_here : (cpu : ℕ) (k : CpuState)
+      → slice_get p.cpus.items cpu ≡ Some k
+      → cpu < p.layout.config.cpus
+      → k.id < p.layout.config.cpus
   known_here cpu k at known = subst (λ n. n < p.layout.config.cpus) (sym (p.numbers cpu k at)) known
 
-  pub guest_at : (v : ℕ) (g : GuestPart A) → v < length p.guests.items → g ≡ get_or p.guests.items v g → slice_get p.guests.items v ≡ Some g
+  pub guest_at : (v : ℕ) (g : GuestPart A)
+      → v < length p.guests.items
+      → g ≡ get_or p.guests.items v g
+      → slice_get p.guests.items v ≡ Some g
   guest_at v g within e = slice_get_read p.guests.items (length p.guests.items) v g refl within e
 
   pub guest_suits : (v : ℕ) (g : GuestPart A) → slice_get p.guests.items v ≡ Some g → GuestSuits (parts_layout p) g
   guest_suits v g at = record {
-    depth = all_get (λ (w : GuestPart A). levels_below w.guest.geometry ≡ levels_below p.layout.geometry) p.guests.items v g p.guest_depth at;
+    depth =
+        all_get
+        (λ (w : GuestPart A). levels_below w.guest.geometry ≡ levels_below p.layout.geometry) p.guests.items v g
+        p.guest_depth at;
     log = all_get (λ (w : GuestPart A). IsOfSize p.layout.config.log w.log) p.guests.items v g p.guest_logs at;
   }
 
 -- a step without tables is one in any memory
-pub alone_anywhere : {A : Type 0} (l : Layout) (step : Step) (k j : CpuState) (call : Option Call) → IsStepOn {A = Unit {0}} l step (lent_alone k) call (lent_alone j) → IsStepOn {A = A} l step (lent_alone k) call (lent_alone j)
+pub alone_anywhere : {A : Type 0} (l : Layout) (step : Step) (k j : CpuState) (call : Option Call)
+    → IsStepOn {A = Unit {0}} l step (lent_alone k) call (lent_alone j)
+    → IsStepOn {A = A} l step (lent_alone k) call (lent_alone j)
 alone_anywhere l step k j call made = record {
   on = made.on;
   told = made.told;
@@ -61,7 +76,9 @@ alone_anywhere l step k j call made = record {
   id = made.id;
 }
 
-pub vms_anywhere : {A : Type 0} (l : Layout) (step : Step) (v w : VmPart) (k j : CpuState) (call : Option Call) → IsStepOn {A = Unit {0}} l step (lent_vms v k) call (lent_vms w j) → IsStepOn {A = A} l step (lent_vms v k) call (lent_vms w j)
+pub vms_anywhere : {A : Type 0} (l : Layout) (step : Step) (v w : VmPart) (k j : CpuState) (call : Option Call)
+    → IsStepOn {A = Unit {0}} l step (lent_vms v k) call (lent_vms w j)
+    → IsStepOn {A = A} l step (lent_vms v k) call (lent_vms w j)
 vms_anywhere l step v w k j call made = record {
   on = made.on;
   told = made.told;
@@ -72,7 +89,8 @@ vms_anywhere l step v w k j call made = record {
   id = made.id;
 }
 
-module _ {A : Type 0} (p : Parts A) (cpu : ℕ) (step : Step) (k : CpuState) (at : slice_get p.cpus.items cpu ≡ Some k) (known : cpu < p.layout.config.cpus) (past : ∥ HasHistory p ∥₁) where
+module _ {A : Type 0} (p : Parts A) (cpu : ℕ) (step : Step) (k : CpuState) (at : slice_get p.cpus.items cpu ≡ Some k)
+    (known : cpu < p.layout.config.cpus) (past : ∥ HasHistory p ∥₁) where
   within : cpu < length p.cpus.items
   within = omega (arith, p.counted, p.cpus.ok.0, known)
 
@@ -83,7 +101,8 @@ module _ {A : Type 0} (p : Parts A) (cpu : ℕ) (step : Step) (k : CpuState) (at
   many = omega (arith, p.slots, p.guests.ok.0)
 
   inner : Inside (guest_slot (cpu_of k) step) (length p.guests.items)
-  inner = inside_of (guest_slot (cpu_of k) step) (length p.guests.items) (λ v e. subst (λ n. v < n) (sym many) (low v e))
+  inner =
+      inside_of (guest_slot (cpu_of k) step) (length p.guests.items) (λ v e. subst (λ n. v < n) (sym many) (low v e))
 
   abbrev x : Lent A
   x = lent_of p cpu step k at within inner
@@ -102,31 +121,53 @@ module _ {A : Type 0} (p : Parts A) (cpu : ℕ) (step : Step) (k : CpuState) (at
     module _ (y : Lent A) (is : lends ≡ y) where
       -- what is lent stands where the parts do
       pub stands : ∥ IsReached (parts_layout p) (names step) o k.id (used_in y) ∥₁
-      stands = subst (λ (i : ℕ). ∥ IsReached (parts_layout p) (names step) o i (used_in y) ∥₁) (sym (p.numbers cpu k at)) (∥∥₁_map past (λ h. subst (λ (z : Lent A). IsReached (parts_layout p) (names step) o cpu (used_in z)) (lent_is ∙ is)
-          (subst (λ (i : Option ℕ). IsReached (parts_layout p) (names step) i cpu (used_in x)) kind.slot (reached p cpu step k at within inner h known low))))
+      stands =
+          subst (λ (i : ℕ). ∥ IsReached (parts_layout p) (names step) o i (used_in y) ∥₁) (sym (p.numbers cpu k at))
+          (∥∥₁_map past
+          (λ h. subst (λ (z : Lent A). IsReached (parts_layout p) (names step) o cpu (used_in z)) (lent_is ∙ is)
+          (subst (λ (i : Option ℕ). IsReached (parts_layout p) (names step) i cpu (used_in x)) kind.slot
+          (reached p cpu step k at within inner h known low))))
 
-      module _ (call : Option Call) (z : Lent A) (made : IsStepOn (parts_layout p) step y call z) (q : Parts A) (layout : q.layout ≡ p.layout) (vms : q.vms ≡ unwrap_or z.vms p.vms) (shared : q.shared ≡ unwrap_or z.shared p.shared)
-          (guests : q.guests.items ≡ put_list p.guests.items o z.guest) (cpus : q.cpus.items ≡ slice_set p.cpus.items cpu z.cpu) where
+      module _ (call : Option Call) (z : Lent A) (made : IsStepOn (parts_layout p) step y call z) (q : Parts A)
+          (layout : q.layout ≡ p.layout) (vms : q.vms ≡ unwrap_or z.vms p.vms)
+          (shared : q.shared ≡ unwrap_or z.shared p.shared)
+          (guests : q.guests.items ≡ put_list p.guests.items o z.guest)
+          (cpus : q.cpus.items ≡ slice_set p.cpus.items cpu z.cpu) where
         made_here : IsStepAt (parts_layout p) cpu step x call z
-        made_here = at_number (parts_layout p) cpu step x call z (p.numbers cpu k at) (subst (λ (w : Lent A). IsStepOn (parts_layout p) step w call z) (sym (lent_is ∙ is)) made)
+        made_here =
+            at_number (parts_layout p) cpu step x call z (p.numbers cpu k at)
+            (subst (λ (w : Lent A). IsStepOn (parts_layout p) step w call z) (sym (lent_is ∙ is)) made)
 
         put_here : q.guests.items ≡ put_list p.guests.items (guest_slot (cpu_of k) step) z.guest
         put_here = guests ∙ sym (ap (λ i. put_list p.guests.items i z.guest) kind.slot)
 
         sized : (u : ℕ) (g : GuestPart A) → slice_get p.guests.items u ≡ Some g → IsOfSize p.layout.config.log g.log
-        sized u g e = all_get (λ (w : GuestPart A). IsOfSize p.layout.config.log w.log) p.guests.items u g p.guest_logs e
+        sized u g e =
+            all_get (λ (w : GuestPart A). IsOfSize p.layout.config.log w.log) p.guests.items u g p.guest_logs e
 
         own_sized : IsOfSize p.layout.config.log k.log
         own_sized = all_get (λ (w : CpuState). IsOfSize p.layout.config.log w.log) p.cpus.items cpu k p.own_logs at
 
         pub steps : IsStep p cpu step (reply_in call) q × ∥ HasHistory q ∥₁
         steps = (
-          is_step p cpu step k at within inner own_sized p.vm_log p.shared_log sized call z made_here q layout vms shared put_here cpus,
-          ∥∥₁_map past (λ h. history p cpu step k at within inner own_sized p.vm_log p.shared_log sized call z made_here q layout vms shared put_here cpus h known),
+          is_step p cpu step k at within inner own_sized p.vm_log p.shared_log sized call z made_here q layout vms
+              shared put_here cpus,
+          ∥∥₁_map past
+              (λ h. history p cpu step k at within inner own_sized p.vm_log p.shared_log sized call z made_here q
+              layout vms shared put_here cpus h known),
         )
 
 -- so it is of what was handed on
-pub handed : {A : Type 0} (p : Parts A) (cpu : ℕ) (step : Step) {q r : Parts A} {reply : Reply} {made call : Option Call} → q ≡ r → reply ≡ reply_in made → made ≡ call → IsStep p cpu step (reply_in call) r × ∥ HasHistory r ∥₁ → IsStep p cpu step reply q × ∥ HasHistory q ∥₁
+pub handed : {A : Type 0} (p : Parts A) (cpu : ℕ) (step : Step) {q r : Parts A} {reply : Reply}
+    {made call : Option Call}
+    → q ≡ r
+    → reply ≡ reply_in made
+    → made ≡ call
+    → IsStep p cpu step (reply_in call) r × ∥ HasHistory r ∥₁
+    → IsStep p cpu step reply q × ∥ HasHistory q ∥₁
 handed p cpu step {q} {r} {reply} {made} {call} e f d h =
-    let told : reply ≡ reply_in call = f ∙ ap reply_in d in
-    (subst (λ (w : Parts _). IsStep p cpu step reply w) (sym e) (subst (λ (a : Reply). IsStep p cpu step a r) (sym told) h.0), subst (λ (w : Parts _). ∥ HasHistory w ∥₁) (sym e) h.1)
+    let told : reply ≡ reply_in call = f ∙ ap reply_in d in (
+      subst (λ (w : Parts _). IsStep p cpu step reply w) (sym e)
+          (subst (λ (a : Reply). IsStep p cpu step a r) (sym told) h.0),
+      subst (λ (w : Parts _). ∥ HasHistory w ∥₁) (sym e) h.1,
+    )

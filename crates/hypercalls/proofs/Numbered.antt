@@ -16,20 +16,33 @@ use Rattle.hypercalls.specs.Steps.{CanWantOn, IsStepOn, any_full, reply_in}
 use Rattle.hypercalls.proofs.Places.{kept, written, get_inside}
 
 abbrev pub call_at : {A : Type 0} → Lent A → ℕ → Step → Reply → Call
-call_at x id step reply = record { cpu = id; number = length x.cpu.log.calls + 1; step = step; reply = reply; slot = slot_in x step }
+call_at x id step reply =
+    record { cpu = id; number = length x.cpu.log.calls + 1; step = step; reply = reply; slot = slot_in x step }
 
-pub record IsStepAt {A : Type 0} (l : Layout) (id : ℕ) (step : Step) (x : Lent A) (made : Option Call) (y : Lent A) : Type 0 where
-  pub on : StepsOn l (call_at x id step (reply_in made)) (used_in x) (rooms_in (logs_in x)) (used_in y) (rooms_in (logs_in y))
-  pub logs : logs_in y ≡ (if any_full (logs_in x) then logs_in x else all_with (call_at x id step (reply_in made)) (logs_in x))
+pub record IsStepAt {A : Type 0} (l : Layout) (id : ℕ) (step : Step) (x : Lent A) (made : Option Call)
+    (y : Lent A) : Type 0 where
+  pub on : StepsOn l (call_at x id step (reply_in made)) (used_in x) (rooms_in (logs_in x)) (used_in y)
+      (rooms_in (logs_in y))
+  pub logs : logs_in y
+      ≡ (if any_full (logs_in x) then logs_in x else all_with (call_at x id step (reply_in made)) (logs_in x))
   pub full : any_full (logs_in x) ≡ true → y ≡ x
   pub stored : any_full (logs_in x) ≡ false → IsStored (reply_in made)
   pub wants : reply_in made ≡ Refused NoMemory → CanWantOn l id (slot_in x step) step x
 
-pub at_number : {A : Type 0} (l : Layout) (id : ℕ) (step : Step) (x : Lent A) (made : Option Call) (y : Lent A) → x.cpu.id ≡ id → IsStepOn l step x made y → IsStepAt l id step x made y
-at_number l id step x made y e h = subst (λ i. IsStepAt l i step x made y) e (record { on = h.on; logs = h.logs; full = h.full; stored = h.stored; wants = h.wants })
+pub at_number : {A : Type 0} (l : Layout) (id : ℕ) (step : Step) (x : Lent A) (made : Option Call) (y : Lent A)
+    → x.cpu.id ≡ id
+    → IsStepOn l step x made y
+    → IsStepAt l id step x made y
+at_number l id step x made y e h =
+    subst (λ i. IsStepAt l i step x made y) e
+    (record { on = h.on; logs = h.logs; full = h.full; stored = h.stored; wants = h.wants })
 
 -- a CPU's own state that is put back has the number of its place
-pub numbered : (ks : List CpuState) (cpu : ℕ) (k y : CpuState) → AreNumbered ks → slice_get ks cpu ≡ Some k → y.id ≡ k.id → AreNumbered (slice_set ks cpu y)
+pub numbered : (ks : List CpuState) (cpu : ℕ) (k y : CpuState)
+    → AreNumbered ks
+    → slice_get ks cpu ≡ Some k
+    → y.id ≡ k.id
+    → AreNumbered (slice_set ks cpu y)
 numbered ks cpu k y all at same c j there = by_eq c cpu
     (λ e. let inside = get_inside ks cpu k at in
     let is : Some y ≡ Some j = sym (written ks cpu y inside) ∙ ap (slice_get (slice_set ks cpu y)) (sym e) ∙ there in
@@ -38,7 +51,9 @@ numbered ks cpu k y all at same c j there = by_eq c cpu
     (λ n. all c j (sym (kept ks cpu c y n) ∙ there))
 
 -- one more behind
-behind : (ks : List CpuState) (k : CpuState) (c : ℕ) (j : CpuState) → slice_get (ks ++ k ∷ []) c ≡ Some j → (slice_get ks c ≡ Some j) ⊎ ((c ≡ length ks) × (k ≡ j))
+behind : (ks : List CpuState) (k : CpuState) (c : ℕ) (j : CpuState)
+    → slice_get (ks ++ k ∷ []) c ≡ Some j
+    → (slice_get ks c ≡ Some j) ⊎ ((c ≡ length ks) × (k ≡ j))
 behind [] k zero j e = inr (refl, cc)
 behind [] k (suc c) j e = cc
 behind (x ∷ ks) k zero j e = inl e

@@ -88,22 +88,37 @@ module _ {P X : Type 0} (blank : X) (f : P → X) (log : P → StoredCalls) wher
   some_is a b e = ap (λ o. unwrap_or (option_map (λ (g : StoredCalls). g.calls) o) []) e
 
   -- a part stores a call where it is used
-  pub stores_one : (c : Call) (used : Bool) (p : P) (o : Option P) → option_map log o ≡ option_map (with_call c) (option_map log (when used p)) → Stores used c (if used then unwrap_or (option_map f o) blank else f p) (f p, (log p).calls) (f (unwrap_or o p), (log (unwrap_or o p)).calls)
+  pub stores_one : (c : Call) (used : Bool) (p : P) (o : Option P)
+      → option_map log o ≡ option_map (with_call c) (option_map log (when used p))
+      → Stores used c (if used then unwrap_or (option_map f o) blank else f p) (f p, (log p).calls)
+      (f (unwrap_or o p), (log (unwrap_or o p)).calls)
   stores_one c true p None e = absurd cc
   stores_one c true p (Some y) e = pair refl (some_is (log y) (with_call c (log p)) e)
   stores_one c false p None e = refl
   stores_one c false p (Some y) e = absurd cc
 
   -- and so does each place of a list
-  pub stores_at : (c : Call) (xs : List P) (o : Option P) (slot : Option ℕ) → Inside slot (length xs) → option_map log o ≡ option_map (with_call c) (option_map log (get_at xs slot)) → (v : ℕ) → Stores (is_slot slot v) c (if is_slot slot v then unwrap_or (option_map f o) blank else at_place blank f (slice_get xs v)) (each_of xs v) (each_of (put_list xs slot o) v)
+  pub stores_at : (c : Call) (xs : List P) (o : Option P) (slot : Option ℕ)
+      → Inside slot (length xs)
+      → option_map log o ≡ option_map (with_call c) (option_map log (get_at xs slot))
+      → (v : ℕ)
+      → Stores (is_slot slot v) c
+      (if is_slot slot v then unwrap_or (option_map f o) blank else at_place blank f (slice_get xs v))
+      (each_of xs v) (each_of (put_list xs slot o) v)
   stores_at c xs o None h e v = refl
-  stores_at c xs None (Some u) h e v = absurd (let n = e ∙ ap (λ p. option_map (with_call c) (option_map log p)) (place xs u h).1 in cc)
+  stores_at c xs None (Some u) h e v =
+      absurd (let n = e ∙ ap (λ p. option_map (with_call c) (option_map log p)) (place xs u h).1 in cc)
   stores_at c xs (Some y) (Some u) h e v =
       let r = place xs u h in
-      let calls : (log y).calls ≡ (log r.0).calls ++ c ∷ [] = some_is (log y) (with_call c (log r.0)) (e ∙ ap (λ p. option_map (with_call c) (option_map log p)) r.1) in
+      let calls : (log y).calls ≡ (log r.0).calls ++ c ∷ [] =
+      some_is (log y) (with_call c (log r.0)) (e ∙ ap (λ p. option_map (with_call c) (option_map log p)) r.1) in
       by_test (v == u)
       (λ t. let i : v ≡ u = grind (arith, nat_tests) in rw t (
       let now = ap (slice_get (slice_set xs u y)) i ∙ written xs u y h in
       let was = ap (slice_get xs) i ∙ r.1 in
-      pair (ap (at_place blank f) now) (ap (at_place [] (λ p. (log p).calls)) now ∙ calls ∙ ap (λ o. at_place [] (λ p. (log p).calls) o ++ c ∷ []) (sym was))))
-      (λ t. rw t (ap (λ o. (at_place blank f o, at_place [] (λ p. (log p).calls) o)) (kept xs u v y (λ i. let no = t in grind (arith, nat_tests)))))
+      pair (ap (at_place blank f) now)
+      (ap (at_place [] (λ p. (log p).calls)) now ∙ calls
+      ∙ ap (λ o. at_place [] (λ p. (log p).calls) o ++ c ∷ []) (sym was))))
+      (λ t. rw t
+      (ap (λ o. (at_place blank f o, at_place [] (λ p. (log p).calls) o))
+      (kept xs u v y (λ i. let no = t in grind (arith, nat_tests)))))

@@ -12,7 +12,9 @@ pub fewer : {X : Type 0} (test : X → Bool) (xs : List X) → length (filter te
 fewer test [] = omega arith
 fewer test (x ∷ xs) = go (test x) (fewer test xs)
   where
-    go : (b : Bool) → length (filter test xs) ≤ length xs → length (if b then x ∷ filter test xs else filter test xs) ≤ suc (length xs)
+    go : (b : Bool)
+        → length (filter test xs) ≤ length xs
+        → length (if b then x ∷ filter test xs else filter test xs) ≤ suc (length xs)
     go true h = omega arith
     go false h = omega arith
 
@@ -24,16 +26,25 @@ with_many (suc d) page = ap suc (with_many d page)
 not_first : (d p : ℕ) → p % 512 ≢ 0 → (first_page (block_at (suc d) p) == p) ≡ false
 not_first d p h = by_test (first_page (block_at (suc d) p) == p)
     (λ e.
-    let is : p / block_pages (suc d) * block_pages (suc d) ≡ p = eq-same (p / block_pages (suc d) * block_pages (suc d)) p e in
-    let more : p / block_pages (suc d) * block_pages (suc d) ≡ p / block_pages (suc d) * (512 * block_pages d) = ap (λ n. p / block_pages (suc d) * n) (size_step d) in
-    let times : p / block_pages (suc d) * (512 * block_pages d) ≡ p / block_pages (suc d) * block_pages d * 512 = omega arith in
-    absurd (h (let all : p ≡ p / block_pages (suc d) * block_pages d * 512 = omega (arith, is, more, times) in omega (arith, all))))
+    let is : p / block_pages (suc d) * block_pages (suc d) ≡ p =
+    eq-same (p / block_pages (suc d) * block_pages (suc d)) p e in
+    let more : p / block_pages (suc d) * block_pages (suc d) ≡ p / block_pages (suc d) * (512 * block_pages d) =
+    ap (λ n. p / block_pages (suc d) * n) (size_step d) in
+    let times : p / block_pages (suc d) * (512 * block_pages d) ≡ p / block_pages (suc d) * block_pages d * 512 =
+    omega arith in
+    absurd
+    (h
+    (let all : p ≡ p / block_pages (suc d) * block_pages d * 512 = omega (arith, is, more, times) in
+    omega (arith, all))))
     (λ e. e)
 
 from_none : (d p : ℕ) → p % 512 ≢ 0 → blocks_from d p ≡ []
 from_none zero p h = refl
 from_none (suc d) p h =
-    ap (λ (t : Bool). if t then block_at (suc d) p ∷ filter (λ (b : Block). first_page b == p) (blocks_with d p) else filter (λ (b : Block). first_page b == p) (blocks_with d p)) (not_first d p h)
+    ap
+    (λ (t : Bool). if t then block_at (suc d) p ∷ filter (λ (b : Block). first_page b == p) (blocks_with d p)
+    else filter (λ (b : Block). first_page b == p) (blocks_with d p))
+    (not_first d p h)
     ∙ from_none d p h
 
 along_none : (top p m : ℕ) → ((i : ℕ) → i < m → (p + i) % 512 ≢ 0) → blocks_along top p m ≡ []
@@ -42,7 +53,8 @@ along_none top p (suc m) h =
     let here : p + 0 ≡ p = omega arith in
     let next = λ (i : ℕ). (let e : p + 1 + i ≡ p + (i + 1) = omega arith in e) in
     let a : blocks_from top p ≡ [] = from_none top p (λ e. h 0 (omega arith) (ap (λ k. k % 512) here ∙ e)) in
-    let b : blocks_along top (p + 1) m ≡ [] = along_none top (p + 1) m (λ i l e. h (i + 1) (omega (arith, l)) (ap (λ k. k % 512) (sym (next i)) ∙ e)) in
+    let b : blocks_along top (p + 1) m ≡ [] =
+    along_none top (p + 1) m (λ i l e. h (i + 1) (omega (arith, l)) (ap (λ k. k % 512) (sym (next i)) ∙ e)) in
     rw (a, b) refl
 
 -- of fewer pages than the smallest block has, one at most is the first page of blocks

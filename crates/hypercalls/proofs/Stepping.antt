@@ -75,20 +75,34 @@ shared_full x h = third_true (x.cpu.room == 0) (is_full_in x.vms) (is_full_in x.
 pub guest_full : (x : LentLogs) → is_full_in x.guest ≡ true → any_full x ≡ true
 guest_full x h = last_true (x.cpu.room == 0) (is_full_in x.vms) (is_full_in x.shared) (is_full_in x.guest) h
 
-pub none_full : (x : LentLogs) → (x.cpu.room == 0) ≡ false → is_full_in x.vms ≡ false → is_full_in x.shared ≡ false → is_full_in x.guest ≡ false → any_full x ≡ false
+pub none_full : (x : LentLogs)
+    → (x.cpu.room == 0) ≡ false
+    → is_full_in x.vms ≡ false
+    → is_full_in x.shared ≡ false
+    → is_full_in x.guest ≡ false
+    → any_full x ≡ false
 none_full x a b c d = all_false (x.cpu.room == 0) (is_full_in x.vms) (is_full_in x.shared) (is_full_in x.guest) a b c d
 
 abbrev stored_of : List Call → ℕ → StoredCalls
 stored_of calls room = record { calls = calls; room = room }
 
 -- a log with a call at its end, by its calls and its room
-pub eq_with : (c : Call) (g m h : StoredCalls) → m ≡ g → h.calls ≡ m.calls ++ c ∷ [] → h.room + 1 ≡ m.room → h ≡ with_call c g
+pub eq_with : (c : Call) (g m h : StoredCalls)
+    → m ≡ g
+    → h.calls ≡ m.calls ++ c ∷ []
+    → h.room + 1 ≡ m.room
+    → h ≡ with_call c g
 eq_with c g m h same a b =
     let r : h.room ≡ m.room - 1 = omega (arith, b) in
     ap (λ x. stored_of x h.room) a ∙ ap (stored_of (m.calls ++ c ∷ [])) r ∙ ap (with_call c) same
 
 -- it keeps its size
-pub size_kept : (c : Call) (most : ℕ) (g m h : StoredCalls) → m ≡ g → h.calls ≡ m.calls ++ c ∷ [] → h.room + 1 ≡ m.room → IsOfSize most g → IsOfSize most h
+pub size_kept : (c : Call) (most : ℕ) (g m h : StoredCalls)
+    → m ≡ g
+    → h.calls ≡ m.calls ++ c ∷ []
+    → h.room + 1 ≡ m.room
+    → IsOfSize most g
+    → IsOfSize most h
 size_kept c most g m h same a b size =
     let was : IsOfSize most m = subst (IsOfSize most) (sym same) size in
     let n = length-append m.calls (c ∷ []) in
@@ -98,7 +112,13 @@ size_kept c most g m h same a b size =
 pub room_kept : (g m : StoredCalls) → m ≡ g → 0 < g.room → 0 < m.room
 room_kept g m same h = subst (λ (x : StoredCalls). 0 < x.room) (sym same) h
 
-pub same_logs : (v v' s s' g g' : Option StoredCalls) (k k' : StoredCalls) → v ≡ v' → s ≡ s' → g ≡ g' → k ≡ k' → ◌≡◌ {A = LentLogs} (record { vms = v; shared = s; guest = g; cpu = k }) (record { vms = v'; shared = s'; guest = g'; cpu = k' })
+pub same_logs : (v v' s s' g g' : Option StoredCalls) (k k' : StoredCalls)
+    → v ≡ v'
+    → s ≡ s'
+    → g ≡ g'
+    → k ≡ k'
+    → ◌≡◌ {A = LentLogs} (record { vms = v; shared = s; guest = g; cpu = k })
+    (record { vms = v'; shared = s'; guest = g'; cpu = k' })
 same_logs v v' s s' g g' k k' a b c d = cc
 
 -- just what is used is lent
@@ -107,15 +127,28 @@ pub record Fits {A : Type 0} (n : Names) (slot : Option ℕ) (x : Lent A) : Type
   pub shared : is_some x.shared ≡ uses_shared n slot
   pub guest : is_some x.guest ≡ is_some slot
 
-pub fits_of : {A : Type 0} (x : Lent A) (step : Step) (slot : Option ℕ) → IsKind (cpu_of x.cpu) step (is_some x.vms) (is_some x.shared) slot → is_some x.guest ≡ is_some slot → Fits (names step) (slot_in x step) x
-fits_of x step slot kind one = record { vms = sym kind.vms; shared = sym (ap (uses_shared (names step)) kind.slot ∙ kind.shared); guest = one ∙ sym (ap is_some kind.slot) }
+pub fits_of : {A : Type 0} (x : Lent A) (step : Step) (slot : Option ℕ)
+    → IsKind (cpu_of x.cpu) step (is_some x.vms) (is_some x.shared) slot
+    → is_some x.guest ≡ is_some slot
+    → Fits (names step) (slot_in x step) x
+fits_of x step slot kind one =
+    record {
+      vms = sym kind.vms;
+      shared = sym (ap (uses_shared (names step)) kind.slot ∙ kind.shared);
+      guest = one
+          ∙ sym (ap is_some kind.slot);
+    }
 
 -- the tests of the lent logs are those of the logs that are used
-used_full : {P : Type 0} (log : P → StoredCalls) (used : Bool) (o : Option P) → is_some o ≡ used → is_full_in (option_map log o) ≡ (used && (unwrap_or (option_map (λ g. g.room) (option_map log o)) 0 == 0))
+used_full : {P : Type 0} (log : P → StoredCalls) (used : Bool) (o : Option P)
+    → is_some o ≡ used
+    → is_full_in (option_map log o) ≡ (used && (unwrap_or (option_map (λ g. g.room) (option_map log o)) 0 == 0))
 used_full log used None e = subst (λ b. false ≡ (b && (0 == 0))) e refl
 used_full log used (Some p) e = subst (λ b. ((log p).room == 0) ≡ (b && ((log p).room == 0))) e refl
 
-pub full_is : {A : Type 0} (n : Names) (slot : Option ℕ) (x : Lent A) → Fits n slot x → is_full n slot (rooms_in (logs_in x)) ≡ any_full (logs_in x)
+pub full_is : {A : Type 0} (n : Names) (slot : Option ℕ) (x : Lent A)
+    → Fits n slot x
+    → is_full n slot (rooms_in (logs_in x)) ≡ any_full (logs_in x)
 unfolding is_full
 full_is n slot x h =
     let a = used_full (λ p. p.log) (uses_vms n) x.vms h.vms in
@@ -123,7 +156,8 @@ full_is n slot x h =
     let d = used_full (λ p. p.log) (is_some slot) x.guest h.guest in
     cc
 
-one_stored : (c : Call) (o : Option StoredCalls) → unwrap_or (option_map (λ g. g.room) (option_map (with_call c) o)) 0 ≡ unwrap_or (option_map (λ g. g.room) o) 0 - 1
+one_stored : (c : Call) (o : Option StoredCalls)
+    → unwrap_or (option_map (λ g. g.room) (option_map (with_call c) o)) 0 ≡ unwrap_or (option_map (λ g. g.room) o) 0 - 1
 one_stored c None = refl
 one_stored c (Some g) = refl
 
@@ -136,7 +170,9 @@ ok_is : {E : Type 0} (h k : Changes) → ◌≡◌ {A = Result Changes E} (Ok h)
 ok_is h k e = cc
 
 -- the step on lent parts, of which those are lent that it uses
-module _ {A : Type 0} (l : Layout) (step : Step) (x : Lent A) (slot : Option ℕ) (kind : IsKind (cpu_of x.cpu) step (is_some x.vms) (is_some x.shared) slot) (one : is_some x.guest ≡ is_some slot) (size : IsOfSize l.config.log x.cpu.log) where
+module _ {A : Type 0} (l : Layout) (step : Step) (x : Lent A) (slot : Option ℕ)
+    (kind : IsKind (cpu_of x.cpu) step (is_some x.vms) (is_some x.shared) slot) (one : is_some x.guest ≡ is_some slot)
+    (size : IsOfSize l.config.log x.cpu.log) where
   fits : Fits (names step) (slot_in x step) x
   fits = fits_of x step slot kind one
 
@@ -146,7 +182,9 @@ module _ {A : Type 0} (l : Layout) (step : Step) (x : Lent A) (slot : Option ℕ
   -- where a log is full nothing changes
   pub full_step : FullSteps → any_full (logs_in x) ≡ true → IsStepOn l step x None x
   full_step full h = record {
-    on = full l (call_in x step (Refused LogFull)) (used_in x) (rooms_in (logs_in x)) refl (number_is (Refused LogFull)) (full_is (names step) (slot_in x step) x fits ∙ h) refl;
+    on =
+        full l (call_in x step (Refused LogFull)) (used_in x) (rooms_in (logs_in x)) refl (number_is (Refused LogFull))
+        (full_is (names step) (slot_in x step) x fits ∙ h) refl;
     told = rw h refl;
     logs = rw h refl;
     full = λ _. refl;
@@ -163,14 +201,23 @@ module _ {A : Type 0} (l : Layout) (step : Step) (x : Lent A) (slot : Option ℕ
   call_is n count reply = let s = kind.slot in cc
 
   -- and else the answered call is stored
-  module _ (steps : AnswerSteps) (h : any_full (logs_in x) ≡ false) (n : ℕ) (count : n ≡ length x.cpu.log.calls) (reply : Reply) (y : Lent A) (logs : logs_in y ≡ all_with (made n reply) (logs_in x)) (id_is : y.cpu.id ≡ x.cpu.id) where
-    stored_step : Answered l x.cpu.id slot step true (used_in x) reply (used_in y) → (reply ≡ Refused NoMemory → CanWantOn l x.cpu.id slot step x) → IsStepOn l step x (Some (made n reply)) y
+  module _ (steps : AnswerSteps) (h : any_full (logs_in x) ≡ false) (n : ℕ) (count : n ≡ length x.cpu.log.calls)
+      (reply : Reply) (y : Lent A) (logs : logs_in y ≡ all_with (made n reply) (logs_in x))
+      (id_is : y.cpu.id ≡ x.cpu.id) where
+    stored_step : Answered l x.cpu.id slot step true (used_in x) reply (used_in y)
+        → (reply ≡ Refused NoMemory → CanWantOn l x.cpu.id slot step x)
+        → IsStepOn l step x (Some (made n reply)) y
     stored_step answered wants =
         let d = call_in x step reply in
-        let at = steps l d true (used_in x) (rooms_in (logs_in x)) (used_in y) refl (number_is reply) (full_is (names step) (slot_in x step) x fits ∙ h) (subst (λ o. Answered l x.cpu.id o step true (used_in x) reply (used_in y)) (sym kind.slot) answered) in
+        let at =
+        steps l d true (used_in x) (rooms_in (logs_in x)) (used_in y) refl (number_is reply)
+        (full_is (names step) (slot_in x step) x fits ∙ h)
+        (subst (λ o. Answered l x.cpu.id o step true (used_in x) reply (used_in y))
+        (sym kind.slot) answered) in
         let is = call_is n count reply in
         let all = logs ∙ ap (λ k. all_with k (logs_in x)) is in
-        let rooms : rooms_in (logs_in y) ≡ stored_rooms (rooms_in (logs_in x)) = ap rooms_in all ∙ rooms_stored d (logs_in x) in
+        let rooms : rooms_in (logs_in y) ≡ stored_rooms (rooms_in (logs_in x)) =
+        ap rooms_in all ∙ rooms_stored d (logs_in x) in
         record {
           on = subst (λ r. StepsOn l d (used_in x) (rooms_in (logs_in x)) (used_in y) r) (sym rooms) at;
           told = rw h (ap Some is);
@@ -182,15 +229,31 @@ module _ {A : Type 0} (l : Layout) (step : Step) (x : Lent A) (slot : Option ℕ
         }
 
     -- one that is refused
-    pub barred_step : BarredAnswers → (why : Refusal) → decides l x.cpu.id slot step (used_in x) ≡ Err why → reply ≡ Refused why → used_in y ≡ used_in x → IsStepOn l step x (Some (made n reply)) y
+    pub barred_step : BarredAnswers
+        → (why : Refusal)
+        → decides l x.cpu.id slot step (used_in x) ≡ Err why
+        → reply ≡ Refused why
+        → used_in y ≡ used_in x
+        → IsStepOn l step x (Some (made n reply)) y
     barred_step barred why bars told same = stored_step
-        (subst (λ (u : Used). Answered l x.cpu.id slot step true (used_in x) reply u) (sym same) (subst (λ (r : Reply). Answered l x.cpu.id slot step true (used_in x) r (used_in x)) (sym told) (barred l x.cpu.id slot step true (used_in x) why bars)))
+        (subst (λ (u : Used). Answered l x.cpu.id slot step true (used_in x) reply u) (sym same)
+        (subst (λ (r : Reply). Answered l x.cpu.id slot step true (used_in x) r (used_in x)) (sym told)
+        (barred l x.cpu.id slot step true (used_in x) why bars)))
         (λ e k is roomy ready. let clash = sym bars ∙ is in cc)
 
     -- one whose changes were carried out, or weren't
-    pub done_step : RelyingAnswers → CanRely l x.cpu.id slot step (used_in x) → (k : Changes) → decides l x.cpu.id slot step (used_in x) ≡ Ok k → GrowsOnly step k → (r : Result (Unit {0}) PoolFault) → Comes l x.cpu.id slot k x r y → Ends r k (cpu_of x.cpu) reply (cpu_of y.cpu) → IsStepOn l step x (Some (made n reply)) y
+    pub done_step : RelyingAnswers
+        → CanRely l x.cpu.id slot step (used_in x)
+        → (k : Changes)
+        → decides l x.cpu.id slot step (used_in x) ≡ Ok k
+        → GrowsOnly step k
+        → (r : Result (Unit {0}) PoolFault)
+        → Comes l x.cpu.id slot k x r y
+        → Ends r k (cpu_of x.cpu) reply (cpu_of y.cpu)
+        → IsStepOn l step x (Some (made n reply)) y
     done_step answers rely k lets grows r comes ends = stored_step
-        (answers l x.cpu.id slot step (used_in x) true k reply (used_in y) rely lets (carries l x.cpu.id slot step k x y r reply grows comes ends))
+        (answers l x.cpu.id slot step (used_in x) true k reply (used_in y) rely lets
+        (carries l x.cpu.id slot step k x y r reply grows comes ends))
         (λ e j is roomy ready. comes.no_memory (told_memory r k (cpu_of x.cpu) (cpu_of y.cpu) reply ends e)
         (subst (λ (i : Changes). IfSome x.shared (λ s. IsRoomy i s)) (ok_is j k (sym is ∙ lets)) roomy)
         (subst (λ (i : Changes). IfSome x.guest (λ g. WantsNoMemory i g.guest)) (ok_is j k (sym is ∙ lets)) ready))

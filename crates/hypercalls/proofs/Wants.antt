@@ -45,7 +45,11 @@ differ h = cc
 
 -- no test answers want of memory
 
-test_else : (b : Bool) (why : Refusal) (rest : Option Refusal) → (why ≡ NoMemory → ⊥) → (rest ≡ Some NoMemory → ⊥) → (if b then Some why else rest) ≡ Some NoMemory → ⊥
+test_else : (b : Bool) (why : Refusal) (rest : Option Refusal)
+    → (why ≡ NoMemory → ⊥)
+    → (rest ≡ Some NoMemory → ⊥)
+    → (if b then Some why else rest) ≡ Some NoMemory
+    → ⊥
 test_else true why rest h k e = h cc
 test_else false why rest h k e = k e
 
@@ -53,15 +57,26 @@ none_else : None ≡ Some NoMemory → ⊥
 none_else e = cc
 
 tests_else : (r : Rule) (lacks : Bool) → first_test r lacks ≡ Some NoMemory → ⊥
-tests_else r lacks = test_else (not r.valid.passes) Invalid _ (λ e. cc) (test_else (lacks || not r.has_vm.passes) NoVm _ (λ e. cc) (test_else (not r.ready.passes) Busy _ (λ e. cc) (test_else (not r.allowed.passes) Perm None (λ e. cc) none_else)))
+tests_else r lacks =
+    test_else (not r.valid.passes) Invalid _ (λ e. cc)
+    (test_else (lacks || not r.has_vm.passes) NoVm _ (λ e. cc)
+    (test_else (not r.ready.passes) Busy _ (λ e. cc)
+    (test_else (not r.allowed.passes) Perm None (λ e. cc) none_else)))
 
-or_else_else : (o : Option Refusal) (short : Bool) → (o ≡ Some NoMemory → ⊥) → or_else o (if short then Some NoPool else None) ≡ Some NoMemory → ⊥
+or_else_else : (o : Option Refusal) (short : Bool)
+    → (o ≡ Some NoMemory → ⊥)
+    → or_else o (if short then Some NoPool else None) ≡ Some NoMemory
+    → ⊥
 or_else_else (Some why) short h e = h e
 or_else_else None short h e = test_else short NoPool None (λ f. cc) none_else e
 
-fails_else : (l : Layout) (cpu : ℕ) (slot : Option ℕ) (step : Step) (x : Used) → fails l cpu slot step x ≡ Some NoMemory → ⊥
+fails_else : (l : Layout) (cpu : ℕ) (slot : Option ℕ) (step : Step) (x : Used)
+    → fails l cpu slot step x ≡ Some NoMemory
+    → ⊥
 unfolding fails refusal
-fails_else l cpu slot step x e = or_else_else (first_test (rule_of l cpu slot step x) (lacks_slot (names step) slot)) _ (tests_else (rule_of l cpu slot step x) (lacks_slot (names step) slot)) e
+fails_else l cpu slot step x e =
+    or_else_else (first_test (rule_of l cpu slot step x) (lacks_slot (names step) slot)) _
+    (tests_else (rule_of l cpu slot step x) (lacks_slot (names step) slot)) e
 
 -- where no test fails, the rule's changes are decided
 
@@ -72,13 +87,19 @@ first_none (Some why) rest e = cc
 decided_ok : (r : Rule) (lacks : Bool) → first_test r lacks ≡ None → decided r lacks ≡ Ok r.changes
 decided_ok r lacks e = ap (λ o. elim o as (λ _. Result Changes Refusal) [ Some why ↦ Err why | None ↦ Ok r.changes ]) e
 
-decides_ok : (l : Layout) (cpu : ℕ) (slot : Option ℕ) (step : Step) (x : Used) → fails l cpu slot step x ≡ None → decides l cpu slot step x ≡ Ok (rule_of l cpu slot step x).changes
+decides_ok : (l : Layout) (cpu : ℕ) (slot : Option ℕ) (step : Step) (x : Used)
+    → fails l cpu slot step x ≡ None
+    → decides l cpu slot step x ≡ Ok (rule_of l cpu slot step x).changes
 unfolding fails refusal
-decides_ok l cpu slot step x e = decided_ok (rule_of l cpu slot step x) (lacks_slot (names step) slot) (first_none _ _ e)
+decides_ok l cpu slot step x e =
+    decided_ok (rule_of l cpu slot step x) (lacks_slot (names step) slot) (first_none _ _ e)
 
-passed_valid : (l : Layout) (cpu : ℕ) (slot : Option ℕ) (step : Step) (x : Used) → fails l cpu slot step x ≡ None → (rule_of l cpu slot step x).valid.passes ≡ true
+passed_valid : (l : Layout) (cpu : ℕ) (slot : Option ℕ) (step : Step) (x : Used)
+    → fails l cpu slot step x ≡ None
+    → (rule_of l cpu slot step x).valid.passes ≡ true
 unfolding fails refusal
-passed_valid l cpu slot step x e = (tested (rule_of l cpu slot step x) (lacks_slot (names step) slot) (first_none _ _ e)).valid
+passed_valid l cpu slot step x e =
+    (tested (rule_of l cpu slot step x) (lacks_slot (names step) slot) (first_none _ _ e)).valid
 
 -- changes of one page, or of a range of up to 512
 
@@ -98,7 +119,9 @@ record HaveFewPages (k : ℕ) (h : Changes) : Type 0 where
 page_alone : FewPages 1 1
 page_alone = inl (omega arith, refl)
 
-few_pages : (l : Layout) (f n : ℕ) (other : Bool) → (is_good_range l f n && other) ≡ true → FewPages (if n == 1 then 1 else 2) n
+few_pages : (l : Layout) (f n : ℕ) (other : Bool)
+    → (is_good_range l f n && other) ≡ true
+    → FewPages (if n == 1 then 1 else 2) n
 few_pages l f n other h = by_test (n == 1)
     (λ e. ap_few (n == 1) true e (inl (omega arith, eq-same n 1 e)))
     (λ e. ap_few (n == 1) false e (inr (omega arith, good-count l f n (and-left (is_good_range l f n) other h))))
@@ -106,13 +129,18 @@ few_pages l f n other h = by_test (n == 1)
     ap_few : (b t : Bool) → b ≡ t → FewPages (if t then 1 else 2) n → FewPages (if b then 1 else 2) n
     ap_few b t e k = subst (λ (a : Bool). FewPages (if a then 1 else 2) n) (sym e) k
 
-range_few : (l : Layout) (cpu : ℕ) (slot : Option ℕ) (step : Step) (x : Used) → changes_a_range step ≡ true → (rule l cpu slot step x).valid.passes ≡ true → HaveFewPages (blocks_met step) (rule l cpu slot step x).changes
+range_few : (l : Layout) (cpu : ℕ) (slot : Option ℕ) (step : Step) (x : Used)
+    → changes_a_range step ≡ true
+    → (rule l cpu slot step x).valid.passes ≡ true
+    → HaveFewPages (blocks_met step) (rule l cpu slot step x).changes
 unfolding rule
 range_few l cpu slot (ShareHyp f) x h i = record { host = page_alone; hyp = page_alone; guest = tt; part = tt }
 range_few l cpu slot (UnshareHyp f) x h i = record { host = page_alone; hyp = page_alone; guest = tt; part = tt }
-range_few l cpu slot (ShareGuest f g p n) x h i = record { host = few_pages l f n _ i; hyp = tt; guest = few_pages l f n _ i; part = tt }
+range_few l cpu slot (ShareGuest f g p n) x h i =
+    record { host = few_pages l f n _ i; hyp = tt; guest = few_pages l f n _ i; part = tt }
 range_few l cpu slot (UnshareGuest vm g) x h i = record { host = page_alone; hyp = tt; guest = page_alone; part = tt }
-range_few l cpu slot (DonateGuest f g n) x h i = record { host = few_pages l f n _ i; hyp = tt; guest = few_pages l f n _ i; part = tt }
+range_few l cpu slot (DonateGuest f g n) x h i =
+    record { host = few_pages l f n _ i; hyp = tt; guest = few_pages l f n _ i; part = tt }
 range_few l cpu slot (GuestShareHost g) x h i = record { host = page_alone; hyp = tt; guest = page_alone; part = tt }
 range_few l cpu slot (GuestUnshareHost g) x h i = record { host = page_alone; hyp = tt; guest = page_alone; part = tt }
 range_few l cpu slot (ReclaimPage vm g) x h i = record { host = page_alone; hyp = tt; guest = page_alone; part = tt }
@@ -130,7 +158,8 @@ unfolding needs
 need_most k top t None h = omega arith
 need_most k top t (Some c) (inl (some, one)) =
     let n = need_on top t c.range.first.0 c.range.count c.entry in
-    let on : length (blocks_on top c.range.first.0 c.range.count) ≤ top = subst (λ m. length (blocks_on top c.range.first.0 m) ≤ top) (sym one) (on_page top c.range.first.0) in
+    let on : length (blocks_on top c.range.first.0 c.range.count) ≤ top =
+    subst (λ m. length (blocks_on top c.range.first.0 m) ≤ top) (sym one) (on_page top c.range.first.0) in
     let more : 1 * top ≤ k * top = mul-le-mul_right top some in
     omega (arith, n, on, more)
 need_most k top t (Some c) (inr (some, few)) =
@@ -144,28 +173,50 @@ has_room None k h = tt
 has_room (Some c) k h = h
 
 module _ {A : Type 0} (k : ℕ) (h : Changes) (small : HaveFewPages k h) where
-  roomy : (s : SharedPart A) → IsStocked (k * levels_below s.host.tree.geometry) s.host × IsStocked (k * levels_below s.hyp.tree.geometry) s.hyp → IsRoomy h s
+  roomy : (s : SharedPart A)
+      → IsStocked (k * levels_below s.host.tree.geometry) s.host
+      × IsStocked (k * levels_below s.hyp.tree.geometry) s.hyp
+      → IsRoomy h s
   roomy s stocked = record {
     host = has_room h.host s.host stocked.0.room;
     hyp = has_room h.hyp s.hyp stocked.1.room;
-    host_spares = let n : need_for s.host.tree h.host ≤ k * levels_below s.host.tree.geometry = need_most k (levels_below s.host.tree.geometry) _ h.host small.host in let m = stocked.0.spares in omega arith;
-    hyp_spares = let n : need_for s.hyp.tree h.hyp ≤ k * levels_below s.hyp.tree.geometry = need_most k (levels_below s.hyp.tree.geometry) _ h.hyp small.hyp in let m = stocked.1.spares in omega arith;
+    host_spares = let n : need_for s.host.tree h.host ≤ k * levels_below s.host.tree.geometry =
+        need_most k (levels_below s.host.tree.geometry) _ h.host small.host in
+        let m = stocked.0.spares in
+        omega arith;
+    hyp_spares = let n : need_for s.hyp.tree h.hyp ≤ k * levels_below s.hyp.tree.geometry =
+        need_most k (levels_below s.hyp.tree.geometry) _ h.hyp small.hyp in
+        let m = stocked.1.spares in
+        omega arith;
   }
 
-  ready : (depth : ℕ) (t : Tree) (o : Option (Body A)) → IsGuestStocked (k * depth) o → HasReadyMap (need depth t (edit_of h.guest)) h.guest o
+  ready : (depth : ℕ) (t : Tree) (o : Option (Body A))
+      → IsGuestStocked (k * depth) o
+      → HasReadyMap (need depth t (edit_of h.guest)) h.guest o
   ready depth t None s = tt
-  ready depth t (Some b) s = (let n = need_most k depth t h.guest small.guest in let m = s.spares in omega arith, has_room h.guest b.map s.room)
+  ready depth t (Some b) s = (
+    let n = need_most k depth t h.guest small.guest in
+        let m = s.spares in
+        omega arith,
+    has_room h.guest b.map s.room,
+  )
 
-  roomy_guest : (p : Parts A) (cpu : ℕ) (step : Step) → AreStocked p (slot_here p cpu step) k → HasRoomyGuest p cpu step h
-  roomy_guest p cpu step s v g slot at = record { made = small.part; map = ready (guest_depth g.guest) _ g.guest.body (s.guest v g slot at) }
+  roomy_guest : (p : Parts A) (cpu : ℕ) (step : Step)
+      → AreStocked p (slot_here p cpu step) k
+      → HasRoomyGuest p cpu step h
+  roomy_guest p cpu step s v g slot at =
+      record { made = small.part; map = ready (guest_depth g.guest) _ g.guest.body (s.guest v g slot at) }
 
 pub stocked_wants : {A : Type 0} → StockedWants A
 stocked_wants {A} p q cpu step reply is page stocked wanted = elim is.steps.on.answers [
   | inl full ↦ let e = full.reply in cc
   | inr answer ↦ elim answer.answered [
     | inl made ↦ let e = made.reply_is in cc
-    | inr (inl refused) ↦ fails_else l cpu slot step x (refused.fail ∙ ap Some (same refused.why (sym refused.reply_is ∙ wanted)))
-    | inr (inr wants) ↦ is.wants wanted h (decides_ok l cpu slot step x wants.passes) (roomy (blocks_met step) h (small wants.passes) p.shared stocked.shared) (roomy_guest (blocks_met step) h (small wants.passes) p cpu step stocked)
+    | inr (inl refused) ↦ fails_else l cpu slot step x
+        (refused.fail ∙ ap Some (same refused.why (sym refused.reply_is ∙ wanted)))
+    | inr (inr wants) ↦ is.wants wanted h (decides_ok l cpu slot step x wants.passes)
+        (roomy (blocks_met step) h (small wants.passes) p.shared stocked.shared)
+        (roomy_guest (blocks_met step) h (small wants.passes) p cpu step stocked)
   ]
 ]
   where

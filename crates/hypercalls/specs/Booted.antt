@@ -1,4 +1,5 @@
--- What parts that have booted are: of an accepted layout, and standing for the boot state with the empty history.
+-- What parts that have booted are: of an accepted layout, and standing for the boot state with the
+-- empty history.
 use Rattle.std.specs.Prelude.{◌≡◌, ℕ, [], Some}
 use Rattle.page_state.specs.declared.layout.Config.{Config}
 use Rattle.page_state.specs.declared.layout.Geometry.{Geometry}
@@ -27,7 +28,8 @@ pub record HasNoCalls {A : Type 0} (p : Parts A) : Type 0 where
   pub guests : (v : ℕ) → ((kept_of p).guest v).1 ≡ []
   pub cpus : (cpu : ℕ) → ((kept_of p).cpu cpu).1 ≡ []
 
--- the parts of a world that has booted, if no test failed: they represent the boot state, and all logs are empty
+-- the parts of a world that has booted, if no test failed: they represent the boot state, and all
+-- logs are empty
 pub record IsBooted {A : Type 0} (m : Memory) (c : Config) (p : Parts A) : Type 0 where
   pub geometry : Geometry
   pub memory : IsAccepted m

@@ -29,7 +29,8 @@ pub record LeavesShared (h : Changes) : Type 0 where
   pub hyp : h.hyp ≡ None
   pub moved : touched h ≡ None
 
--- how a call ends whose changes of parts were made or weren't: its CPU's own state changes with them, or the refusal says why
+-- how a call ends whose changes of parts were made or weren't: its CPU's own state changes with
+-- them, or the refusal says why
 abbrev pub Ends : Result (Unit {0}) PoolFault → Changes → Cpu → Reply → Cpu → Type 0
 Ends (Ok u) h before reply after = (reply ≡ Done h.value) × (after ≡ cpu_by h.cpu before)
 Ends (Err NoPool) h before reply after = (reply ≡ Refused NoPoolReply) × (after ≡ before)
@@ -37,14 +38,20 @@ Ends (Err NoMemory) h before reply after = (reply ≡ Refused NoMemoryReply) × 
 
 -- a pool has fewer free frames than the changes need on its trees
 abbrev pub is_either_short : ℕ → Changes → Shared → Guest → Bool
-is_either_short depth h x g = nat_lt (length x.free) (shared_need depth h x) || nat_lt (length g.free) (guest_need depth h g)
+is_either_short depth h x g =
+    nat_lt (length x.free) (shared_need depth h x) || nat_lt (length g.free) (guest_need depth h g)
 
 -- the Shared part with the given rows at the touched range, if that is memory
 abbrev pub rows_told : Layout → ℕ → Option ℕ → Changes → Shared → Shared
-rows_told l cpu slot h x = record x { row = λ f. elim (is_memory l (first_of (touched h)) && is_touched h f) [ true ↦ told_row cpu slot h f | false ↦ x.row f ] }
+rows_told l cpu slot h x =
+    record x {
+      row = λ f. elim (is_memory l (first_of (touched h)) && is_touched h f)
+          [ true ↦ told_row cpu slot h f | false ↦ x.row f ];
+    }
 
 module _ {A : Type 0} (l : Layout) (h : Changes) where
-  -- the changes can be made of the Shared part by a call of the CPU on the slot: they fit, and so do the frames that they touch
+  -- the changes can be made of the Shared part by a call of the CPU on the slot: they fit, and so
+  -- do the frames that they touch
   pub record CanChangeShared (id : ℕ) (slot : Option ℕ) (s : SharedPart A) : Type 0 where
     pub fit : AllFit l.depth h
     pub touched : TouchedFits l id slot h
@@ -56,8 +63,10 @@ module _ {A : Type 0} (l : Layout) (h : Changes) where
     pub parts : PartsFit l h (guest_held p)
     pub suits : GuestSuits l p
 
-  -- the Shared part after they were asked for, `s` before: made, with the rows that they tell, or none of them
-  pub record IsSharedChanged (id : ℕ) (slot : Option ℕ) (r : Result (Unit {0}) PoolFault) (s t : SharedPart A) : Type 0 where
+  -- the Shared part after they were asked for, `s` before: made, with the rows that they tell, or
+  -- none of them
+  pub record IsSharedChanged (id : ℕ) (slot : Option ℕ) (r : Result (Unit {0}) PoolFault)
+      (s t : SharedPart A) : Type 0 where
     pub made : OnOk r (shared_of t ≡ rows_told l id slot h (shared_after l.depth h (shared_of s)))
     pub err : OnErr r (shared_of t ≡ shared_of s)
     pub suits : SharedSuits l t

@@ -25,15 +25,24 @@ module _ {A : Type 0} (p : Parts A) where
   kept_of = record {
     vms = (vm_slots p.vms, p.vms.log.calls);
     shared = (shared_of p.shared, p.shared.log.calls);
-    guest = λ v. (at_place no_guest guest_held (slice_get p.guests.items v), at_place [] (λ g. g.log.calls) (slice_get p.guests.items v));
-    cpu = λ c. (at_place no_cpu cpu_of (slice_get p.cpus.items c), at_place [] (λ k. k.log.calls) (slice_get p.cpus.items c));
+    guest =
+        λ v. (
+          at_place no_guest guest_held (slice_get p.guests.items v),
+          at_place [] (λ g. g.log.calls) (slice_get p.guests.items v),
+        );
+    cpu =
+        λ c. (
+          at_place no_cpu cpu_of (slice_get p.cpus.items c),
+          at_place [] (λ k. k.log.calls) (slice_get p.cpus.items c),
+        );
   }
 
   -- the state: a log's room is what its calls leave
   abbrev pub state_of : Reference
   state_of = held_state parts_layout kept_of
 
-  -- one legal history: the parts are at the end of a run of the reference step from the boot state, and its calls are those of their logs
+  -- one legal history: the parts are at the end of a run of the reference step from the boot state,
+  -- and its calls are those of their logs
   pub record HasHistory : Type 0 where
     pub ready : CanBoot parts_layout
     pub log : List Call

@@ -30,13 +30,24 @@ reply_in (Some c) = c.reply
 
 -- memory may run out: the decided changes may need a growth
 abbrev pub CanWantOn : {A : Type 0} → Layout → ℕ → Option ℕ → Step → Lent A → Type 0
-CanWantOn l id slot step x = (h : Changes) → decides l id slot step (used_in x) ≡ Ok h → IfSome x.shared (λ s. IsRoomy h s) → IfSome x.guest (λ g. WantsNoMemory h g.guest) → ⊥
+CanWantOn l id slot step x =
+    (h : Changes)
+    → decides l id slot step (used_in x) ≡ Ok h
+    → IfSome x.shared (λ s. IsRoomy h s)
+    → IfSome x.guest (λ g. WantsNoMemory h g.guest)
+    → ⊥
 
--- the step of a CPU on the lent parts, by the call that it stored: it is the reference step there, and the call is stored in each log if none is full; otherwise nothing changes. Memory runs out only where it may. The CPU's number stays
-pub record IsStepOn {A : Type 0} (l : Layout) (step : Step) (x : Lent A) (made : Option Call) (y : Lent A) : Type 0 where
-  pub on : StepsOn l (call_in x step (reply_in made)) (used_in x) (rooms_in (logs_in x)) (used_in y) (rooms_in (logs_in y))
+-- the step of a CPU on the lent parts, by the call that it stored: it is the reference step there,
+-- and the call is stored in each log if none is full; otherwise nothing changes. Memory runs out
+-- only where it may. The CPU's number stays
+pub record IsStepOn {A : Type 0} (l : Layout) (step : Step) (x : Lent A) (made : Option Call)
+    (y : Lent A) : Type 0 where
+  pub on : StepsOn l (call_in x step (reply_in made)) (used_in x) (rooms_in (logs_in x))
+      (used_in y) (rooms_in (logs_in y))
   pub told : made ≡ (if any_full (logs_in x) then None else Some (call_in x step (reply_in made)))
-  pub logs : logs_in y ≡ (if any_full (logs_in x) then logs_in x else all_with (call_in x step (reply_in made)) (logs_in x))
+  pub logs : logs_in y
+      ≡ (if any_full (logs_in x) then logs_in x
+      else all_with (call_in x step (reply_in made)) (logs_in x))
   pub full : any_full (logs_in x) ≡ true → y ≡ x
   pub stored : any_full (logs_in x) ≡ false → IsStored (reply_in made)
   pub wants : reply_in made ≡ Refused NoMemory → CanWantOn l x.cpu.id (slot_in x step) step x

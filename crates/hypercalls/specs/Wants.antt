@@ -14,7 +14,8 @@ use Rattle.part_types.specs.declared.parts.GuestPart.{GuestPart}
 use Rattle.hypercalls.specs.declared.parts.Parts.{Parts}
 use Rattle.hypercalls.specs.Whole.{IsStep, slot_here}
 
--- the steps that change a range of each map at most, a page of it but for the ranged calls on a guest
+-- the steps that change a range of each map at most, a page of it but for the ranged calls on a
+-- guest
 abbrev pub changes_a_range : Step → Bool
 changes_a_range (ShareHyp f) = true
 changes_a_range (UnshareHyp f) = true
@@ -27,13 +28,15 @@ changes_a_range (GuestRelax g p) = true
 changes_a_range (ReclaimPage vm g) = true
 changes_a_range other = false
 
--- how many blocks of a size such a range meets at most: a page lies in one, and a range of up to 512 pages meets two
+-- how many blocks of a size such a range meets at most: a page lies in one, and a range of up to
+-- 512 pages meets two
 abbrev pub blocks_met : Step → ℕ
 blocks_met (ShareGuest f g p n) = if n == 1 then 1 else 2
 blocks_met (DonateGuest f g n) = if n == 1 then 1 else 2
 blocks_met other = 1
 
--- memory for a change is there already: the tree keeps this many spare tables, and the maplets have room for two runs
+-- memory for a change is there already: the tree keeps this many spare tables, and the maplets have
+-- room for two runs
 pub record IsStocked {A : Type 0} (tables : ℕ) (c : Component A) : Type 0 where
   pub spares : tables ≤ spares_of c.tree
   pub room : 2 ≤ c.maplets.room
@@ -43,11 +46,22 @@ abbrev pub IsGuestStocked : {A : Type 0} → ℕ → Option (Body A) → Type 0
 IsGuestStocked tables None = Unit {0}
 IsGuestStocked tables (Some b) = IsStocked tables b.map
 
--- with both trees of the Shared part, and with that of the guest of a slot: a spare for each of `blocks` blocks of each size below the root's
+-- with both trees of the Shared part, and with that of the guest of a slot: a spare for each of
+-- `blocks` blocks of each size below the root's
 pub record AreStocked {A : Type 0} (p : Parts A) (slot : Option ℕ) (blocks : ℕ) : Type 0 where
-  pub shared : IsStocked (blocks * levels_below p.shared.host.tree.geometry) p.shared.host × IsStocked (blocks * levels_below p.shared.hyp.tree.geometry) p.shared.hyp
-  pub guest : (v : ℕ) (g : GuestPart A) → slot ≡ Some v → slice_get p.guests.items v ≡ Some g → IsGuestStocked (blocks * guest_depth g.guest) g.guest.body
+  pub shared : IsStocked (blocks * levels_below p.shared.host.tree.geometry) p.shared.host
+      × IsStocked (blocks * levels_below p.shared.hyp.tree.geometry) p.shared.hyp
+  pub guest : (v : ℕ) (g : GuestPart A)
+      → slot ≡ Some v
+      → slice_get p.guests.items v ≡ Some g
+      → IsGuestStocked (blocks * guest_depth g.guest) g.guest.body
 
 -- a step that changes a range is then not refused for memory
 abbrev pub StockedWants : Type 0 → Type 0
-StockedWants A = (p q : Parts A) (cpu : ℕ) (step : Step) (reply : Reply) → IsStep p cpu step reply q → changes_a_range step ≡ true → AreStocked p (slot_here p cpu step) (blocks_met step) → reply ≡ Refused NoMemory → ⊥
+StockedWants A =
+    (p q : Parts A) (cpu : ℕ) (step : Step) (reply : Reply)
+    → IsStep p cpu step reply q
+    → changes_a_range step ≡ true
+    → AreStocked p (slot_here p cpu step) (blocks_met step)
+    → reply ≡ Refused NoMemory
+    → ⊥

@@ -25,25 +25,47 @@ module _ {A : Type 0} (p : Parts A) (cpu : ℕ) (step : Step) where
 
   -- the call of a step: its number is one more than its CPU's log holds
   abbrev pub call_of : Reply → Call
-  call_of reply = record { cpu = cpu; number = length ((kept_of p).cpu cpu).1 + 1; step = step; reply = reply; slot = slot_here }
+  call_of reply =
+      record {
+        cpu = cpu;
+        number = length ((kept_of p).cpu cpu).1 + 1;
+        step = step;
+        reply = reply;
+        slot = slot_here;
+      }
 
   -- a log that would store the call of a step is full
   abbrev pub is_log_full : Bool
-  is_log_full = has_full_log (names step) slot_here (rooms_of (names step) slot_here cpu (state_of p).rooms)
+  is_log_full =
+      has_full_log (names step) slot_here (rooms_of (names step) slot_here cpu (state_of p).rooms)
 
   -- memory for the changes of the guest that the step uses, if any, is there already
   abbrev pub HasRoomyGuest : Changes → Type 0
-  HasRoomyGuest h = (v : ℕ) (g : GuestPart A) → slot_here ≡ Some v → slice_get p.guests.items v ≡ Some g → WantsNoMemory h g.guest
+  HasRoomyGuest h =
+      (v : ℕ) (g : GuestPart A)
+      → slot_here ≡ Some v
+      → slice_get p.guests.items v ≡ Some g
+      → WantsNoMemory h g.guest
 
   -- memory may run out: the decided changes may need a growth
   abbrev pub CanWant : Type 0
-  CanWant = (h : Changes) → decides (parts_layout p) cpu slot_here step (used_of (names step) slot_here cpu (state_of p).contents) ≡ Ok h → IsRoomy h p.shared → HasRoomyGuest h → ⊥
+  CanWant =
+      (h : Changes)
+      → decides (parts_layout p) cpu slot_here step
+      (used_of (names step) slot_here cpu (state_of p).contents)
+      ≡ Ok h
+      → IsRoomy h p.shared
+      → HasRoomyGuest h
+      → ⊥
 
-  -- the parts after a step, and its reply: those after the reference step. Where a log is full nothing changes, and else the call is stored in the logs of the parts that it uses and of its CPU. Memory is wanted only where it can be
+  -- the parts after a step, and its reply: those after the reference step. Where a log is full
+  -- nothing changes, and else the call is stored in the logs of the parts that it uses and of its
+  -- CPU. Memory is wanted only where it can be
   pub record IsStep (reply : Reply) (q : Parts A) : Type 0 where
     pub layout : parts_layout q ≡ parts_layout p
     pub steps : Steps (parts_layout p) (state_of p) (call_of reply) (state_of q)
     pub full : is_log_full ≡ true → kept_of q ≡ kept_of p
     pub stored : is_log_full ≡ false → IsStored reply
-    pub stores : is_log_full ≡ false → StoresCall (call_of reply) (state_of q).contents (kept_of p) (kept_of q)
+    pub stores : is_log_full ≡ false
+        → StoresCall (call_of reply) (state_of q).contents (kept_of p) (kept_of q)
     pub wants : reply ≡ Refused NoMemory → CanWant

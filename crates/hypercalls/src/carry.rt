@@ -27,7 +27,8 @@ fn write_rows<A: Allocator>(
     requires slot { unwrap_or slot 0 < 2 ^ 32 }
     requires touched { TouchedFits (layout_of layout.now) id slot changes.now }
     requires suits { SharedSuits (layout_of layout.now) shared.old }
-    ensures told { shared_of shared.new ≡ rows_told (layout_of layout.now) id slot changes.now (shared_of shared.old) }
+    ensures told { shared_of shared.new
+        ≡ rows_told (layout_of layout.now) id slot changes.now (shared_of shared.old) }
     ensures suits { SharedSuits (layout_of layout.now) shared.new }
     ensures log { shared.new.log ≡ shared.old.log }
 {
@@ -50,7 +51,8 @@ pub(crate) fn change_shared<A: Allocator + Copy>(
     requires slot { unwrap_or slot 0 < 2 ^ 32 }
     requires can { CanChangeShared (layout_of layout.now) changes.now id slot shared.old }
     ensures shared { IsSharedChanged (layout_of layout.now) changes.now id slot result shared.old shared.new }
-    ensures no_pool { (result ≡ Err PoolFault.NoPool) ↔ IsSharedShort (layout_of layout.now) changes.now shared.old }
+    ensures no_pool { (result ≡ Err PoolFault.NoPool)
+        ↔ IsSharedShort (layout_of layout.now) changes.now shared.old }
     ensures no_memory { result ≡ Err PoolFault.NoMemory → IsRoomy changes.now shared.old → ⊥ }
 {
     shared.change(alloc, changes)?;
@@ -87,10 +89,15 @@ pub(crate) fn change_both<A: Allocator + Copy>(
     requires slot { slot < 64 }
     requires can { CanChangeShared (layout_of layout.now) changes.now id (Some slot) shared.old }
     requires can_guest { CanChangeGuest (layout_of layout.now) changes.now part.old }
-    ensures shared { IsSharedChanged (layout_of layout.now) changes.now id (Some slot) result shared.old shared.new }
+    ensures shared { IsSharedChanged (layout_of layout.now) changes.now id
+        (Some slot) result shared.old shared.new }
     ensures guest { IsGuestChanged (layout_of layout.now) changes.now result part.old part.new }
-    ensures no_pool { (result ≡ Err PoolFault.NoPool) ↔ IsEitherShort (layout_of layout.now) changes.now shared.old part.old }
-    ensures no_memory { result ≡ Err PoolFault.NoMemory → IsRoomy changes.now shared.old → WantsNoMemory changes.now part.old.guest → ⊥ }
+    ensures no_pool { (result ≡ Err PoolFault.NoPool)
+        ↔ IsEitherShort (layout_of layout.now) changes.now shared.old part.old }
+    ensures no_memory { result ≡ Err PoolFault.NoMemory
+        → IsRoomy changes.now shared.old
+        → WantsNoMemory changes.now part.old.guest
+        → ⊥ }
 {
     let need = shared.need(changes);
     if shared.is_short(need) {

@@ -23,7 +23,8 @@ use std::alloc::Allocator;
 pub fn step_alone(layout: &Layout, cpu: &mut CpuState, step: Step) -> Option<Call>
     requires uses { uses_of (cpu_of cpu.old) step ≡ UsedParts.Nothing }
     requires own { IsOfSize layout.now.config.log cpu.old.log }
-    ensures step { IsStepOn {A = Unit {0}} (layout_of layout.now) step (lent_alone cpu.old) result (lent_alone cpu.new) }
+    ensures step { IsStepOn {A = Unit {0}} (layout_of layout.now) step (lent_alone cpu.old) result
+        (lent_alone cpu.new) }
     ensures own { IsOfSize layout.now.config.log cpu.new.log }
 {
     laws::answers();
@@ -54,8 +55,10 @@ pub fn step_on_vms(
     requires uses { uses_of (cpu_of cpu.old) step ≡ UsedParts.Vms }
     requires suits { IsOfSize layout.now.config.log vms.old.log }
     requires own { IsOfSize layout.now.config.log cpu.old.log }
-    requires reached { ∥ IsReached (layout_of layout.now) (names step) None cpu.old.id (vms_alone (vm_slots vms.old) (cpu_of cpu.old)) ∥₁ }
-    ensures step { IsStepOn {A = Unit {0}} (layout_of layout.now) step (lent_vms vms.old cpu.old) result (lent_vms vms.new cpu.new) }
+    requires reached { ∥ IsReached (layout_of layout.now) (names step) None cpu.old.id
+        (vms_alone (vm_slots vms.old) (cpu_of cpu.old)) ∥₁ }
+    ensures step { IsStepOn {A = Unit {0}} (layout_of layout.now) step (lent_vms vms.old cpu.old) result
+        (lent_vms vms.new cpu.new) }
     ensures suits { IsOfSize layout.now.config.log vms.new.log }
     ensures own { IsOfSize layout.now.config.log cpu.new.log }
 {
@@ -98,8 +101,10 @@ pub fn step_on_shared<A: Allocator + Copy>(
     requires uses { uses_of (cpu_of cpu.old) step ≡ UsedParts.Shared }
     requires suits { SharedSuits (layout_of layout.now) shared.old }
     requires own { IsOfSize layout.now.config.log cpu.old.log }
-    requires reached { ∥ IsReached (layout_of layout.now) (names step) None cpu.old.id (used_alone (shared_of shared.old) (cpu_of cpu.old)) ∥₁ }
-    ensures step { IsStepOn (layout_of layout.now) step (lent_shared shared.old cpu.old) result (lent_shared shared.new cpu.new) }
+    requires reached { ∥ IsReached (layout_of layout.now) (names step) None cpu.old.id
+        (used_alone (shared_of shared.old) (cpu_of cpu.old)) ∥₁ }
+    ensures step { IsStepOn (layout_of layout.now) step (lent_shared shared.old cpu.old) result
+        (lent_shared shared.new cpu.new) }
     ensures suits { SharedSuits (layout_of layout.now) shared.new }
     ensures own { IsOfSize layout.now.config.log cpu.new.log }
 {
@@ -143,8 +148,10 @@ pub fn step_on_guest<A: Allocator + Copy>(
     requires uses { uses_of (cpu_of cpu.old) step ≡ UsedParts.Guest slot }
     requires suits { GuestSuits (layout_of layout.now) part.old }
     requires own { IsOfSize layout.now.config.log cpu.old.log }
-    requires reached { ∥ IsReached (layout_of layout.now) (names step) (Some slot) cpu.old.id (guest_alone (guest_held part.old) (cpu_of cpu.old)) ∥₁ }
-    ensures step { IsStepOn (layout_of layout.now) step (lent_guest part.old cpu.old) result (lent_guest part.new cpu.new) }
+    requires reached { ∥ IsReached (layout_of layout.now) (names step) (Some slot) cpu.old.id
+        (guest_alone (guest_held part.old) (cpu_of cpu.old)) ∥₁ }
+    ensures step { IsStepOn (layout_of layout.now) step (lent_guest part.old cpu.old) result
+        (lent_guest part.new cpu.new) }
     ensures suits { GuestSuits (layout_of layout.now) part.new }
     ensures own { IsOfSize layout.now.config.log cpu.new.log }
 {
@@ -188,8 +195,10 @@ pub fn step_on_both<A: Allocator + Copy>(
     requires known { cpu.old.id < layout.now.config.cpus }
     requires uses { uses_of (cpu_of cpu.old) step ≡ UsedParts.Both slot }
     requires suits { Suits (layout_of layout.now) (lent_both shared.old part.old cpu.old) }
-    requires reached { ∥ IsReached (layout_of layout.now) (names step) (Some slot) cpu.old.id (used_in (lent_both shared.old part.old cpu.old)) ∥₁ }
-    ensures step { IsStepOn (layout_of layout.now) step (lent_both shared.old part.old cpu.old) result (lent_both shared.new part.new cpu.new) }
+    requires reached { ∥ IsReached (layout_of layout.now) (names step) (Some slot) cpu.old.id
+        (used_in (lent_both shared.old part.old cpu.old)) ∥₁ }
+    ensures step { IsStepOn (layout_of layout.now) step (lent_both shared.old part.old cpu.old) result
+        (lent_both shared.new part.new cpu.new) }
     ensures suits { Suits (layout_of layout.now) (lent_both shared.new part.new cpu.new) }
 {
     laws::change_laws();

@@ -97,15 +97,19 @@ module _ (known : Option (List ℕ)) (may_fail : ℕ → ℕ → Type 0) (segmen
         (found_more (take i roots) h.trees (get_or roots i d) a.found h.each a.found_in);
     lines_are =
         joined
-        (lines_of skips) h.trees a.found start.lines.items now.lines.items next.lines.items h.lines_are a.grows.lines_are;
+        (lines_of skips) h.trees a.found start.lines.items now.lines.items next.lines.items
+        h.lines_are a.grows.lines_are;
     words_are =
         joined
-        (words_of skips) h.trees a.found start.words.items now.words.items next.words.items h.words_are a.grows.words_are;
+        (words_of skips) h.trees a.found start.words.items now.words.items next.words.items
+        h.words_are a.grows.words_are;
     claims_are =
         joined
-        (claims_of skips) h.trees a.found start.claims.items now.claims.items next.claims.items h.claims_are a.grows.claims_are;
+        (claims_of skips) h.trees a.found start.claims.items now.claims.items next.claims.items
+        h.claims_are a.grows.claims_are;
     tables_are =
-        joined tables_of h.trees a.found start.tables.items now.tables.items next.tables.items h.tables_are a.grows.tables_are;
+        joined tables_of h.trees a.found start.tables.items now.tables.items next.tables.items
+        h.tables_are a.grows.tables_are;
     faults_are = let more = faults_more h.trees a.found in omega (arith, h.faults_are, a.faults_are, more);
   }
 
@@ -174,7 +178,8 @@ pub all_dumped : (known : Option (List ℕ)) (may_fail : ℕ → ℕ → Type 0)
     → Appends before after (text_of_lines lines)
     → outcome ≡ outcome_of findings
     → IsDumped known may_fail segments roots vmemmap skips before after outcome
-all_dumped known may_fail segments roots vmemmap records skips before after start all unwalked states words first lines trees findings outcome are h no_lines no_words no_claims no_tables s w f n t l written o =
+all_dumped known may_fail segments roots vmemmap records skips before after start all unwalked states words first lines
+    trees findings outcome are h no_lines no_words no_claims no_tables s w f n t l written o =
     let fs = h.trees in
     let ws = from_none start.words.items (flat_map (words_of skips) fs) all.words.items no_words h.words_are in
     let cs = from_none start.claims.items (flat_map (claims_of skips) fs) all.claims.items no_claims h.claims_are in

@@ -30,7 +30,8 @@ module _ {X Y : Type 0} (h : X → Option Y) where
 
   none_given : (xs : List X) (i : ℕ) (x : X) → filter_map h xs ≡ [] → slice_get xs i ≡ Some x → h x ≡ None
   none_given [] i x e g = absurd (cc)
-  none_given (y ∷ ys) zero x e g = let same : y ≡ x = cc in subst (λ z. h z ≡ None) same (head_none (h y) (filter_map h ys) e).0
+  none_given (y ∷ ys) zero x e g = let same : y ≡ x = cc in
+      subst (λ z. h z ≡ None) same (head_none (h y) (filter_map h ys) e).0
   none_given (y ∷ ys) (suc i) x e g = none_given ys i x (head_none (h y) (filter_map h ys) e).1 g
 
 get_taken : {X : Type 0} (xs : List X) (n k : ℕ) → k < n → slice_get (take n xs) k ≡ slice_get xs k
@@ -39,7 +40,13 @@ get_taken [] (suc n) k h = refl
 get_taken (x ∷ xs) (suc n) zero h = refl
 get_taken (x ∷ xs) (suc n) (suc k) h = get_taken xs n k (omega arith)
 
-none_clash : (claims : List Claim) (n i j : ℕ) (a b : Claim) → clashes_of claims n ≡ [] → i < j → j < n → slice_get claims i ≡ Some a → slice_get claims j ≡ Some b → clash_of b a ≡ None
+none_clash : (claims : List Claim) (n i j : ℕ) (a b : Claim)
+    → clashes_of claims n ≡ []
+    → i < j
+    → j < n
+    → slice_get claims i ≡ Some a
+    → slice_get claims j ≡ Some b
+    → clash_of b a ≡ None
 unfolding clashes_of
 none_clash claims zero i j a b e o l f s = absurd (omega arith)
 none_clash claims (suc n) i j a b e o l f s = by_lt j n
@@ -47,12 +54,18 @@ none_clash claims (suc n) i j a b e o l f s = by_lt j n
     (λ more.
     let same : n ≡ j = omega arith in
     let last = right_none (clashes_of claims n) _ e in
-    let there = subst (λ m. given_by (λ claim. filter_map (clash_of claim) (take m claims)) (slice_get claims m) ≡ []) same last in
+    let there =
+    subst
+    (λ m. given_by (λ claim. filter_map (clash_of claim) (take m claims)) (slice_get claims m) ≡ []) same last
+    in
     let here : filter_map (clash_of b) (take j claims) ≡ [] = rw s at there in
     none_given (clash_of b) (take j claims) i a here (get_taken claims j i o ∙ f))
 
 -- claims that have a frame have a first one
-common_some : (a b : Claim) (frame : ℕ) → has_frame a frame ≡ true → has_frame b frame ≡ true → (f : ℕ) × (common_frame a b ≡ Some f)
+common_some : (a b : Claim) (frame : ℕ)
+    → has_frame a frame ≡ true
+    → has_frame b frame ≡ true
+    → (f : ℕ) × (common_frame a b ≡ Some f)
 common_some a b frame p q = by_lt a.frame b.frame
     (λ less.
     let t : nat_lt a.frame b.frame ≡ true = grind (arith, nat_tests) in
@@ -64,54 +77,87 @@ common_some a b frame p q = by_lt a.frame b.frame
     (a.frame, rw (t, u) refl))
 
 -- what tests must be where nothing is given
-not_owners : {X : Type 0} (oa ob apart both : Bool) (x y : X) → (if (oa && ob) && not apart then Some x else (if both then Some y else None)) ≡ None → oa ≡ true → ob ≡ true → apart ≡ true
+not_owners : {X : Type 0} (oa ob apart both : Bool) (x y : X)
+    → (if (oa && ob) && not apart then Some x else (if both then Some y else None)) ≡ None
+    → oa ≡ true
+    → ob ≡ true
+    → apart ≡ true
 not_owners oa ob true both x y e p q = refl
 not_owners true true false both x y e p q = absurd (cc)
 not_owners true false false both x y e p q = absurd (cc)
 not_owners false ob false both x y e p q = absurd (cc)
 
-not_borrowers : {X : Type 0} (owners ba bb : Bool) (x y : X) → (if owners then Some x else (if ba && bb then Some y else None)) ≡ None → ba ≡ true → bb ≡ true → ⊥
+not_borrowers : {X : Type 0} (owners ba bb : Bool) (x y : X)
+    → (if owners then Some x else (if ba && bb then Some y else None)) ≡ None
+    → ba ≡ true
+    → bb ≡ true
+    → ⊥
 not_borrowers true ba bb x y e p q = cc
 not_borrowers false true true x y e p q = cc
 not_borrowers false true false x y e p q = cc
 not_borrowers false false bb x y e p q = cc
 
-clash_none : (claims : List Claim) (i j : ℕ) (a b : Claim) (frame : ℕ) → clashes_of claims (length claims) ≡ [] → HaveFrame claims i j a b frame → (f : ℕ) × (clash_at b a (Some f) ≡ None)
+clash_none : (claims : List Claim) (i j : ℕ) (a b : Claim) (frame : ℕ)
+    → clashes_of claims (length claims) ≡ []
+    → HaveFrame claims i j a b frame
+    → (f : ℕ) × (clash_at b a (Some f) ≡ None)
 clash_none claims i j a b frame e h =
-    let none : clash_of b a ≡ None = none_clash claims (length claims) i j a b e h.order (slice_get_within claims j b h.second) h.first h.second in
+    let none : clash_of b a ≡ None =
+    none_clash claims (length claims) i j a b e h.order (slice_get_within claims j b h.second) h.first h.second in
     let c = common_some a b frame h.in_first h.in_second in
     (c.0, subst (λ o. clash_at b a o ≡ None) c.1 none)
 
 pub one_owner : HaveOneOwner
-one_owner claims i j a b frame e h p q = let at = clash_none claims i j a b frame e h in not_owners (owns a) (owns b) (are_apart a b) (borrows a && borrows b) (TwoOwners at.0 a b) (TwoBorrowers at.0 a b) at.1 p q
+one_owner claims i j a b frame e h p q = let at = clash_none claims i j a b frame e h in
+    not_owners (owns a) (owns b) (are_apart a b) (borrows a && borrows b) (TwoOwners at.0 a b)
+    (TwoBorrowers at.0 a b) at.1 p q
 
 pub one_borrower : HaveOneBorrower
-one_borrower claims i j a b frame e h p q = let at = clash_none claims i j a b frame e h in not_borrowers ((owns a && owns b) && not (are_apart a b)) (borrows a) (borrows b) (TwoOwners at.0 a b) (TwoBorrowers at.0 a b) at.1 p q
+one_borrower claims i j a b frame e h p q = let at = clash_none claims i j a b frame e h in
+    not_borrowers ((owns a && owns b) && not (are_apart a b)) (borrows a) (borrows b) (TwoOwners at.0 a b)
+    (TwoBorrowers at.0 a b) at.1 p q
 
 -- frames of a range of which none is unborrowed
-all_of : (past some : Bool) (f : ℕ) (rest : Option ℕ) → (if past then None else (if not some then Some f else rest)) ≡ None → past ≡ false → (some ≡ true) × (rest ≡ None)
+all_of : (past some : Bool) (f : ℕ) (rest : Option ℕ)
+    → (if past then None else (if not some then Some f else rest)) ≡ None
+    → past ≡ false
+    → (some ≡ true) × (rest ≡ None)
 all_of true some f rest e p = absurd (cc)
 all_of false true f rest e p = (refl, e)
 all_of false false f rest e p = absurd (cc)
 
-first_none : (claims : List Claim) (frame n k : ℕ) → first_from claims frame n ≡ None → k < n → frame + n < 2 ^ 64 → list_any (borrows_frame (frame + k)) claims ≡ true
+first_none : (claims : List Claim) (frame n k : ℕ)
+    → first_from claims frame n ≡ None
+    → k < n
+    → frame + n < 2 ^ 64
+    → list_any (borrows_frame (frame + k)) claims ≡ true
 unfolding first_from
 first_none claims frame zero k e h l = absurd (omega arith)
 first_none claims frame (suc n) zero e h l =
     let t : nat_le (2 ^ 64) frame ≡ false = grind (arith, nat_tests) in
     let same : frame ≡ frame + 0 = omega arith in
-    subst (λ f. list_any (borrows_frame f) claims ≡ true) same (all_of (nat_le (2 ^ 64) frame) (list_any (borrows_frame frame) claims) frame (first_from claims (frame + 1) n) e t).0
+    subst (λ f. list_any (borrows_frame f) claims ≡ true) same
+    (all_of (nat_le (2 ^ 64) frame) (list_any (borrows_frame frame) claims) frame
+    (first_from claims (frame + 1) n) e t).0
 first_none claims frame (suc n) (suc k) e h l =
     let t : nat_le (2 ^ 64) frame ≡ false = grind (arith, nat_tests) in
     let same : frame + 1 + k ≡ frame + suc k = omega arith in
-    let rest = (all_of (nat_le (2 ^ 64) frame) (list_any (borrows_frame frame) claims) frame (first_from claims (frame + 1) n) e t).1 in
-    subst (λ f. list_any (borrows_frame f) claims ≡ true) same (first_none claims (frame + 1) n k rest (omega arith) (omega arith))
+    let rest =
+    (all_of (nat_le (2 ^ 64) frame) (list_any (borrows_frame frame) claims) frame
+    (first_from claims (frame + 1) n) e t).1 in
+    subst (λ f. list_any (borrows_frame f) claims ≡ true) same
+    (first_none claims (frame + 1) n k rest (omega arith) (omega arith))
 
-found_none : (claim : Claim) (shared : Bool) (o : Option ℕ) → (if not shared then None else option_map (λ frame. NoBorrower frame claim) o) ≡ None → shared ≡ true → o ≡ None
+found_none : (claim : Claim) (shared : Bool) (o : Option ℕ)
+    → (if not shared then None else option_map (λ frame. NoBorrower frame claim) o) ≡ None
+    → shared ≡ true
+    → o ≡ None
 found_none claim true None e p = refl
 found_none claim true (Some f) e p = absurd (cc)
 found_none claim false o e p = absurd (cc)
 
 pub are_borrowed : AreBorrowed
 are_borrowed claims i k a e g p below small =
-    first_none claims a.frame a.count k (found_none a (shares a) (first_from claims a.frame a.count) (none_given (unborrowed_of claims) claims i a e g) p) below small
+    first_none claims a.frame a.count k
+    (found_none a (shares a) (first_from claims a.frame a.count)
+    (none_given (unborrowed_of claims) claims i a e g) p) below small

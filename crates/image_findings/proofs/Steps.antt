@@ -31,49 +31,83 @@ module _ {X Y : Type 0} (h : X → Option Y) where
   pub none_given : (xs : List X) (start : List Y) → start ≡ start ++ filter_map h (take 0 xs)
   none_given xs start = sym (append_nil start)
 
-  pub more_given : (xs : List X) (i : ℕ) (d : X) (start now next : List Y) → i < length xs → now ≡ start ++ filter_map h (take i xs) → next ≡ now ++ option_to_list (h (get_or xs i d)) → next ≡ start ++ filter_map h (take (i + 1) xs)
+  pub more_given : (xs : List X) (i : ℕ) (d : X) (start now next : List Y)
+      → i < length xs
+      → now ≡ start ++ filter_map h (take i xs)
+      → next ≡ now ++ option_to_list (h (get_or xs i d))
+      → next ≡ start ++ filter_map h (take (i + 1) xs)
   more_given xs i d start now next inside e n =
       let x = get_or xs i d in
-      let step = ap (filter_map h) (take_more xs i d inside) ∙ (filter_map-append h (take i xs) (x ∷ []) ∙ ap (λ z. filter_map h (take i xs) ++ z) (one_given x (h x) refl)) in
-      n ∙ (ap (λ z. z ++ option_to_list (h x)) e ∙ (append_assoc start (filter_map h (take i xs)) (option_to_list (h x)) ∙ ap (λ z. start ++ z) (sym step)))
+      let step =
+      ap (filter_map h) (take_more xs i d inside)
+      ∙ (filter_map-append h (take i xs) (x ∷ [])
+      ∙ ap (λ z. filter_map h (take i xs) ++ z) (one_given x (h x) refl)) in
+      n
+      ∙ (ap (λ z. z ++ option_to_list (h x)) e
+      ∙ (append_assoc start (filter_map h (take i xs)) (option_to_list (h x))
+      ∙ ap (λ z. start ++ z) (sym step)))
 
-  pub all_given : (xs : List X) (i : ℕ) (start now : List Y) → length xs ≤ i → now ≡ start ++ filter_map h (take i xs) → now ≡ start ++ filter_map h xs
+  pub all_given : (xs : List X) (i : ℕ) (start now : List Y)
+      → length xs ≤ i
+      → now ≡ start ++ filter_map h (take i xs)
+      → now ≡ start ++ filter_map h xs
   all_given xs i start now past e = e ∙ ap (λ ys. start ++ filter_map h ys) (taken_all xs i past)
 
 -- one more element, in lists that are told by their first ones
-joined_more : {Y : Type 0} (start before part now next : List Y) → now ≡ start ++ before → next ≡ now ++ part → next ≡ start ++ (before ++ part)
+joined_more : {Y : Type 0} (start before part now next : List Y)
+    → now ≡ start ++ before
+    → next ≡ now ++ part
+    → next ≡ start ++ (before ++ part)
 joined_more start before part now next e n = n ∙ (ap (λ z. z ++ part) e ∙ append_assoc start before part)
 
-given_at : {X : Type 0} (f : X → List Finding) (xs : List X) (i : ℕ) (d : X) → i < length xs → given_by f (slice_get xs i) ≡ f (get_or xs i d)
+given_at : {X : Type 0} (f : X → List Finding) (xs : List X) (i : ℕ) (d : X)
+    → i < length xs
+    → given_by f (slice_get xs i) ≡ f (get_or xs i d)
 given_at f xs i d inside = ap (given_by f) (slice_get-get_or xs i d inside)
 
-pub more_clashes : (claims : List Claim) (i : ℕ) (d : Claim) (start now next : List Finding) → i < length claims → now ≡ start ++ clashes_of claims i → next ≡ now ++ filter_map (clash_of (get_or claims i d)) (take i claims) → next ≡ start ++ clashes_of claims (i + 1)
+pub more_clashes : (claims : List Claim) (i : ℕ) (d : Claim) (start now next : List Finding)
+    → i < length claims
+    → now ≡ start ++ clashes_of claims i
+    → next ≡ now ++ filter_map (clash_of (get_or claims i d)) (take i claims)
+    → next ≡ start ++ clashes_of claims (i + 1)
 unfolding clashes_of
 more_clashes claims i d start now next inside e n =
     let part = given_at (λ claim. filter_map (clash_of claim) (take i claims)) claims i d inside in
-    let all : next ≡ start ++ clashes_of claims (suc i) = joined_more start (clashes_of claims i) _ now next e (n ∙ ap (λ z. now ++ z) (sym part)) in
+    let all : next ≡ start ++ clashes_of claims (suc i) =
+    joined_more start (clashes_of claims i) _ now next e (n ∙ ap (λ z. now ++ z) (sym part)) in
     subst (λ k. next ≡ start ++ clashes_of claims k) (sym (add-one i)) all
 
 pub no_clashes : (claims : List Claim) (start : List Finding) → start ≡ start ++ clashes_of claims 0
 unfolding clashes_of
 no_clashes claims start = sym (append_nil start)
 
-pub more_mapped : (claims : List Claim) (tables : List Reached) (i : ℕ) (d : Reached) (start now next : List Finding) → i < length tables → now ≡ start ++ mapped_in claims tables i → next ≡ now ++ filter_map (mapped_of (get_or tables i d)) claims → next ≡ start ++ mapped_in claims tables (i + 1)
+pub more_mapped : (claims : List Claim) (tables : List Reached) (i : ℕ) (d : Reached) (start now next : List Finding)
+    → i < length tables
+    → now ≡ start ++ mapped_in claims tables i
+    → next ≡ now ++ filter_map (mapped_of (get_or tables i d)) claims
+    → next ≡ start ++ mapped_in claims tables (i + 1)
 unfolding mapped_in
 more_mapped claims tables i d start now next inside e n =
     let part = given_at (λ table. filter_map (mapped_of table) claims) tables i d inside in
-    let all : next ≡ start ++ mapped_in claims tables (suc i) = joined_more start (mapped_in claims tables i) _ now next e (n ∙ ap (λ z. now ++ z) (sym part)) in
+    let all : next ≡ start ++ mapped_in claims tables (suc i) =
+    joined_more start (mapped_in claims tables i) _ now next e (n ∙ ap (λ z. now ++ z) (sym part)) in
     subst (λ k. next ≡ start ++ mapped_in claims tables k) (sym (add-one i)) all
 
-pub no_mapped : (claims : List Claim) (tables : List Reached) (start : List Finding) → start ≡ start ++ mapped_in claims tables 0
+pub no_mapped : (claims : List Claim) (tables : List Reached) (start : List Finding)
+    → start ≡ start ++ mapped_in claims tables 0
 unfolding mapped_in
 no_mapped claims tables start = sym (append_nil start)
 
-pub more_met : (tables : List Reached) (i : ℕ) (d : Reached) (start now next : List Finding) → i < length tables → now ≡ start ++ met_in tables i → next ≡ now ++ filter_map (met_of (get_or tables i d)) (take i tables) → next ≡ start ++ met_in tables (i + 1)
+pub more_met : (tables : List Reached) (i : ℕ) (d : Reached) (start now next : List Finding)
+    → i < length tables
+    → now ≡ start ++ met_in tables i
+    → next ≡ now ++ filter_map (met_of (get_or tables i d)) (take i tables)
+    → next ≡ start ++ met_in tables (i + 1)
 unfolding met_in
 more_met tables i d start now next inside e n =
     let part = given_at (λ table. filter_map (met_of table) (take i tables)) tables i d inside in
-    let all : next ≡ start ++ met_in tables (suc i) = joined_more start (met_in tables i) _ now next e (n ∙ ap (λ z. now ++ z) (sym part)) in
+    let all : next ≡ start ++ met_in tables (suc i) =
+    joined_more start (met_in tables i) _ now next e (n ∙ ap (λ z. now ++ z) (sym part)) in
     subst (λ k. next ≡ start ++ met_in tables k) (sym (add-one i)) all
 
 pub no_met : (tables : List Reached) (start : List Finding) → start ≡ start ++ met_in tables 0
@@ -81,7 +115,10 @@ unfolding met_in
 no_met tables start = sym (append_nil start)
 
 -- frames of a range one by one
-first_step : (claims : List Claim) (frame n : ℕ) → first_from claims frame (suc n) ≡ (if nat_le (2 ^ 64) frame then None else (if not (list_any (borrows_frame frame) claims) then Some frame else first_from claims (frame + 1) n))
+first_step : (claims : List Claim) (frame n : ℕ)
+    → first_from claims frame (suc n)
+    ≡ (if nat_le (2 ^ 64) frame then None
+    else (if not (list_any (borrows_frame frame) claims) then Some frame else first_from claims (frame + 1) n))
 unfolding first_from
 first_step claims frame n = refl
 
@@ -89,37 +126,60 @@ no_frame : (claims : List Claim) (frame : ℕ) → first_from claims frame 0 ≡
 unfolding first_from
 no_frame claims frame = refl
 
-at_step : (claims : List Claim) (frame count i : ℕ) → i < count → first_from claims (frame + i) (count - i) ≡ (if nat_le (2 ^ 64) (frame + i) then None else (if not (list_any (borrows_frame (frame + i)) claims) then Some (frame + i) else first_from claims (frame + i + 1) (count - (i + 1))))
+at_step : (claims : List Claim) (frame count i : ℕ)
+    → i < count
+    → first_from claims (frame + i) (count - i)
+    ≡ (if nat_le (2 ^ 64) (frame + i) then None
+    else (if not (list_any (borrows_frame (frame + i)) claims) then Some (frame + i)
+    else first_from claims (frame + i + 1) (count - (i + 1))))
 at_step claims frame count i h =
     let e : count - i ≡ suc (count - (i + 1)) = omega arith in
     ap (first_from claims (frame + i)) e ∙ first_step claims (frame + i) (count - (i + 1))
 
-pub past_frames : (claims : List Claim) (frame count i : ℕ) (goal : Option ℕ) → i < count → 2 ^ 64 ≤ frame + i → first_from claims (frame + i) (count - i) ≡ goal → None ≡ goal
+pub past_frames : (claims : List Claim) (frame count i : ℕ) (goal : Option ℕ)
+    → i < count
+    → 2 ^ 64 ≤ frame + i
+    → first_from claims (frame + i) (count - i) ≡ goal
+    → None ≡ goal
 past_frames claims frame count i goal h past e =
     let t : nat_le (2 ^ 64) (frame + i) ≡ true = grind (arith, nat_tests) in
     let here = at_step claims frame count i h in
     sym (rw t at here) ∙ e
 
-pub found_frame : (claims : List Claim) (frame count i : ℕ) (goal : Option ℕ) → i < count → frame + i < 2 ^ 64 → list_any (borrows_frame (frame + i)) claims ≡ false → first_from claims (frame + i) (count - i) ≡ goal → Some (frame + i) ≡ goal
+pub found_frame : (claims : List Claim) (frame count i : ℕ) (goal : Option ℕ)
+    → i < count
+    → frame + i < 2 ^ 64
+    → list_any (borrows_frame (frame + i)) claims ≡ false
+    → first_from claims (frame + i) (count - i) ≡ goal
+    → Some (frame + i) ≡ goal
 found_frame claims frame count i goal h small none e =
     let t : nat_le (2 ^ 64) (frame + i) ≡ false = grind (arith, nat_tests) in
     let here = at_step claims frame count i h in
     sym (rw (t, none) at here) ∙ e
 
-pub next_frame : (claims : List Claim) (frame count i : ℕ) (goal : Option ℕ) → i < count → frame + i < 2 ^ 64 → list_any (borrows_frame (frame + i)) claims ≡ true → first_from claims (frame + i) (count - i) ≡ goal → first_from claims (frame + (i + 1)) (count - (i + 1)) ≡ goal
+pub next_frame : (claims : List Claim) (frame count i : ℕ) (goal : Option ℕ)
+    → i < count
+    → frame + i < 2 ^ 64
+    → list_any (borrows_frame (frame + i)) claims ≡ true
+    → first_from claims (frame + i) (count - i) ≡ goal
+    → first_from claims (frame + (i + 1)) (count - (i + 1)) ≡ goal
 next_frame claims frame count i goal h small some e =
     let t : nat_le (2 ^ 64) (frame + i) ≡ false = grind (arith, nat_tests) in
     let here = at_step claims frame count i h in
     let same : frame + (i + 1) ≡ frame + i + 1 = omega arith in
     ap (λ f. first_from claims f (count - (i + 1))) same ∙ (sym (rw (t, some) at here) ∙ e)
 
-pub first_frame : (claims : List Claim) (frame count : ℕ) → first_from claims (frame + 0) (count - 0) ≡ first_from claims frame count
+pub first_frame : (claims : List Claim) (frame count : ℕ)
+    → first_from claims (frame + 0) (count - 0) ≡ first_from claims frame count
 first_frame claims frame count =
     let f : frame + 0 ≡ frame = omega arith in
     let n : count - 0 ≡ count = omega arith in
     ap (λ k. first_from claims k (count - 0)) f ∙ ap (first_from claims frame) n
 
-pub no_more_frames : (claims : List Claim) (frame count i : ℕ) (goal : Option ℕ) → count ≤ i → first_from claims (frame + i) (count - i) ≡ goal → None ≡ goal
+pub no_more_frames : (claims : List Claim) (frame count i : ℕ) (goal : Option ℕ)
+    → count ≤ i
+    → first_from claims (frame + i) (count - i) ≡ goal
+    → None ≡ goal
 no_more_frames claims frame count i goal h e =
     let n : count - i ≡ 0 = omega arith in
     sym (no_frame claims (frame + i)) ∙ (ap (first_from claims (frame + i)) (sym n) ∙ e)

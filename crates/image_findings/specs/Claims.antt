@@ -8,11 +8,32 @@ use Rattle.table_words.specs.declared.word.Decoded.TheVariants.{Leaf, Annotated}
 use Rattle.walked_tables.specs.declared.said.Said.{Said}
 use Rattle.image_findings.specs.declared.claim.Claim.{Claim}
 
--- what the pages from one on claim for their tree: a leaf its frames, an annotation of the host, tree 0, the frames of its pages
--- for the owner that it names. The annotation of a guest by its handle claims nothing.
+-- what the pages from one on claim for their tree: a leaf its frames, an annotation of the host,
+-- tree 0, the frames of its pages for the owner that it names. The annotation of a guest by its
+-- handle claims nothing.
 abbrev pub claim_by : ℕ → (page count : ℕ) → Decoded → Option Claim
-claim_by tree page count (Leaf m) = Some (record { tree = tree; page = page; frame = m.frame.0; count = count; state = m.state; named = false })
-claim_by tree page count (Annotated owner None) = if tree == 0 then Some (record { tree = owner.0; page = page; frame = page; count = count; state = Some Owned; named = true }) else None
+claim_by tree page count (Leaf m) =
+    Some
+    (record {
+      tree = tree;
+      page = page;
+      frame = m.frame.0;
+      count = count;
+      state = m.state;
+      named = false;
+    })
+claim_by tree page count (Annotated owner None) =
+    if tree == 0
+    then Some
+    (record {
+      tree = owner.0;
+      page = page;
+      frame = page;
+      count = count;
+      state = Some Owned;
+      named = true;
+    })
+    else None
 claim_by tree page count other = None
 
 abbrev pub claim_of : ℕ → Run Said → Option Claim

@@ -23,7 +23,8 @@ bad_word tree run = bad_by tree run.pages.first.0 run.pages.count run.value.0
 -- the first frame of both
 abbrev pub common_frame : Claim → Claim → Option ℕ
 common_frame a b =
-    if nat_lt a.frame b.frame then (if nat_lt (b.frame - a.frame) a.count then Some b.frame else None)
+    if nat_lt a.frame b.frame
+    then (if nat_lt (b.frame - a.frame) a.count then Some b.frame else None)
     else (if nat_lt (a.frame - b.frame) b.count then Some a.frame else None)
 
 -- the claims of a tree that the host names as the owner, and that maps the frames itself
@@ -34,7 +35,8 @@ are_apart a b = a.tree == b.tree && (a.named || b.named)
 abbrev pub clash_at : Claim → Claim → Option ℕ → Option Finding
 clash_at second first None = None
 clash_at second first (Some frame) =
-    if (owns first && owns second) && not (are_apart first second) then Some (TwoOwners frame first second)
+    if (owns first && owns second)
+    && not (are_apart first second) then Some (TwoOwners frame first second)
     else (if borrows first && borrows second then Some (TwoBorrowers frame first second) else None)
 
 abbrev pub clash_of : Claim → Claim → Option Finding
@@ -48,7 +50,9 @@ given_by f (Some x) = f x
 -- the clashes of the first `n` claims, each with those before it
 unfoldable pub clashes_of : List Claim → ℕ → List Finding
 clashes_of claims zero = []
-clashes_of claims (suc n) = clashes_of claims n ++ given_by (λ claim. filter_map (clash_of claim) (take n claims)) (slice_get claims n)
+clashes_of claims (suc n) =
+    clashes_of claims n
+    ++ given_by (λ claim. filter_map (clash_of claim) (take n claims)) (slice_get claims n)
 
 -- a claim has a frame
 abbrev pub has_frame : Claim → ℕ → Bool
@@ -56,12 +60,16 @@ has_frame c frame = nat_le c.frame frame && nat_lt (frame - c.frame) c.count
 
 -- the host or a guest maps a table; the hypervisor, tree 1, may
 abbrev pub mapped_of : Reached → Claim → Option Finding
-mapped_of table claim = if (claim.named || claim.tree == 1) || not (has_frame claim table.frame) then None else Some (MappedTable table claim)
+mapped_of table claim =
+    if (claim.named || claim.tree == 1) || not (has_frame claim table.frame) then None
+    else Some (MappedTable table claim)
 
 -- those of the first `n` tables
 unfoldable pub mapped_in : List Claim → List Reached → ℕ → List Finding
 mapped_in claims tables zero = []
-mapped_in claims tables (suc n) = mapped_in claims tables n ++ given_by (λ table. filter_map (mapped_of table) claims) (slice_get tables n)
+mapped_in claims tables (suc n) =
+    mapped_in claims tables n
+    ++ given_by (λ table. filter_map (mapped_of table) claims) (slice_get tables n)
 
 -- two tables have one frame
 abbrev pub met_of : Reached → Reached → Option Finding
@@ -70,4 +78,6 @@ met_of second first = if first.frame == second.frame then Some (MetTwice first s
 -- of the first `n` tables, each with those before it
 unfoldable pub met_in : List Reached → ℕ → List Finding
 met_in tables zero = []
-met_in tables (suc n) = met_in tables n ++ given_by (λ table. filter_map (met_of table) (take n tables)) (slice_get tables n)
+met_in tables (suc n) =
+    met_in tables n
+    ++ given_by (λ table. filter_map (met_of table) (take n tables)) (slice_get tables n)

@@ -14,14 +14,34 @@ pub record HaveFrame (claims : List Claim) (i j : ℕ) (a b : Claim) (frame : �
   pub in_first : has_frame a frame ≡ true
   pub in_second : has_frame b frame ≡ true
 
--- where no clash is named, two claims own a frame only where the host names a tree as the owner and the tree maps it
+-- where no clash is named, two claims own a frame only where the host names a tree as the owner and
+-- the tree maps it
 abbrev pub HaveOneOwner : Type 0
-HaveOneOwner = (claims : List Claim) (i j : ℕ) (a b : Claim) (frame : ℕ) → clashes_of claims (length claims) ≡ [] → HaveFrame claims i j a b frame → owns a ≡ true → owns b ≡ true → are_apart a b ≡ true
+HaveOneOwner =
+    (claims : List Claim) (i j : ℕ) (a b : Claim) (frame : ℕ)
+    → clashes_of claims (length claims) ≡ []
+    → HaveFrame claims i j a b frame
+    → owns a ≡ true
+    → owns b ≡ true
+    → are_apart a b ≡ true
 
 -- and no two borrow one
 abbrev pub HaveOneBorrower : Type 0
-HaveOneBorrower = (claims : List Claim) (i j : ℕ) (a b : Claim) (frame : ℕ) → clashes_of claims (length claims) ≡ [] → HaveFrame claims i j a b frame → borrows a ≡ true → borrows b ≡ true → ⊥
+HaveOneBorrower =
+    (claims : List Claim) (i j : ℕ) (a b : Claim) (frame : ℕ)
+    → clashes_of claims (length claims) ≡ []
+    → HaveFrame claims i j a b frame
+    → borrows a ≡ true
+    → borrows b ≡ true
+    → ⊥
 
 -- where no share is named, each frame that a claim shares has a borrower
 abbrev pub AreBorrowed : Type 0
-AreBorrowed = (claims : List Claim) (i k : ℕ) (a : Claim) → filter_map (unborrowed_of claims) claims ≡ [] → slice_get claims i ≡ Some a → shares a ≡ true → k < a.count → a.frame + a.count < 2 ^ 64 → list_any (borrows_frame (a.frame + k)) claims ≡ true
+AreBorrowed =
+    (claims : List Claim) (i k : ℕ) (a : Claim)
+    → filter_map (unborrowed_of claims) claims ≡ []
+    → slice_get claims i ≡ Some a
+    → shares a ≡ true
+    → k < a.count
+    → a.frame + a.count < 2 ^ 64
+    → list_any (borrows_frame (a.frame + k)) claims ≡ true

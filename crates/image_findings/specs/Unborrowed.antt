@@ -21,4 +21,6 @@ first_from claims frame (suc n) =
 
 -- what a claim shares and nobody borrows
 abbrev pub unborrowed_of : List Claim → Claim → Option Finding
-unborrowed_of claims claim = if not (shares claim) then None else option_map (λ frame. NoBorrower frame claim) (first_from claims claim.frame claim.count)
+unborrowed_of claims claim =
+    if not (shares claim) then None
+    else option_map (λ frame. NoBorrower frame claim) (first_from claims claim.frame claim.count)

@@ -57,7 +57,8 @@ fn clash(second: &Claim, first: &Claim) -> Option<Finding>
 
 /// Adds the clashes of a claim with earlier ones.
 fn add_with(claim: &Claim, earlier: &[Claim], found: &mut Vec<Finding>) -> Result<(), AllocError>
-    ensures { OnOk result (found.new.items ≡ found.old.items ++ filter_map (clash_of claim.now) earlier.now) }
+    ensures { OnOk result
+        (found.new.items ≡ found.old.items ++ filter_map (clash_of claim.now) earlier.now) }
 {
     for i in 0..earlier.len() {
         add(found, clash(claim, &earlier[i]))?;

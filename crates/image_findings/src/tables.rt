@@ -34,7 +34,8 @@ fn add_mapped_by(
     claims: &[Claim],
     found: &mut Vec<Finding>,
 ) -> Result<(), AllocError>
-    ensures { OnOk result (found.new.items ≡ found.old.items ++ filter_map (mapped_of table.now) claims.now) }
+    ensures { OnOk result
+        (found.new.items ≡ found.old.items ++ filter_map (mapped_of table.now) claims.now) }
 {
     for i in 0..claims.len() {
         add(found, mapped(table, &claims[i]))?;
@@ -48,7 +49,9 @@ pub fn add_mapped(
     claims: &[Claim],
     found: &mut Vec<Finding>,
 ) -> Result<(), AllocError>
-    ensures { OnOk result (found.new.items ≡ found.old.items ++ mapped_in claims.now tables.now (length tables.now)) }
+    ensures { OnOk result
+        (found.new.items
+        ≡ found.old.items ++ mapped_in claims.now tables.now (length tables.now)) }
 {
     for i in 0..tables.len() {
         add_mapped_by(&tables[i], claims, found)?;

@@ -57,7 +57,8 @@ fn unborrowed(claims: &[Claim], claim: &Claim) -> Option<Finding>
 
 /// Adds each claim that shares a frame that nobody borrows, with the first such frame.
 pub fn add_unborrowed(claims: &[Claim], found: &mut Vec<Finding>) -> Result<(), AllocError>
-    ensures { OnOk result (found.new.items ≡ found.old.items ++ filter_map (unborrowed_of claims.now) claims.now) }
+    ensures { OnOk result
+        (found.new.items ≡ found.old.items ++ filter_map (unborrowed_of claims.now) claims.now) }
 {
     for i in 0..claims.len() {
         add(found, unborrowed(claims, &claims[i]))?;

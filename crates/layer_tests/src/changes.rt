@@ -386,7 +386,8 @@ fn in_hand<A: Allocator + Copy>(
     requires entry_in { IsRangeEntry range.count entry }
     ensures bits { bench.new.tree.geometry ≡ Bits39 }
     ensures said { CanBeSaidOn range.count entry }
-    ensures hand { IfOk result (λ s. AreInHand (edit_on range entry) bench.new.tree bench.new.pool (frames_of s.stock)) }
+    ensures hand { IfOk result
+        (λ s. AreInHand (edit_on range entry) bench.new.tree bench.new.pool (frames_of s.stock)) }
 {
     let mut reads = Reads::new();
     let spare = reserve(

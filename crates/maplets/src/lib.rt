@@ -78,7 +78,8 @@ impl Maplets {
         requires pages { range.first.0 + range.count ≤ 2 ^ 63 }
         requires frames { ForSome target (λ t. HasFrameBelow t range.count) }
         requires room { 2 ≤ self.old.room }
-        ensures map { map_of self.new.runs ≡ update (map_of self.old.runs) range.first.0 range.count (entry_of target) }
+        ensures map { map_of self.new.runs
+            ≡ update (map_of self.old.runs) range.first.0 range.count (entry_of target) }
         ensures coarsest { IsCoarsest self.new.runs }
         ensures room { length self.new.runs + self.new.room ≡ length self.old.runs + self.old.room }
         ensures grows { length self.new.runs ≤ length self.old.runs + 2 }

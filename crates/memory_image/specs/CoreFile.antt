@@ -1,4 +1,5 @@
--- An ELF core of physical memory (ELF-64 Object File Format, "File header" and "Program header table"; Linux's elf.h).
+-- An ELF core of physical memory (ELF-64 Object File Format, "File header" and "Program header
+-- table"; Linux's elf.h).
 --
 --   Bytes    of the file header                   Bytes    of a program header
 --   0-3      0x7f 'E' 'L' 'F'                     0-3      p_type: 1 PT_LOAD
@@ -50,11 +51,18 @@ abbrev pub segment_of : List ℕ → Option Segment
 segment_of header =
     if not (number32 header 0 == 1) then None
     else (if number64 header 32 == 0 then None
-    else Some (record { address = number64 header 24; at = number64 header 8; count = number64 header 32 }))
+    else Some
+    (record {
+      address = number64 header 24;
+      at = number64 header 8;
+      count = number64 header 32;
+    }))
 
 -- two segments share an address
 abbrev pub shares_address : Segment → Segment → Bool
-shares_address s t = if nat_lt s.address t.address then nat_lt (t.address - s.address) s.count else nat_lt (s.address - t.address) t.count
+shares_address s t =
+    if nat_lt s.address t.address then nat_lt (t.address - s.address) s.count
+    else nat_lt (s.address - t.address) t.count
 
 -- a segment's bytes in the file end at a place that 64 bits say
 abbrev pub IsPlaced : Segment → Type 0
@@ -65,7 +73,8 @@ abbrev pub fault_of : (count : ℕ) → List Segment → ℕ → Segment → Opt
 fault_of count before place s =
     if nat_lt (2 ^ 52) (s.address + s.count) then Some (record { at = place + 24; why = PastLimit })
     else (if nat_lt count (s.at + s.count) then Some (record { at = place + 8; why = Truncated })
-    else (if list_any (λ t. shares_address t s) before then Some (record { at = place + 24; why = Overlap })
+    else (if list_any (λ t. shares_address t s) before
+    then Some (record { at = place + 24; why = Overlap })
     else None))
 
 -- the segments with one more, unless that has a fault
@@ -83,18 +92,24 @@ abbrev pub and_then : {X Y : Type 0} → Result X Fault → (X → Result Y Faul
 and_then (Ok x) next = next x
 and_then (Err f) next = Err f
 
--- the segments of the first program headers of a file of `count` bytes, or the first thing that is wrong
+-- the segments of the first program headers of a file of `count` bytes, or the first thing that is
+-- wrong
 unfoldable pub segments_of : (count : ℕ) → List ℕ → Table → ℕ → Result (List Segment) Fault
 segments_of count bytes table zero = Ok []
 segments_of count bytes table (suc n) =
-    and_then (segments_of count bytes table n) (λ before. joined_by count before (table.at + 56 * n) (segment_of (piece bytes (table.at + 56 * n) 56)))
+    and_then (segments_of count bytes table n)
+    (λ before. joined_by count before (table.at + 56 * n)
+    (segment_of (piece bytes (table.at + 56 * n) 56)))
 
 -- the segments of a core, or the first thing that is wrong
 abbrev pub core_of : List ℕ → Result (List Segment) Fault
 core_of bytes =
     if nat_lt (length bytes) 64 then fault Truncated 0
-    else and_then (table_of (length bytes) (piece bytes 0 64)) (λ table. segments_of (length bytes) bytes table table.headers)
+    else and_then (table_of (length bytes) (piece bytes 0 64))
+    (λ table. segments_of (length bytes) bytes table table.headers)
 
 -- the one segment of a raw image
 abbrev pub raw_of : ℕ → List ℕ → Result (List Segment) Fault
-raw_of base bytes = if nat_lt (2 ^ 52) (base + length bytes) then fault PastLimit 0 else Ok (record { address = base; at = 0; count = length bytes } ∷ [])
+raw_of base bytes =
+    if nat_lt (2 ^ 52) (base + length bytes) then fault PastLimit 0
+    else Ok (record { address = base; at = 0; count = length bytes } ∷ [])

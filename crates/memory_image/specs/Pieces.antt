@@ -12,9 +12,15 @@ number16 b at = from_le_bytes w16 (slice_index b at ∷ slice_index b (at + 1) �
 
 -- of four
 unfoldable pub number32 : List ℕ → ℕ → ℕ
-number32 b at = from_le_bytes w32 (slice_index b at ∷ slice_index b (at + 1) ∷ slice_index b (at + 2) ∷ slice_index b (at + 3) ∷ [])
+number32 b at =
+    from_le_bytes w32
+    (slice_index b at ∷ slice_index b (at + 1) ∷ slice_index b (at + 2)
+    ∷ slice_index b (at + 3) ∷ [])
 
 -- of eight
 unfoldable pub number64 : List ℕ → ℕ → ℕ
 number64 b at =
-    from_le_bytes w64 (slice_index b at ∷ slice_index b (at + 1) ∷ slice_index b (at + 2) ∷ slice_index b (at + 3) ∷ slice_index b (at + 4) ∷ slice_index b (at + 5) ∷ slice_index b (at + 6) ∷ slice_index b (at + 7) ∷ [])
+    from_le_bytes w64
+    (slice_index b at ∷ slice_index b (at + 1) ∷ slice_index b (at + 2)
+    ∷ slice_index b (at + 3) ∷ slice_index b (at + 4) ∷ slice_index b (at + 5)
+    ∷ slice_index b (at + 6) ∷ slice_index b (at + 7) ∷ [])

@@ -71,7 +71,8 @@ fn join(count: u64, found: &mut Vec<Segment>, place: u64, header: &[u8]) -> Resu
     requires header { length header.now ≡ 56 }
     requires place { place + 56 ≤ count }
     requires placed { All IsPlaced found.old.items }
-    ensures joined { IsJoined (joined_by count found.old.items place (segment_of header.now)) found.new.items result }
+    ensures joined { IsJoined
+        (joined_by count found.old.items place (segment_of header.now)) found.new.items result }
     ensures placed { OnOk result (All IsPlaced found.new.items) }
 {
     let Some(segment) = segment_in(header) else {

@@ -18,16 +18,22 @@ use Rattle.owner_table.specs.Rows.{row_at, rows_set, HasRows, HasSameFrames}
 
 -- a coarsest list with room for a run a frame, and two more, has room for two more
 pub few_enough : (runs : List (Run Row)) (room end : ℕ) → HasRoom runs room end → 2 ≤ room
-few_enough runs room end h = let few = runs_no_more advance_row runs end h.coarsest h.outside in let e = h.enough in omega arith
+few_enough runs room end h = let few = runs_no_more advance_row runs end h.coarsest h.outside in
+    let e = h.enough in
+    omega arith
 
 pub inside : (first count f : ℕ) → is_within first count f ≡ true → (first ≤ f) × (f < first + count)
 inside first count f h = (grind (arith, nat_tests), grind (arith, nat_tests))
 
 -- a frame of a range has the row, advanced by its distance from the first, and any other what it had
-pub set-in : (m : ℕ → Option Row) (frames : PageRange) (row : Row) (f : ℕ) → is_in_range frames f ≡ true → rows_set m frames row f ≡ Some (advance_row row (f - frames.first.0))
+pub set-in : (m : ℕ → Option Row) (frames : PageRange) (row : Row) (f : ℕ)
+    → is_in_range frames f ≡ true
+    → rows_set m frames row f ≡ Some (advance_row row (f - frames.first.0))
 set-in m frames row f h = if-true (is_in_range frames f) (Some (advance_row row (f - frames.first.0))) (m f) h
 
-pub set-out : (m : ℕ → Option Row) (frames : PageRange) (row : Row) (f : ℕ) → is_in_range frames f ≡ false → rows_set m frames row f ≡ m f
+pub set-out : (m : ℕ → Option Row) (frames : PageRange) (row : Row) (f : ℕ)
+    → is_in_range frames f ≡ false
+    → rows_set m frames row f ≡ m f
 set-out m frames row f h = if-false (is_in_range frames f) (Some (advance_row row (f - frames.first.0))) (m f) h
 
 one-some : (o : Option Row) → IsSome o → one_of o ≡ 1
@@ -47,7 +53,8 @@ some-same None p e k = cc
 some-same (Some r) None e k = cc
 some-same (Some r) (Some q) e k = refl
 
-module _ (m : ℕ → Option Row) (frames : PageRange) (row : Row) (known : (f : ℕ) → frames.first.0 ≤ f → f < frames.first.0 + frames.count → IsSome (m f)) where
+module _ (m : ℕ → Option Row) (frames : PageRange) (row : Row)
+    (known : (f : ℕ) → frames.first.0 ≤ f → f < frames.first.0 + frames.count → IsSome (m f)) where
   had : (f : ℕ) → is_in_range frames f ≡ true → IsSome (m f)
   had f h = let i = inside frames.first.0 frames.count f h in known f i.0 i.1
 
@@ -70,12 +77,26 @@ module _ (m : ℕ → Option Row) (frames : PageRange) (row : Row) (known : (f :
   pub same-frames : (f : ℕ) → IsSome (rows_set m frames row f) ↔ IsSome (m f)
   same-frames f =
       by_test (is_in_range frames f)
-      (λ h. (λ _. had f h, λ _. some-made (rows_set m frames row f) (advance_row row (f - frames.first.0)) (set-in m frames row f h)))
-      (λ h. (some-same (rows_set m frames row f) (m f) (set-out m frames row f h), some-same (m f) (rows_set m frames row f) (sym (set-out m frames row f h))))
+      (λ h. (
+        λ _. had f h,
+        λ _. some-made (rows_set m frames row f) (advance_row row (f - frames.first.0))
+            (set-in m frames row f h),
+      ))
+      (λ h. (
+        some-same (rows_set m frames row f) (m f) (set-out m frames row f h),
+        some-same (m f) (rows_set m frames row f) (sym (set-out m frames row f h)),
+      ))
 
-pub room-kept : (old new : List (Run Row)) (room left end : ℕ) (frames : PageRange) (row : Row) → HasRows old frames → HasRoom old room end → row_at new ≡ rows_set (row_at old) frames row → IsCoarsest advance_row new → left + length new ≡ room + length old → HasRoom new left end
+pub room-kept : (old new : List (Run Row)) (room left end : ℕ) (frames : PageRange) (row : Row)
+    → HasRows old frames
+    → HasRoom old room end
+    → row_at new ≡ rows_set (row_at old) frames row
+    → IsCoarsest advance_row new
+    → left + length new ≡ room + length old
+    → HasRoom new left end
 room-kept old new room left end frames row known h e c r =
-    let same : pages_of (row_at new) end ≡ pages_of (row_at old) end = ap (λ m. pages_of m end) e ∙ pages-kept (row_at old) frames row known end in
+    let same : pages_of (row_at new) end ≡ pages_of (row_at old) end =
+    ap (λ m. pages_of m end) e ∙ pages-kept (row_at old) frames row known end in
     let enough = h.enough in
     record {
       coarsest = c;
@@ -83,7 +104,10 @@ room-kept old new room left end frames row known h e c r =
       enough = omega arith;
     }
 
-pub frames-kept : (old new : List (Run Row)) (frames : PageRange) (row : Row) → HasRows old frames → row_at new ≡ rows_set (row_at old) frames row → HasSameFrames old new
+pub frames-kept : (old new : List (Run Row)) (frames : PageRange) (row : Row)
+    → HasRows old frames
+    → row_at new ≡ rows_set (row_at old) frames row
+    → HasSameFrames old new
 frames-kept old new frames row known e f =
     let here = same-frames (row_at old) frames row known f in
     let at : row_at new f ≡ rows_set (row_at old) frames row f = ap (λ m. m f) e in (

@@ -11,7 +11,8 @@ use Rattle.owner_table.specs.Rows.{row_at}
 unfoldable pub frame_limit : ℕ
 frame_limit = 2 ^ 26
 
--- the list is coarsest, no frame has a row from the end on, and the list can hold as many runs as frames have a row, and two more
+-- the list is coarsest, no frame has a row from the end on, and the list can hold as many runs as
+-- frames have a row, and two more
 pub record HasRoom (runs : List (Run Row)) (room end : ℕ) : Type 0 where
   pub coarsest : IsCoarsest advance_row runs
   pub outside : (f : ℕ) → end ≤ f → row_at runs f ≡ None

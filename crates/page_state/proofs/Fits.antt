@@ -26,7 +26,10 @@ leaf-said d f l s x y z =
     and-join (nat_le d 2 && nat_lt f l) (f % s == 0) (and-join (nat_le d 2) (nat_lt f l) a b) (eq-made (f % s) 0 z)
 
 -- a part of what fits a word fits a word one level below
-pub fits_part : (d i : ℕ) (x : Entry) → i < 512 → fits_word (suc d) x ≡ true → fits_word d (advance x (i * block_pages d)) ≡ true
+pub fits_part : (d i : ℕ) (x : Entry)
+    → i < 512
+    → fits_word (suc d) x ≡ true
+    → fits_word d (advance x (i * block_pages d)) ≡ true
 fits_part d i Unmapped p h = refl
 fits_part d i Malformed p h = cc
 fits_part d i (Annotated o) p h = h
@@ -46,7 +49,10 @@ fits_part (suc (suc d)) i (Leaf f a k s) p h =
     absurd (omega arith)
 
 -- and one at any level below
-pub fits_below : (e d j : ℕ) (x : Entry) → j < block_pages e → fits_word (e + d) x ≡ true → fits_word d (advance x (j * block_pages d)) ≡ true
+pub fits_below : (e d j : ℕ) (x : Entry)
+    → j < block_pages e
+    → fits_word (e + d) x ≡ true
+    → fits_word d (advance x (j * block_pages d)) ≡ true
 fits_below e d j Unmapped p h = refl
 fits_below e d j Malformed p h = cc
 fits_below e d j (Annotated o) p h = h

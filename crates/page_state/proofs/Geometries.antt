@@ -37,7 +37,11 @@ width_is bits g h = go (both (bits == 39)) (both (bits == 48)) h
     known : (w : ℕ) (k : Geometry) → w ≡ 12 + 9 * (levels_below k + 1) → k ≡ g → w ≡ 12 + 9 * (levels_below g + 1)
     known w k p e = p ∙ ap (λ x. 12 + 9 * (levels_below x + 1)) e
 
-    go : ((bits == 39) ≡ true) ⊎ ((bits == 39) ≡ false) → ((bits == 48) ≡ true) ⊎ ((bits == 48) ≡ false) → geometry_of bits ≡ Some g → bits ≡ 12 + 9 * (levels_below g + 1)
+    go : ((bits == 39) ≡ true) ⊎ ((bits == 39) ≡ false)
+        → ((bits == 48) ≡ true) ⊎ ((bits == 48) ≡ false)
+        → geometry_of bits ≡ Some g
+        → bits ≡ 12 + 9 * (levels_below g + 1)
     go (inl e) f h = let here : Some Bits39 ≡ Some g = rw e at h in eq-same bits 39 e ∙ known 39 Bits39 refl cc
-    go (inr e) (inl f) h = let here : Some Bits48 ≡ Some g = rw (e, f) at h in eq-same bits 48 f ∙ known 48 Bits48 refl cc
+    go (inr e) (inl f) h = let here : Some Bits48 ≡ Some g = rw (e, f) at h in
+        eq-same bits 48 f ∙ known 48 Bits48 refl cc
     go (inr e) (inr f) h = let none : None ≡ Some g = rw (e, f) at h in cc

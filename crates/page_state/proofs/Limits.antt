@@ -27,12 +27,26 @@ pub largest_row : LargestRow
 largest_row = (
   record {
     memory = accepted;
-    config = record { some_cpus = omega arith; cpus = omega arith; some_calls = omega arith; calls = omega arith; known = refl };
+    config =
+        record {
+          some_cpus = omega arith;
+          cpus = omega arith;
+          some_calls = omega arith;
+          calls = omega arith;
+          known = refl;
+        };
     depth = refl;
   },
   record {
     memory = accepted;
-    config = record { some_cpus = omega arith; cpus = omega arith; some_calls = omega arith; calls = omega arith; known = refl };
+    config =
+        record {
+          some_cpus = omega arith;
+          cpus = omega arith;
+          some_calls = omega arith;
+          calls = omega arith;
+          known = refl;
+        };
     depth = refl;
   },
   record { some_cpus = omega arith; cpus = omega arith; some_calls = omega arith; calls = omega arith; known = refl },

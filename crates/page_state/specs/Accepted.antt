@@ -5,7 +5,8 @@ use Rattle.page_state.specs.Geometries.{geometry_of}
 use Rattle.page_state.specs.LayoutFaults.{IsAccepted}
 use Rattle.page_state.specs.Layouts.{Layout, HasItsDepth}
 
--- an accepted configuration: 1 to 64 CPUs, logs of 1 to 1,048,576 calls, and a width of input addresses whose geometry is known
+-- an accepted configuration: 1 to 64 CPUs, logs of 1 to 1,048,576 calls, and a width of input
+-- addresses whose geometry is known
 pub record IsAcceptedConfig (c : Config) : Type 0 where
   pub some_cpus : 1 ≤ c.cpus
   pub cpus : c.cpus ≤ 64
@@ -13,7 +14,8 @@ pub record IsAcceptedConfig (c : Config) : Type 0 where
   pub calls : c.log ≤ 1048576
   pub known : IsSome (geometry_of c.geometry)
 
--- an accepted layout: its memory and its configuration are accepted, and its depth is that of the configuration's geometry
+-- an accepted layout: its memory and its configuration are accepted, and its depth is that of the
+-- configuration's geometry
 pub record IsAcceptedLayout (l : Layout) : Type 0 where
   pub memory : IsAccepted l.memory
   pub config : IsAcceptedConfig l.config

@@ -14,11 +14,18 @@ use Rattle.page_state.specs.Blocks.{span, first_page, fits_word, is_one_word, is
 
 -- an update reads as the advanced entry inside its range
 abbrev pub UpdateInside : Type 0
-UpdateInside = (m : Map) (first count : ℕ) (e : Entry) (page : ℕ) → first ≤ page → page < first + count → update m first count e page ≡ advance e (page - first)
+UpdateInside =
+    (m : Map) (first count : ℕ) (e : Entry) (page : ℕ)
+    → first ≤ page
+    → page < first + count
+    → update m first count e page ≡ advance e (page - first)
 
 -- and as the map before outside of it
 abbrev pub UpdateOutside : Type 0
-UpdateOutside = (m : Map) (first count : ℕ) (e : Entry) (page : ℕ) → (page < first) ⊎ (first + count ≤ page) → update m first count e page ≡ m page
+UpdateOutside =
+    (m : Map) (first count : ℕ) (e : Entry) (page : ℕ)
+    → (page < first) ⊎ (first + count ≤ page)
+    → update m first count e page ≡ m page
 
 -- a map has at most one coarsest list of runs
 abbrev pub CoarsestOnce : Type 0
@@ -26,13 +33,17 @@ CoarsestOnce = (rs ss : List Run) → IsCoarsest rs → IsCoarsest ss → map_of
 
 -- each finite map has one
 abbrev pub CoarsestOfMap : Type 0
-CoarsestOfMap = (m : Map) (bound : ℕ) → ((page : ℕ) → bound ≤ page → m page ≡ Unmapped) → (cs : List Run) × IsCoarsest cs × (map_of cs ≡ m)
+CoarsestOfMap =
+    (m : Map) (bound : ℕ)
+    → ((page : ℕ) → bound ≤ page → m page ≡ Unmapped)
+    → (cs : List Run) × IsCoarsest cs × (map_of cs ≡ m)
 
 -- each list of runs has a coarsest list with the same map
 abbrev pub CoarsestExists : Type 0
 CoarsestExists = (rs : List Run) → (cs : List Run) × IsCoarsest cs × (map_of cs ≡ map_of rs)
 
--- a word of a level, by the depth below it, can say an entry just where the word relation has such a word
+-- a word of a level, by the depth below it, can say an entry just where the word relation has such
+-- a word
 abbrev pub FitsWord : ℕ → Level → Type 0
 FitsWord depth level = (e : Entry) → (fits_word depth e ≡ true) ↔ CanBeSaid level (word_of_entry e)
 
@@ -42,17 +53,31 @@ FitsEachWord = FitsWord 0 Three × FitsWord 1 Two × FitsWord 2 One × FitsWord 
 
 -- a block can be one word where one entry that fits advances along all of it
 abbrev pub OneWordMeans : Type 0
-OneWordMeans = (m : Map) (b : Block) → (is_one_word m b ≡ true) ↔ ((fits_word b.0 (m (first_page b)) ≡ true) × ((i : ℕ) → i < span b → m (first_page b + i) ≡ advance (m (first_page b)) i))
+OneWordMeans =
+    (m : Map) (b : Block)
+    → (is_one_word m b ≡ true)
+    ↔ ((fits_word b.0 (m (first_page b)) ≡ true)
+    × ((i : ℕ) → i < span b → m (first_page b + i) ≡ advance (m (first_page b)) i))
 
 -- a block is empty where none of its pages is mapped
 abbrev pub EmptyMeans : Type 0
-EmptyMeans = (m : Map) (b : Block) → (is_empty m b ≡ true) ↔ ((i : ℕ) → i < span b → m (first_page b + i) ≡ Unmapped)
+EmptyMeans =
+    (m : Map) (b : Block)
+    → (is_empty m b ≡ true) ↔ ((i : ℕ) → i < span b → m (first_page b + i) ≡ Unmapped)
 
 -- the blocks on a range are those of the depths asked for that meet it
 abbrev pub BlocksMeet : Type 0
-BlocksMeet = (top first count : ℕ) (b : Block) → 0 < count → Contains (blocks_on top first count) b ↔ ((1 ≤ b.0) × (b.0 ≤ top) × (first_page b < first + count) × (first < first_page b + span b))
+BlocksMeet =
+    (top first count : ℕ) (b : Block)
+    → 0 < count
+    → Contains (blocks_on top first count) b
+    ↔ ((1 ≤ b.0)
+    × (b.0 ≤ top)
+    × (first_page b < first + count)
+    × (first < first_page b + span b))
 
--- one block comes before another: it begins on an earlier page, or on the same one and is the greater
+-- one block comes before another: it begins on an earlier page, or on the same one and is the
+-- greater
 abbrev pub ComesBefore : Block → Block → Type 0
 ComesBefore a b = (first_page a < first_page b) ⊎ ((first_page a ≡ first_page b) × (b.0 < a.0))
 

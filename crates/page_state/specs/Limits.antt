@@ -10,7 +10,12 @@ use Rattle.page_state.specs.Regions.{Memory}
 -- memory of `count` pages from 0x40000 on, with a carve-out of its first 64
 abbrev pub memory : ℕ → Memory
 memory count = record {
-  regions = record { kind = memory_kind; pages = record { first = record { 0 = 0x40000 }; count = count } } ∷ [];
+  regions =
+      record {
+        kind = memory_kind;
+        pages = record { first = record { 0 = 0x40000 }; count = count };
+      }
+      ∷ [];
   carve = record { first = record { 0 = 0x40000 }; count = 64 };
 }
 
@@ -22,11 +27,20 @@ config cpus log bits = record { cpus = cpus; log = log; geometry = bits }
 abbrev pub largest : Layout
 largest = record { memory = memory 0x80000; config = config 64 0x100000 39; depth = 2 }
 
--- the largest layout is accepted, with either width of input addresses, and so are one CPU and logs of one call
+-- the largest layout is accepted, with either width of input addresses, and so are one CPU and logs
+-- of one call
 abbrev pub LargestRow : Type 0
-LargestRow = IsAcceptedLayout largest × IsAcceptedLayout (record largest { config = config 64 0x100000 48; depth = 3 }) × IsAcceptedConfig (config 1 1 39)
+LargestRow =
+    IsAcceptedLayout largest
+    × IsAcceptedLayout (record largest { config = config 64 0x100000 48; depth = 3 })
+    × IsAcceptedConfig (config 1 1 39)
 
 -- one page, CPU or call more isn't, nor are none, nor another width of input addresses
 abbrev pub PastLimitsRow : Type 0
-PastLimitsRow = ¬ IsInLimits (memory 0x80001) × ¬ IsAcceptedConfig (config 65 1 39) × ¬ IsAcceptedConfig (config 0 1 39) × ¬ IsAcceptedConfig (config 1 0x100001 39) × ¬ IsAcceptedConfig (config 1 0 39)
+PastLimitsRow =
+    ¬ IsInLimits (memory 0x80001)
+    × ¬ IsAcceptedConfig (config 65 1 39)
+    × ¬ IsAcceptedConfig (config 0 1 39)
+    × ¬ IsAcceptedConfig (config 1 0x100001 39)
+    × ¬ IsAcceptedConfig (config 1 0 39)
     × ¬ IsAcceptedConfig (config 1 1 38) × ¬ IsAcceptedLayout (record largest { depth = 3 })

@@ -2,11 +2,13 @@
 use Rattle.std.specs.Prelude.{ℕ, zero, suc, ◌+◌, ◌&&◌, ◌==◌, List, [], ◌∷◌, Option, Some, None, if◌then◌else◌}
 use Rattle.page_state.specs.Map.{Map, empty_map}
 
--- a block (d, i): the 512 ^ d aligned pages from page i * 512 ^ d on, which lie under one word and may have a table
+-- a block (d, i): the 512 ^ d aligned pages from page i * 512 ^ d on, which lie under one word and
+-- may have a table
 abbrev pub Block : Type 0
 Block = ℕ × ℕ
 
--- a tree: its map, and the frame of the table at each block; the root is the table at the block of all pages
+-- a tree: its map, and the frame of the table at each block; the root is the table at the block of
+-- all pages
 pub record Tree : Type 0 where
   pub map : Map
   pub table : Block → Option ℕ
@@ -21,7 +23,12 @@ no_tree = record { map = empty_map; table = λ b. None }
 
 -- a tree of its root alone, which has `depth` levels below it, in which nothing is mapped
 abbrev pub root_tree : ℕ → ℕ → Tree
-root_tree depth root = record { map = empty_map; table = λ b. if b.0 == depth + 1 && b.1 == 0 then Some root else None }
+root_tree depth root =
+    record {
+      map = empty_map;
+      table = λ b. if b.0 == depth + 1 && b.1 == 0 then Some root
+          else None;
+    }
 
 -- the `n` frames from the first on, in order
 abbrev pub frames_from : ℕ → ℕ → Pool

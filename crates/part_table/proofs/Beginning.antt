@@ -18,11 +18,15 @@ goes_longer b log c g = record {
 }
 
 module _ {A : Type 0} where
-  some_part : (x y : Slot A) → ◌≡◌ {A = Option (Slot A)} (Some x) (Some y) → ◌≡◌ {A = Option (Option (Slot A))} (Some (Some x)) (Some (Some y))
+  some_part : (x y : Slot A)
+      → ◌≡◌ {A = Option (Slot A)} (Some x) (Some y)
+      → ◌≡◌ {A = Option (Option (Slot A))} (Some (Some x)) (Some (Some y))
   some_part x y e = ap (λ o. Some o) e
 
   -- parts in their slots
-  pub get_mapped : (xs : List (Slot A)) (k : ℕ) (x : Slot A) → slice_get xs k ≡ Some x → slice_get (map (λ (y : Slot A). Some y) xs) k ≡ Some (Some x)
+  pub get_mapped : (xs : List (Slot A)) (k : ℕ) (x : Slot A)
+      → slice_get xs k ≡ Some x
+      → slice_get (map (λ (y : Slot A). Some y) xs) k ≡ Some (Some x)
   get_mapped [] k x e = absurd cc
   get_mapped (y ∷ xs) zero x e = some_part y x e
   get_mapped (y ∷ xs) (suc k) x e = get_mapped xs k x e
@@ -30,12 +34,15 @@ module _ {A : Type 0} where
   abbrev log_from : Slot A → Option (Slot A) → Slot A
   log_from d o = elim o [ Some x ↦ x | None ↦ d ]
 
-  pub logs_at : (xs : List (Slot A)) (k : ℕ) (x : Slot A) → slice_get xs k ≡ Some x → slice_index_or (logs_in (map (λ (y : Slot A). Some y) xs)) k [] ≡ (log_of x).calls
+  pub logs_at : (xs : List (Slot A)) (k : ℕ) (x : Slot A)
+      → slice_get xs k ≡ Some x
+      → slice_index_or (logs_in (map (λ (y : Slot A). Some y) xs)) k [] ≡ (log_of x).calls
   logs_at [] k x e = absurd cc
   logs_at (y ∷ xs) zero x e = ap (λ (o : Option (Slot A)). (log_of (log_from y o)).calls) e
   logs_at (y ∷ xs) (suc k) x e = logs_at xs k x e
 
 -- the logs of parts that lie in their slots
-pub logs_laid : {A : Type 0} (xs : List (Slot A)) → logs_in (map (λ (y : Slot A). Some y) xs) ≡ map (λ (y : Slot A). (log_of y).calls) xs
+pub logs_laid : {A : Type 0} (xs : List (Slot A))
+    → logs_in (map (λ (y : Slot A). Some y) xs) ≡ map (λ (y : Slot A). (log_of y).calls) xs
 logs_laid [] = refl
 logs_laid (x ∷ xs) = ap (λ l. (log_of x).calls ∷ l) (logs_laid xs)

@@ -24,14 +24,26 @@ use Rattle.part_table.proofs.Lists.{elem_of_get, from, get_front, get_last}
 use Rattle.part_table.proofs.Pairs.{at_bound, part_same}
 use Rattle.part_table.proofs.Root.{Ends, finals}
 
-pub ended_with : (A : Type 0) (key : TheLayout) (b : Begun) (id n : ℕ) (v : View A) (ws : List ℕ) (xs : List (Option (Slot A))) → v.begun ≡ b → id ≡ 0 → v.root ≡ true → length v.ended ≡ n → v.made ≡ n → Final (Seen (IsLawful key) id v) ws xs → Ends A key b v.ended xs
-ended_with A key b id n v ws xs same first is long made f = subst (λ (c : Begun). Ends A key c v.ended xs) same (finals A key v ws xs is (long ∙ sym made) (subst (λ (m : ℕ). Final (Seen (IsLawful key) m v) ws xs) first f))
+pub ended_with : (A : Type 0) (key : TheLayout) (b : Begun) (id n : ℕ) (v : View A) (ws : List ℕ)
+    (xs : List (Option (Slot A)))
+    → v.begun ≡ b
+    → id ≡ 0
+    → v.root ≡ true
+    → length v.ended ≡ n
+    → v.made ≡ n
+    → Final (Seen (IsLawful key) id v) ws xs
+    → Ends A key b v.ended xs
+ended_with A key b id n v ws xs same first is long made f =
+    subst (λ (c : Begun). Ends A key c v.ended xs) same
+    (finals A key v ws xs is (long ∙ sym made) (subst (λ (m : ℕ). Final (Seen (IsLawful key) m v) ws xs) first f))
 
 bound : {X : Type 0} (l : List X) (c : ℕ) (x : X) (n : ℕ) → length l ≡ n → slice_get l c ≡ Some x → c < n
 bound l c x n long e = subst (λ (m : ℕ). c < m) long (at_bound l c x (elem_of_get l c x e))
 
-module _ {A : Type 0} (t : Opened) (n : ℕ) (ended : List Ended) (xs : List (Option (Slot A))) (passes : List (Option Pass)) (cpus : List CpuState) (found : List (Slot A))
-    (f : Ends A t.layout t.begun ended xs) (have : HaveEnded n passes ended cpus) (gives : Gives parts xs found) (home : AreHomeFrom t.table n 0 passes) (all : n ≡ t.layout.config.cpus) (long : length passes ≡ n) where
+module _ {A : Type 0} (t : Opened) (n : ℕ) (ended : List Ended) (xs : List (Option (Slot A)))
+    (passes : List (Option Pass)) (cpus : List CpuState) (found : List (Slot A))
+    (f : Ends A t.layout t.begun ended xs) (have : HaveEnded n passes ended cpus) (gives : Gives parts xs found)
+    (home : AreHomeFrom t.table n 0 passes) (all : n ≡ t.layout.config.cpus) (long : length passes ≡ n) where
   abbrev key : TheLayout
   key = t.layout
 
@@ -50,12 +62,16 @@ module _ {A : Type 0} (t : Opened) (n : ℕ) (ended : List Ended) (xs : List (Op
           let h = home k (omega arith) less in
           let b = have.2 k h.0 less h.1 in
           let same : h.0.knows.own ≡ e = ap (from h.0.knows.own) (sym b.1 ∙ at) in
-          subst (λ (z : CpuState). (z.log.calls ≡ calls_by k f.log) × IsOwn (layout_of key) f.state k z) same (f.each_cpu k (ended_of h.0) b.0);
+          subst (λ (z : CpuState). (z.log.calls ≡ calls_by k f.log) × IsOwn (layout_of key) f.state k z) same
+          (f.each_cpu k (ended_of h.0) b.0);
       parts = λ k x at.
           let less : k < parts = bound found k x parts gives.0 at in
           let h = f.each_part k less in
           let same : h.0 ≡ x = part_same h.0 x (sym (gives.1 k h.0 less h.1) ∙ at) in
-          subst (λ (z : Slot A). IsPart (layout_of key) f.state k z × ((log_of z).calls ≡ calls_on (part_of k) f.log)) same (h.2, h.3);
+          subst
+          (λ (z : Slot A). IsPart (layout_of key) f.state k z
+          × ((log_of z).calls ≡ calls_on (part_of k) f.log)) same
+          (h.2, h.3);
     };
   }
 
@@ -79,13 +95,16 @@ module _ {A : Type 0} (t : Opened) (n : ℕ) (ended : List Ended) (xs : List (Op
   keeps_tried : ForEach passes (KeepsTried key found)
   keeps_tried c p there =
       let ends = (have.2 c p (bound passes c (Some p) n long there) there).0 in
-      found_fronts key found f.log p.knows.tries (λ k less. let h = f.each_part k less in (h.0, gives.1 k h.0 less h.1, h.3)) (f.tried c (ended_of p) ends)
+      found_fronts key found f.log p.knows.tries
+      (λ k less. let h = f.each_part k less in (h.0, gives.1 k h.0 less h.1, h.3)) (f.tried c (ended_of p) ends)
 
   pub end_for : IsEndFor t found cpus (ForEach passes)
   end_for = record { end = is_end; goes_on = f.goes_on; own = keeps_own; seen = keeps_seen; tried = keeps_tried }
 
 -- the parts of the first n places
-parts_of : {A : Type 0} (xs : List (Option (Slot A))) (n : ℕ) → ((k : ℕ) → k < n → (x : Slot A) × (get_elem? xs k ≡ some (Some x))) → (found : List (Slot A)) × Gives n xs found
+parts_of : {A : Type 0} (xs : List (Option (Slot A))) (n : ℕ)
+    → ((k : ℕ) → k < n → (x : Slot A) × (get_elem? xs k ≡ some (Some x)))
+    → (found : List (Slot A)) × Gives n xs found
 parts_of xs zero home = ([], (refl, λ k x lt e. absurd (omega arith)))
 parts_of {A = A} xs (suc n) home =
     let rest = parts_of xs n (λ k lt. home k (omega arith)) in
@@ -94,13 +113,20 @@ parts_of {A = A} xs (suc n) home =
       (
         length-append rest.0 (last.0 ∷ []) ∙ (ap (λ m. m + 1) rest.1.0 ∙ omega arith),
         λ k x lt e. dite (ℕ_discrete k n)
-            (λ is. get_last rest.0 last.0 k (is ∙ sym rest.1.0) ∙ some-injective (Some last.0) (Some x) (sym last.1 ∙ (ap (get_elem? xs) (sym is) ∙ e)))
+            (λ is. get_last rest.0 last.0 k (is ∙ sym rest.1.0)
+            ∙ some-injective (Some last.0) (Some x) (sym last.1 ∙ (ap (get_elem? xs) (sym is) ∙ e)))
             (λ ne. get_front rest.0 (last.0 ∷ []) x k (rest.1.1 k x (omega arith) e)),
       ),
     )
 
-pub has_end : {A : Type 0} (t : Opened) (n : ℕ) (ended : List Ended) (xs : List (Option (Slot A))) (passes : List (Option Pass)) (cpus : List CpuState)
-    → Ends A t.layout t.begun ended xs → HaveEnded n passes ended cpus → AreHomeFrom t.table n 0 passes → n ≡ t.layout.config.cpus → length passes ≡ n → HasEnd A t passes
+pub has_end : {A : Type 0} (t : Opened) (n : ℕ) (ended : List Ended) (xs : List (Option (Slot A)))
+    (passes : List (Option Pass)) (cpus : List CpuState)
+    → Ends A t.layout t.begun ended xs
+    → HaveEnded n passes ended cpus
+    → AreHomeFrom t.table n 0 passes
+    → n ≡ t.layout.config.cpus
+    → length passes ≡ n
+    → HasEnd A t passes
 has_end t n ended xs passes cpus f have home all long =
     let found = parts_of xs parts (λ k lt. let h = f.each_part k lt in (h.0, h.1)) in (
       found.0,

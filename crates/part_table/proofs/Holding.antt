@@ -8,21 +8,33 @@ use Rattle.part_table.proofs.Pairs.{at_same, at_other, part_same}
 
 module _ {A : Type 0} where
   -- what an idle pass holds once it has taken a part, or two
-  pub one_held : (h : Hands A) (k : ℕ) (x : Slot A) → ((j : ℕ) → held_at h j ≡ None) → (j : ℕ) → only_at k x j ≡ held_at ((k, Some x) ∷ h) j
+  pub one_held : (h : Hands A) (k : ℕ) (x : Slot A)
+      → ((j : ℕ) → held_at h j ≡ None)
+      → (j : ℕ)
+      → only_at k x j ≡ held_at ((k, Some x) ∷ h) j
   one_held h k x none j = ap (λ o. cond (eqb j k) (Some x) o) (sym (none j))
 
-  pub two_held : (h : Hands A) (k i : ℕ) (x y : Slot A) → ((j : ℕ) → held_at h j ≡ None) → (j : ℕ) → both_at k x i y j ≡ held_at ((k, Some x) ∷ (i, Some y) ∷ h) j
+  pub two_held : (h : Hands A) (k i : ℕ) (x y : Slot A)
+      → ((j : ℕ) → held_at h j ≡ None)
+      → (j : ℕ)
+      → both_at k x i y j ≡ held_at ((k, Some x) ∷ (i, Some y) ∷ h) j
   two_held h k i x y none j = ap (λ o. cond (eqb j k) (Some x) (cond (eqb j i) (Some y) o)) (sym (none j))
 
   -- and once they are home again
-  pub one_gone : (h : Hands A) (k : ℕ) (o : Option (Slot A)) → ((j : ℕ) → held_at h j ≡ None) → (j : ℕ) → held_at ((k, None) ∷ (k, o) ∷ h) j ≡ None
+  pub one_gone : (h : Hands A) (k : ℕ) (o : Option (Slot A))
+      → ((j : ℕ) → held_at h j ≡ None)
+      → (j : ℕ)
+      → held_at ((k, None) ∷ (k, o) ∷ h) j ≡ None
   one_gone h k o none j = go (eqb j k)
     where
       go : (b : Bool) → cond b None (cond b o (held_at h j)) ≡ None
       go true = refl
       go false = none j
 
-  pub two_gone : (h : Hands A) (k i : ℕ) (x y : Option (Slot A)) → ((j : ℕ) → held_at h j ≡ None) → (j : ℕ) → held_at ((i, None) ∷ (k, None) ∷ (k, x) ∷ (i, y) ∷ h) j ≡ None
+  pub two_gone : (h : Hands A) (k i : ℕ) (x y : Option (Slot A))
+      → ((j : ℕ) → held_at h j ≡ None)
+      → (j : ℕ)
+      → held_at ((i, None) ∷ (k, None) ∷ (k, x) ∷ (i, y) ∷ h) j ≡ None
   two_gone h k i x y none j = go (eqb j k) (eqb j i)
     where
       go : (b d : Bool) → cond d None (cond b None (cond b x (cond d y (held_at h j)))) ≡ None
@@ -39,10 +51,14 @@ module _ {A : Type 0} where
       go true e = refl
       go false e = absurd cc
 
-  pub both_like : (k i j : ℕ) (x y x' y' z : Slot A) → both_at k x i y j ≡ Some z → (w : Slot A) × (both_at k x' i y' j ≡ Some w)
+  pub both_like : (k i j : ℕ) (x y x' y' z : Slot A)
+      → both_at k x i y j ≡ Some z
+      → (w : Slot A) × (both_at k x' i y' j ≡ Some w)
   both_like k i j x y x' y' z = go (eqb j k) (eqb j i)
     where
-      go : (b d : Bool) → cond b (Some x) (cond d (Some y) None) ≡ Some z → (w : Slot A) × (cond b (Some x') (cond d (Some y') None) ≡ Some w)
+      go : (b d : Bool)
+          → cond b (Some x) (cond d (Some y) None) ≡ Some z
+          → (w : Slot A) × (cond b (Some x') (cond d (Some y') None) ≡ Some w)
       go true d e = (x', refl)
       go false true e = (y', refl)
       go false false e = absurd cc
@@ -55,7 +71,12 @@ module _ {A : Type 0} where
       go true e = subst F (part_same x y e) here
       go false e = absurd cc
 
-  pub both_each : (F : Slot A → Type 0) (k i : ℕ) (x y : Slot A) → F x → F y → (j : ℕ) (z : Slot A) → both_at k x i y j ≡ Some z → F z
+  pub both_each : (F : Slot A → Type 0) (k i : ℕ) (x y : Slot A)
+      → F x
+      → F y
+      → (j : ℕ) (z : Slot A)
+      → both_at k x i y j ≡ Some z
+      → F z
   both_each F k i x y first second j z = go (eqb j k) (eqb j i)
     where
       go : (b d : Bool) → cond b (Some x) (cond d (Some y) None) ≡ Some z → F z
@@ -72,5 +93,9 @@ module _ {A : Type 0} where
   pub at_second : (k i : ℕ) (x y : Slot A) → i ≢ k → both_at k x i y i ≡ Some y
   at_second k i x y ne = (λ j. cond (ne_eqb i k ne j) (Some x) (cond (eq-eqb i i refl j) (Some y) None))
 
-  pub second_held : (g : ℕ) (x y : Slot A) (h : Hands A) → 1 ≢ g → held_at ((g, None) ∷ (g, Some x) ∷ (1, Some y) ∷ h) 1 ≡ Some y
-  second_held g x y h ne = at_other ((g, Some x) ∷ (1, Some y) ∷ h) g 1 None None ne ∙ (at_other ((1, Some y) ∷ h) g 1 (Some x) None ne ∙ at_same h 1 (Some y) None)
+  pub second_held : (g : ℕ) (x y : Slot A) (h : Hands A)
+      → 1 ≢ g
+      → held_at ((g, None) ∷ (g, Some x) ∷ (1, Some y) ∷ h) 1 ≡ Some y
+  second_held g x y h ne =
+      at_other ((g, Some x) ∷ (1, Some y) ∷ h) g 1 None None ne
+      ∙ (at_other ((1, Some y) ∷ h) g 1 (Some x) None ne ∙ at_same h 1 (Some y) None)

@@ -23,9 +23,14 @@ only_here : (cpu : ℕ) (own : CpuState) → only_cpu cpu own cpu ≡ Some own
 only_here cpu own = ap (λ b. cond b (Some own) None) (eq-eqb cpu cpu refl)
 
 -- what holds of the one CPU's own state holds of each that is kept
-pub one_cpu : (F : ℕ → CpuState → Type 0) (cpu : ℕ) (own : CpuState) → F cpu own → (c : ℕ) (k : CpuState) → only_cpu cpu own c ≡ Some k → F c k
+pub one_cpu : (F : ℕ → CpuState → Type 0) (cpu : ℕ) (own : CpuState)
+    → F cpu own
+    → (c : ℕ) (k : CpuState)
+    → only_cpu cpu own c ≡ Some k
+    → F c k
 one_cpu F cpu own here c k e = dite (ℕ_discrete c cpu)
-    (λ is. let same : own ≡ k = ap (own_or own) (sym (only_here cpu own) ∙ (ap (only_cpu cpu own) (sym is) ∙ e)) in subst (λ (z : ℕ × CpuState). F z.0 z.1) (λ i. (sym is i, same i)) here)
+    (λ is. let same : own ≡ k = ap (own_or own) (sym (only_here cpu own) ∙ (ap (only_cpu cpu own) (sym is) ∙ e)) in
+    subst (λ (z : ℕ × CpuState). F z.0 z.1) (λ i. (sym is i, same i)) here)
     (λ ne. let never : None ≡ Some k = sym (ap (λ b. cond b (Some own) None) (ne_eqb c cpu ne)) ∙ e in absurd cc)
 
 module _ {A : Type 0} {l : Layout} {f : ℕ → Option (Slot A)} (cpu : ℕ) (own : CpuState) (h : IsLeft l cpu own f) where
@@ -35,7 +40,10 @@ module _ {A : Type 0} {l : Layout} {f : ℕ → Option (Slot A)} (cpu : ℕ) (ow
   pub list_left : own.log.calls ≡ calls_by cpu h.log
   list_left = (h.cpus cpu own (only_here cpu own)).0
 
-pub part_left : {A : Type 0} {l : Layout} {owns : ℕ → Option CpuState} {f : ℕ → Option (Slot A)} (h : AreLeft l owns f) (k : ℕ) (x : Slot A) → f k ≡ Some x → IsPart l h.state k x
+pub part_left : {A : Type 0} {l : Layout} {owns : ℕ → Option CpuState} {f : ℕ → Option (Slot A)} (h : AreLeft l owns f)
+    (k : ℕ) (x : Slot A)
+    → f k ≡ Some x
+    → IsPart l h.state k x
 part_left h k x e = (h.parts k x e).0
 
 pub there : {X : Type 0} (xs : List X) (k : ℕ) → k < length xs → (x : X) × (slice_get xs k ≡ Some x)
@@ -44,8 +52,13 @@ there (x ∷ xs) zero less = (x, refl)
 there (x ∷ xs) (suc k) less = there xs k (omega arith)
 
 -- each of the 66 parts at the end
-pub each_part : {A : Type 0} {l : TheLayout} {found : List (Slot A)} {cpus : List CpuState} (e : IsEndOf l found cpus) (k : ℕ) → k < parts
-    → (x : Slot A) × (slice_get found k ≡ Some x) × IsPart (layout_of l) e.left.state k x × ((log_of x).calls ≡ calls_on (part_of k) e.left.log)
+pub each_part : {A : Type 0} {l : TheLayout} {found : List (Slot A)} {cpus : List CpuState} (e : IsEndOf l found cpus)
+    (k : ℕ)
+    → k < parts
+    → (x : Slot A)
+    × (slice_get found k ≡ Some x)
+    × IsPart (layout_of l) e.left.state k x
+    × ((log_of x).calls ≡ calls_on (part_of k) e.left.log)
 each_part {found = found} e k less =
     let all = e.all in
     let x = there found k (omega arith) in

@@ -50,24 +50,39 @@ set_false (y ∷ ys) zero = refl
 set_false (y ∷ ys) (suc i) = set_false ys i
 
 -- one pass more, each before its CPU's first call
-pub first_more : (t : Opened) (n : ℕ) (passes : List (Option Pass)) (p : Pass) → AreFirst t n passes → p ≡ first_pass t n → AreFirst t (n + 1) (passes ++ Some p ∷ [])
+pub first_more : (t : Opened) (n : ℕ) (passes : List (Option Pass)) (p : Pass)
+    → AreFirst t n passes
+    → p ≡ first_pass t n
+    → AreFirst t (n + 1) (passes ++ Some p ∷ [])
 first_more t n passes p old new = (
   length-append passes (Some p ∷ []) ∙ ap (λ m. m + 1) old.0,
   λ c lt. dite (ℕ_discrete c n)
-      (λ is. get_last passes (Some p) c (is ∙ sym old.0) ∙ ap (λ (q : Pass). Some (Some q)) (new ∙ ap (first_pass t) (sym is)))
+      (λ is. get_last passes (Some p) c (is ∙ sym old.0)
+      ∙ ap (λ (q : Pass). Some (Some q)) (new ∙ ap (first_pass t) (sym is)))
       (λ ne. get_front passes (Some p ∷ []) (Some (first_pass t c)) c (old.1 c (omega arith))),
 )
 
 -- one pass more has ended
-pub one_more_ended : (n : ℕ) (passes : List (Option Pass)) (ended : List Ended) (cpus : List CpuState) (p : Pass) (e : Ended) (own : CpuState) → HaveEnded n passes ended cpus
-    → slice_get passes n ≡ Some (Some p) → e ≡ (p.knows.own, p.knows.seen, p.knows.tries) → own ≡ p.knows.own → HaveEnded (n + 1) passes (ended ++ e ∷ []) (cpus ++ own ∷ [])
+pub one_more_ended : (n : ℕ) (passes : List (Option Pass)) (ended : List Ended) (cpus : List CpuState) (p : Pass)
+    (e : Ended) (own : CpuState)
+    → HaveEnded n passes ended cpus
+    → slice_get passes n ≡ Some (Some p)
+    → e ≡ (p.knows.own, p.knows.seen, p.knows.tries)
+    → own ≡ p.knows.own
+    → HaveEnded (n + 1) passes (ended ++ e ∷ []) (cpus ++ own ∷ [])
 one_more_ended n passes ended cpus p e own old here ends stands = (
   length-append ended (e ∷ []) ∙ ap (λ m. m + 1) old.0,
   length-append cpus (own ∷ []) ∙ ap (λ m. m + 1) old.1,
   λ c q lt there. dite (ℕ_discrete c n)
-      (λ is. let same : p ≡ q = ap (from p) (ap (from (Some p)) (sym here ∙ (ap (slice_get passes) (sym is) ∙ there))) in (
-        elem_of_get (ended ++ e ∷ []) c e (get_last ended e c (is ∙ sym old.0)) ∙ ap (λ z. some z) (ends ∙ ap (λ (z : Pass). (z.knows.own, z.knows.seen, z.knows.tries)) same),
-        get_last cpus own c (is ∙ sym old.1) ∙ ap (λ (z : CpuState). Some z) (stands ∙ ap (λ (z : Pass). z.knows.own) same),
+      (λ is. let same : p ≡ q =
+      ap (from p) (ap (from (Some p)) (sym here ∙ (ap (slice_get passes) (sym is) ∙ there))) in (
+        elem_of_get (ended ++ e ∷ []) c e (get_last ended e c (is ∙ sym old.0))
+            ∙ ap (λ z. some z) (ends ∙ ap (λ (z : Pass). (z.knows.own, z.knows.seen, z.knows.tries)) same),
+        get_last cpus own c (is ∙ sym old.1)
+            ∙ ap (λ (z : CpuState). Some z) (stands ∙ ap (λ (z : Pass). z.knows.own) same),
       ))
-      (λ ne. let h = old.2 c q (omega arith) there in (at_longer ended (e ∷ []) c (q.knows.own, q.knows.seen, q.knows.tries) h.0, get_front cpus (own ∷ []) q.knows.own c h.1)),
+      (λ ne. let h = old.2 c q (omega arith) there in (
+        at_longer ended (e ∷ []) c (q.knows.own, q.knows.seen, q.knows.tries) h.0,
+        get_front cpus (own ∷ []) q.knows.own c h.1,
+      )),
 )

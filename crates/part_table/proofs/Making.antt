@@ -21,41 +21,81 @@ use Rattle.part_table.specs.Known.{Known}
 use Rattle.part_table.specs.Trying.{MakesFor, MakesOf, reply_of}
 use Rattle.part_table.proofs.Holding.{only_here, at_first, at_second}
 
-module _ {A T : Type 0} (tells : TheLayout → (ℕ → Option (Slot A)) → CpuState → Call → (ℕ → Option (Slot A)) → CpuState → T → T → Type 0) where
+module _ {A T : Type 0}
+    (tells : TheLayout
+    → (ℕ → Option (Slot A))
+    → CpuState
+    → Call
+    → (ℕ → Option (Slot A))
+    → CpuState
+    → T
+    → T
+    → Type 0) where
   -- by the seat z that the call left, of which what was tried is told by itself
-  pub made_by : {step : Step} {c : Call} {l : TheLayout} {own owned : CpuState} {from to : T} {before after : ℕ → Option (Slot A)} {z n : Seated A} (ks : List ℕ) (m : Seated A) → n ≡ z → z.0.own ≡ owned
-      → z.0.tries ≡ m.0.tries ++ map (λ k. (k, option_map log_of (before k))) ks → (m.0.layout ≡ l) × (m.0.cpu ≡ own.id) × (m.0.own ≡ own)
-      → IsLeft (layout_of l) own.id own before → ((k : ℕ) (x : Slot A) → before k ≡ Some x → uses c k ≡ true) → IsCalled own.id own step c → Does (layout_of l) c before own after owned → tells l before own c after owned from to
+  pub made_by : {step : Step} {c : Call} {l : TheLayout} {own owned : CpuState} {from to : T}
+      {before after : ℕ → Option (Slot A)} {z n : Seated A} (ks : List ℕ) (m : Seated A)
+      → n ≡ z
+      → z.0.own ≡ owned
+      → z.0.tries ≡ m.0.tries ++ map (λ k. (k, option_map log_of (before k))) ks
+      → (m.0.layout ≡ l) × (m.0.cpu ≡ own.id) × (m.0.own ≡ own)
+      → IsLeft (layout_of l) own.id own before
+      → ((k : ℕ) (x : Slot A) → before k ≡ Some x → uses c k ≡ true)
+      → IsCalled own.id own step c
+      → Does (layout_of l) c before own after owned
+      → tells l before own c after owned from to
       → Makes tells step ks (known_of m.0) (known_of n.0) c from to
-  made_by {step = step} {c = c} {own = own} {owned = owned} {from = from} {to = to} {before = before} {after = after} {n = n} ks m e o t q left only called does told =
+  made_by {step = step} {c = c} {own = own} {owned = owned} {from = from} {to = to} {before = before} {after = after}
+      {n = n} ks m e o t q left only called does told =
       let is : n.0.own ≡ owned = ap (λ (s : Seated A). s.0.own) e ∙ o in
       record {
         before = before;
         after = after;
         called = subst (λ (s : ℕ × CpuState). IsCalled s.0 s.1 step c) (λ i. (sym q.1 i, sym q.2 i)) called;
-        left = subst (λ (s : TheLayout × (ℕ × CpuState)). IsLeft (layout_of s.0) s.1.0 s.1.1 before) (λ i. (sym q.0 i, (sym q.1 i, sym q.2 i))) left;
+        left =
+            subst (λ (s : TheLayout × (ℕ × CpuState)). IsLeft (layout_of s.0) s.1.0 s.1.1 before)
+            (λ i. (sym q.0 i, (sym q.1 i, sym q.2 i))) left;
         only = only;
-        does = subst (λ (s : TheLayout × (CpuState × CpuState)). Does (layout_of s.0) c before s.1.0 after s.1.1) (λ i. (sym q.0 i, (sym q.2 i, sym is i))) does;
+        does =
+            subst (λ (s : TheLayout × (CpuState × CpuState)). Does (layout_of s.0) c before s.1.0 after s.1.1)
+            (λ i. (sym q.0 i, (sym q.2 i, sym is i))) does;
         tried = ap (λ (s : Seated A). s.0.tries) e ∙ t;
-        told = subst (λ (s : TheLayout × (CpuState × CpuState)). tells s.0 before s.1.0 c after s.1.1 from to) (λ i. (sym q.0 i, (sym q.2 i, sym is i))) told;
+        told =
+            subst (λ (s : TheLayout × (CpuState × CpuState)). tells s.0 before s.1.0 c after s.1.1 from to)
+            (λ i. (sym q.0 i, (sym q.2 i, sym is i))) told;
       }
 
-  pub makes_for : (step : Step) (t : Tried) (reply : Reply) (u v w : Known) (own : CpuState) (from to : T) → u ≡ v → v.own ≡ own → reply ≡ reply_of t
+  pub makes_for : (step : Step) (t : Tried) (reply : Reply) (u v w : Known) (own : CpuState) (from to : T)
+      → u ≡ v
+      → v.own ≡ own
+      → reply ≡ reply_of t
       → MakesOf tells step (numbers_for own step) t v w from to → MakesFor tells step reply u w from to
   makes_for step t reply u v w own from to same is told makes =
-      let at : own ≡ u.own = sym is ∙ ap (λ (z : Known). z.own) (sym same) in
-      (t, told, subst (λ (z : Known × CpuState). MakesOf tells step (numbers_for z.1 step) t z.0 w from to) (λ i. (sym same i, at i)) makes)
+      let at : own ≡ u.own = sym is ∙ ap (λ (z : Known). z.own) (sym same) in (
+        t,
+        told,
+        subst (λ (z : Known × CpuState). MakesOf tells step (numbers_for z.1 step) t z.0 w from to)
+            (λ i. (sym same i, at i)) makes,
+      )
 
   -- what the reply of a try tells of the maker
-  pub made_of : (step : Step) (reply : Reply) (v w : Known) (from to : T) → MakesFor tells step reply v w from to → IsStored reply → IsMade tells step reply v w from to
+  pub made_of : (step : Step) (reply : Reply) (v w : Known) (from to : T)
+      → MakesFor tells step reply v w from to
+      → IsStored reply
+      → IsMade tells step reply v w from to
   made_of step reply v w from to a s = of a.0 a.1 a.2
     where
-      of : (t : Tried) → reply ≡ reply_of t → MakesOf tells step (used_by step v) t v w from to → IsMade tells step reply v w from to
+      of : (t : Tried)
+          → reply ≡ reply_of t
+          → MakesOf tells step (used_by step v) t v w from to
+          → IsMade tells step reply v w from to
       of (Stored c) e h = record { call = c; reply_is = sym e; makes = h }
       of Contended e h = absurd (subst IsStored e s)
       of LogFull e h = absurd (subst IsStored e s)
 
-  pub untold_of : (step : Step) (reply : Reply) (v w : Known) (from to : T) → MakesFor tells step reply v w from to → (IsStored reply → ⊥) → to ≡ from
+  pub untold_of : (step : Step) (reply : Reply) (v w : Known) (from to : T)
+      → MakesFor tells step reply v w from to
+      → (IsStored reply → ⊥)
+      → to ≡ from
   untold_of step reply v w from to a s = of a.0 a.1 a.2
     where
       of : (t : Tried) → reply ≡ reply_of t → MakesOf tells step (used_by step v) t v w from to → to ≡ from
@@ -65,9 +105,15 @@ module _ {A T : Type 0} (tells : TheLayout → (ℕ → Option (Slot A)) → Cpu
 
 -- what was tried, as the logs of the parts that were taken
 module _ {A : Type 0} (tries : List (ℕ × Option StoredCalls)) where
-  pub tried_one : (k : ℕ) (x : Slot A) → tries ++ (k, Some (log_of x)) ∷ [] ≡ tries ++ map (λ j. (j, option_map log_of (only_at k x j))) (k ∷ [])
+  pub tried_one : (k : ℕ) (x : Slot A)
+      → tries ++ (k, Some (log_of x)) ∷ [] ≡ tries ++ map (λ j. (j, option_map log_of (only_at k x j))) (k ∷ [])
   tried_one k x = ap (λ (o : Option (Slot A)). tries ++ (k, option_map log_of o) ∷ []) (sym (only_here k x))
 
   pub tried_two : (g : ℕ) (x y : Slot A) → 1 ≢ g
-      → tries ++ (1, Some (log_of x)) ∷ (g, Some (log_of y)) ∷ [] ≡ tries ++ map (λ j. (j, option_map log_of (both_at g y 1 x j))) (1 ∷ g ∷ [])
-  tried_two g x y ne = ap (λ (o : Option (Slot A) × Option (Slot A)). tries ++ (1, option_map log_of o.0) ∷ (g, option_map log_of o.1) ∷ []) (λ i. (sym (at_second g 1 y x ne) i, sym (at_first g 1 y x) i))
+      → tries ++ (1, Some (log_of x)) ∷ (g, Some (log_of y)) ∷ []
+      ≡ tries ++ map (λ j. (j, option_map log_of (both_at g y 1 x j))) (1 ∷ g ∷ [])
+  tried_two g x y ne =
+      ap
+      (λ (o : Option (Slot A) × Option (Slot A)). tries ++ (1, option_map log_of o.0) ∷ (g, option_map log_of o.1)
+      ∷ [])
+      (λ i. (sym (at_second g 1 y x ne) i, sym (at_first g 1 y x) i))

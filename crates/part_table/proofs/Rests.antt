@@ -13,7 +13,9 @@ filter_none f (x ∷ xs) none = ap (λ b. cond b (x ∷ filter f xs) (filter f x
 module _ {A : Type 0} (h : Hands A) (idle : (k : ℕ) → held_at h k ≡ None) where
   pub none_held : numbers_held h ≡ []
   unfolding numbers_held
-  none_held = filter_none (λ k. is_some (held_at h k)) (numbers_below parts) (λ k. ap (λ (o : Option (Slot A)). is_some o) (idle k))
+  none_held =
+      filter_none (λ k. is_some (held_at h k)) (numbers_below parts)
+      (λ k. ap (λ (o : Option (Slot A)). is_some o) (idle k))
 
 pub zeros : (n k : ℕ) → slice_index (replicate n 0) k ≡ 0
 zeros zero k = refl

@@ -41,7 +41,13 @@ module _ (A : Type 0) (key : TheLayout) where
 
   -- a view that nobody steps with, and that holds what it held
   off_knows : (ws : List ℕ) (holder : ℕ → ℕ) (log : List Call) (state : Reference) (j : ℕ) (v : View A) → v.on ≡ false
-      → ((k : ℕ) (x : Slot A) → held_at v.held k ≡ Some x → (v.on ≡ true) × (k < parts) × (slice_index ws k ≢ 0) × (holder k ≡ j) × (IsPart (layout_of key) state k x × ((log_of x).calls ≡ calls_on (part_of k) log)))
+      → ((k : ℕ) (x : Slot A)
+      → held_at v.held k ≡ Some x
+      → (v.on ≡ true)
+      × (k < parts)
+      × (slice_index ws k ≢ 0)
+      × (holder k ≡ j)
+      × (IsPart (layout_of key) state k x × ((log_of x).calls ≡ calls_on (part_of k) log)))
       → Knows key ws holder log state j v
   off_knows ws holder log state j v off held = record {
     layout = λ a. absurd (true≢false (sym a ∙ off));
@@ -54,7 +60,11 @@ module _ (A : Type 0) (key : TheLayout) where
     held = held;
   }
 
-  pub splits : (v : View A) → v.root ≡ true → v.layout ≡ key → v.made < key.config.cpus → Splits Rule 0 v (one_more v) (newcomer v)
+  pub splits : (v : View A)
+      → v.root ≡ true
+      → v.layout ≡ key
+      → v.made < key.config.cpus
+      → Splits Rule 0 v (one_more v) (newcomer v)
   splits v is of few_made s r here =
       let o = r.root v here is in
       let left = one_more v in let right = newcomer v in
@@ -71,12 +81,15 @@ module _ (A : Type 0) (key : TheLayout) where
         wide = r.wide;
         deep = r.deep;
         at_home = r.at_home;
-        taken = λ k lt nz. let h = still_held s.views 0 v left k here (λ x e. (x, e)) (r.holder k) (r.taken k lt nz) in (h.0, h.1, at_longer vs (right ∷ []) (r.holder k) h.0 h.2, h.3);
+        taken = λ k lt nz. let h = still_held s.views 0 v left k here (λ x e. (x, e)) (r.holder k) (r.taken k lt nz) in
+            (h.0, h.1, at_longer vs (right ∷ []) (r.holder k) h.0 h.2, h.3);
         each_seat = λ j u e. ⊎_elim
             (seats (Knows key s.words r.holder r.log r.state) s.views 0 left
             (off_knows s.words r.holder r.log r.state 0 left o.off mine.held)
             (λ i w apart there. r.each_seat i w there) j u)
-            (λ (t : (j ≡ length vs) × (right ≡ u)). subst (λ (z : ℕ × View A). Knows key s.words r.holder r.log r.state z.0 z.1) (λ i. (sym t.0 i, t.1 i)) record {
+            (λ (t : (j ≡ length vs) × (right ≡ u)). subst
+            (λ (z : ℕ × View A). Knows key s.words r.holder r.log r.state z.0 z.1)
+            (λ i. (sym t.0 i, t.1 i)) record {
               layout = λ _. of;
               known = λ _. few_made;
               seat = λ _. sym long;
@@ -89,7 +102,8 @@ module _ (A : Type 0) (key : TheLayout) where
             (at_end vs right u j e);
         root = λ u e up. ⊎_elim
             (λ at. ⊎_elim
-            (λ (t : (0 ≡ 0) × (left ≡ u)). subst (λ (w : View A). Rooted key (vs ++ right ∷ []) r.log r.state w) t.1 record {
+            (λ (t : (0 ≡ 0) × (left ≡ u)). subst
+            (λ (w : View A). Rooted key (vs ++ right ∷ []) r.log r.state w) t.1 record {
               off = o.off;
               layout = o.layout;
               count = length-append vs (right ∷ []) ∙ ap (λ n. n + 1) long;
@@ -102,7 +116,9 @@ module _ (A : Type 0) (key : TheLayout) where
                 k.0,
                 k.1,
                 λ w there. ⊎_elim
-                    (λ was. ⊎_elim (λ (q : (c + 1 ≡ 0) × (left ≡ w)). absurd (omega arith)) (λ (q : (c + 1 ≢ 0) × (get_elem? s.views (c + 1) ≡ some w)). k.2 w q.1) (at_set s.views 0 (c + 1) left w was))
+                    (λ was. ⊎_elim (λ (q : (c + 1 ≡ 0) × (left ≡ w)). absurd (omega arith))
+                    (λ (q : (c + 1 ≢ 0) × (get_elem? s.views (c + 1) ≡ some w)). k.2 w q.1)
+                    (at_set s.views 0 (c + 1) left w was))
                     (λ (q : (c + 1 ≡ length vs) × (right ≡ w)). absurd (omega arith))
                     (at_end vs right w (c + 1) there),
               );
@@ -113,7 +129,13 @@ module _ (A : Type 0) (key : TheLayout) where
             (at_end vs right u 0 e);
       }
 
-  pub joins : (v : View A) (other : ℕ) (w : View A) → v.root ≡ true → w.on ≡ true → w.cpu ≡ length v.ended → length v.ended < v.made → IsIdle w → Joins Rule 0 v other w (with_end v w) nobody
+  pub joins : (v : View A) (other : ℕ) (w : View A)
+      → v.root ≡ true
+      → w.on ≡ true
+      → w.cpu ≡ length v.ended
+      → length v.ended < v.made
+      → IsIdle w
+      → Joins Rule 0 v other w (with_end v w) nobody
   joins v other w is on next room idle s r here apart there =
       let o = r.root v here is in
       let both = with_end v w in
@@ -132,7 +154,9 @@ module _ (A : Type 0) (key : TheLayout) where
         wide = r.wide;
         deep = r.deep;
         at_home = r.at_home;
-        taken = λ k lt nz. still_held vs other w nobody k there (λ x e. absurd (idle_is x (held_at w.held k) (idle k) e)) (r.holder k) (still_held s.views 0 v both k here (λ x e. (x, e)) (r.holder k) (r.taken k lt nz));
+        taken =
+            λ k lt nz. still_held vs other w nobody k there (λ x e. absurd (idle_is x (held_at w.held k) (idle k) e))
+            (r.holder k) (still_held s.views 0 v both k here (λ x e. (x, e)) (r.holder k) (r.taken k lt nz));
         each_seat = seats (Knows key s.words r.holder r.log r.state) vs other nobody
             (off_knows s.words r.holder r.log r.state other nobody refl (λ k x e. absurd (idle_is x None refl e)))
             (λ i u _ at. seats (Knows key s.words r.holder r.log r.state) s.views 0 both
@@ -140,7 +164,9 @@ module _ (A : Type 0) (key : TheLayout) where
             (λ j x _ e. r.each_seat j x e) i u at);
         root = λ u e up. ⊎_elim
             (λ (t : (0 ≡ other) × (nobody ≡ u)). absurd (ne (sym t.0)))
-            (λ (t : (0 ≢ other) × (get_elem? vs 0 ≡ some u)). subst (λ (x : View A). Rooted key (set vs other nobody) r.log r.state x) (some-injective both u (sym (set_at s.views 0 v both here) ∙ t.1)) record {
+            (λ (t : (0 ≢ other) × (get_elem? vs 0 ≡ some u)). subst
+            (λ (x : View A). Rooted key (set vs other nobody) r.log r.state x)
+            (some-injective both u (sym (set_at s.views 0 v both here) ∙ t.1)) record {
               off = o.off;
               layout = o.layout;
               count = length-set vs other nobody ∙ (length-set s.views 0 both ∙ o.count);
@@ -149,11 +175,13 @@ module _ (A : Type 0) (key : TheLayout) where
               few = let l = length-append v.ended ((w.own, w.seen, w.tries) ∷ []) in omega arith;
               seen = λ c e at k. ⊎_elim
                   (λ old. o.seen c e old k)
-                  (λ (q : (c ≡ length v.ended) × ((w.own, w.seen, w.tries) ≡ e)). subst (λ (z : Ended). StartsWith (calls_on (part_of k) r.log) (seen_at z.1 k)) q.1 (theirs.seen on k))
+                  (λ (q : (c ≡ length v.ended) × ((w.own, w.seen, w.tries) ≡ e)). subst
+                  (λ (z : Ended). StartsWith (calls_on (part_of k) r.log) (seen_at z.1 k)) q.1 (theirs.seen on k))
                   (at_end v.ended (w.own, w.seen, w.tries) e c at);
               tried = λ c e at. ⊎_elim
                   (λ old. o.tried c e old)
-                  (λ (q : (c ≡ length v.ended) × ((w.own, w.seen, w.tries) ≡ e)). subst (λ (z : Ended). AreFrontsIn key r.log z.2) q.1 (theirs.tried on))
+                  (λ (q : (c ≡ length v.ended) × ((w.own, w.seen, w.tries) ≡ e)). subst
+                  (λ (z : Ended). AreFrontsIn key r.log z.2) q.1 (theirs.tried on))
                   (at_end v.ended (w.own, w.seen, w.tries) e c at);
               ended = λ c e at. ⊎_elim
                   (λ old. let k = o.ended c e old in (
@@ -161,30 +189,47 @@ module _ (A : Type 0) (key : TheLayout) where
                     k.1,
                     λ x p. ⊎_elim
                         (λ (q : (c + 1 ≡ other) × (nobody ≡ x)). ap (λ (z : View A). z.on) (sym q.1))
-                        (λ (q : (c + 1 ≢ other) × (get_elem? vs (c + 1) ≡ some x)). k.2 x (sym (set_else s.views 0 (c + 1) both (λ z. omega arith)) ∙ q.1))
+                        (λ (q : (c + 1 ≢ other) × (get_elem? vs (c + 1) ≡ some x)). k.2 x
+                        (sym (set_else s.views 0 (c + 1) both (λ z. omega arith)) ∙ q.1))
                         (at_set vs other (c + 1) nobody x p),
                   ))
-                  (λ (q : (c ≡ length v.ended) × ((w.own, w.seen, w.tries) ≡ e)). let same : c ≡ w.cpu = q.0 ∙ sym next in (
-                    ap (λ (z : Ended). z.0.log.calls) (sym q.1) ∙ (theirs.mine on ∙ ap (λ n. calls_by n r.log) (sym same)),
-                    subst (λ (z : ℕ × Ended). IsOwn (layout_of key) r.state z.0 z.1.0) (λ i. (sym same i, q.1 i)) (theirs.own on),
-                    λ x p. let here' : get_elem? (set vs other nobody) other ≡ some x = ap (get_elem? (set vs other nobody)) (sym seat ∙ ap (λ n. n + 1) (sym q.0)) ∙ p in
-                        ap (λ (z : View A). z.on) (sym (some-injective nobody x (sym (set_at vs other w nobody there) ∙ here'))),
+                  (λ (q : (c ≡ length v.ended) × ((w.own, w.seen, w.tries) ≡ e)). let same : c ≡ w.cpu =
+                  q.0 ∙ sym next in (
+                    ap (λ (z : Ended). z.0.log.calls) (sym q.1)
+                        ∙ (theirs.mine on ∙ ap (λ n. calls_by n r.log) (sym same)),
+                    subst (λ (z : ℕ × Ended). IsOwn (layout_of key) r.state z.0 z.1.0) (λ i. (sym same i, q.1 i))
+                        (theirs.own on),
+                    λ x p. let here' : get_elem? (set vs other nobody) other ≡ some x =
+                        ap (get_elem? (set vs other nobody)) (sym seat ∙ ap (λ n. n + 1) (sym q.0)) ∙ p in
+                        ap (λ (z : View A). z.on)
+                        (sym (some-injective nobody x (sym (set_at vs other w nobody there) ∙ here'))),
                   ))
                   (at_end v.ended (w.own, w.seen, w.tries) e c at);
             })
             (at_set vs other 0 nobody u e);
       }
 
-  -- the history that stands once all CPUs have ended: every part is at home, as after it, and what each had seen, and each log that it took, begins its parts
+  -- the history that stands once all CPUs have ended: every part is at home, as after it, and what each had seen, and
+  -- each log that it took, begins its parts
   pub record Ends (b : Begun) (ended : List Ended) (xs : List (Option (Slot A))) : Type 0 where
     pub ready : CanBoot (layout_of key)
     pub log : List Call
     pub state : Reference
     pub run : IsRun (layout_of key) log state
     pub stored : All (λ c. IsStored c.reply) log
-    pub each_part : (k : ℕ) → k < parts → (x : Slot A) × (get_elem? xs k ≡ some (Some x)) × IsPart (layout_of key) state k x × ((log_of x).calls ≡ calls_on (part_of k) log)
-    pub each_cpu : (c : ℕ) (e : Ended) → get_elem? ended c ≡ some e → (e.0.log.calls ≡ calls_by c log) × IsOwn (layout_of key) state c e.0
-    pub seen : (c : ℕ) (e : Ended) → get_elem? ended c ≡ some e → (k : ℕ) → StartsWith (calls_on (part_of k) log) (seen_at e.1 k)
+    pub each_part : (k : ℕ)
+        → k < parts
+        → (x : Slot A)
+        × (get_elem? xs k ≡ some (Some x))
+        × IsPart (layout_of key) state k x
+        × ((log_of x).calls ≡ calls_on (part_of k) log)
+    pub each_cpu : (c : ℕ) (e : Ended)
+        → get_elem? ended c ≡ some e
+        → (e.0.log.calls ≡ calls_by c log) × IsOwn (layout_of key) state c e.0
+    pub seen : (c : ℕ) (e : Ended)
+        → get_elem? ended c ≡ some e
+        → (k : ℕ)
+        → StartsWith (calls_on (part_of k) log) (seen_at e.1 k)
     pub tried : (c : ℕ) (e : Ended) → get_elem? ended c ≡ some e → AreFrontsIn key log e.2
     pub goes_on : GoesOn b log
 
@@ -193,11 +238,21 @@ module _ (A : Type 0) (key : TheLayout) where
   in_list (x ∷ xs) zero lt = (x, refl)
   in_list (x ∷ xs) (suc c) lt = in_list xs c (omega arith)
 
-  on_false : (v : View A) (all : length v.ended ≡ v.made) (s : State (Option (Slot A)) (View A)) (r : Rule s) (at : get_elem? s.views 0 ≡ some v) (o : Rooted key s.views r.log r.state v) (j : ℕ) (u : View A) → get_elem? s.views j ≡ some u → u.on ≡ false
+  on_false : (v : View A) (all : length v.ended ≡ v.made) (s : State (Option (Slot A)) (View A)) (r : Rule s)
+      (at : get_elem? s.views 0 ≡ some v) (o : Rooted key s.views r.log r.state v) (j : ℕ) (u : View A)
+      → get_elem? s.views j ≡ some u
+      → u.on ≡ false
   on_false v all s r at o zero u e = ap (λ (z : View A). z.on) (some-injective u v (sym e ∙ at)) ∙ o.off
-  on_false v all s r at o (suc c) u e = let lt = at_bound s.views (suc c) u e in let count = o.count in let h = in_list v.ended c (omega arith) in (o.ended c h.0 h.1).2 u (ap (get_elem? s.views) (omega arith) ∙ e)
+  on_false v all s r at o (suc c) u e = let lt = at_bound s.views (suc c) u e in
+      let count = o.count in
+      let h = in_list v.ended c (omega arith) in
+      (o.ended c h.0 h.1).2 u (ap (get_elem? s.views) (omega arith) ∙ e)
 
-  pub finals : (v : View A) (ws : List ℕ) (xs : List (Option (Slot A))) → v.root ≡ true → length v.ended ≡ v.made → Final (Seen Rule 0 v) ws xs → Ends v.begun v.ended xs
+  pub finals : (v : View A) (ws : List ℕ) (xs : List (Option (Slot A)))
+      → v.root ≡ true
+      → length v.ended ≡ v.made
+      → Final (Seen Rule 0 v) ws xs
+      → Ends v.begun v.ended xs
   finals v ws xs is all f =
       let s = f.0 in let r = f.1.0 in let o = r.root v f.1.1 is in record {
         ready = r.ready;
@@ -207,28 +262,39 @@ module _ (A : Type 0) (key : TheLayout) where
         stored = r.stored;
         each_part = λ k lt. dite (ℕ_discrete (slice_index s.words k) 0)
             (λ z. let h = r.at_home k lt z in (h.0, f.4 k (Some h.0) h.1, h.2.0, h.2.1))
-            (λ nz. let h = r.taken k lt nz in absurd (true≢false (sym ((r.each_seat (r.holder k) h.0 h.2).held k h.1 h.3).0 ∙ on_false v all s r f.1.1 o (r.holder k) h.0 h.2)));
+            (λ nz. let h = r.taken k lt nz in
+            absurd
+            (true≢false
+            (sym ((r.each_seat (r.holder k) h.0 h.2).held k h.1 h.3).0
+            ∙ on_false v all s r f.1.1 o (r.holder k) h.0 h.2)));
         each_cpu = λ c e at. let k = o.ended c e at in (k.0, k.1);
         seen = o.seen;
         tried = o.tried;
         goes_on = o.goes_on;
       }
 
-module _ (A : Type 0) (k : Opening A) (xs : List (Option (Slot A))) (same : k.slots.value.items ≡ xs) (e : IsEndIn k.layout xs k.owns.value.items) where
+module _ (A : Type 0) (k : Opening A) (xs : List (Option (Slot A))) (same : k.slots.value.items ≡ xs)
+    (e : IsEndIn k.layout xs k.owns.value.items) where
   abbrev leaves : AreLeft (layout_of k.layout) (λ c. slice_get k.owns.value.items c) (λ j. slice_get e.found j)
   leaves = e.end.left
 
   -- what lies in a slot
   in_slot : (j : ℕ) (x : Slot A) → slice_get e.found j ≡ Some x → get_elem? xs j ≡ some (Some x)
-  in_slot j x here = ap (λ (ys : List (Option (Slot A))). get_elem? ys j) e.slots_are ∙ elem_of_get (map (λ (y : Slot A). Some y) e.found) j (Some x) (get_mapped e.found j x here)
+  in_slot j x here =
+      ap (λ (ys : List (Option (Slot A))). get_elem? ys j) e.slots_are
+      ∙ elem_of_get (map (λ (y : Slot A). Some y) e.found) j (Some x) (get_mapped e.found j x here)
 
   -- the own state with which a CPU begins
-  first_own : (c : ℕ) → c < k.layout.config.cpus → ((own_in (begun_in k) c).log.calls ≡ calls_by c leaves.log) × IsOwn (layout_of k.layout) leaves.state c (own_in (begun_in k) c)
+  first_own : (c : ℕ)
+      → c < k.layout.config.cpus
+      → ((own_in (begun_in k) c).log.calls ≡ calls_by c leaves.log)
+      × IsOwn (layout_of k.layout) leaves.state c (own_in (begun_in k) c)
   first_own c below =
       let count : length k.owns.value.items ≡ k.layout.config.cpus = e.end.count in
       let h = there k.owns.value.items c (omega arith) in
       let is : own_in (begun_in k) c ≡ h.0 = or_of_get k.owns.value.items c no_own h.0 h.1 in
-      subst (λ (o : CpuState). (o.log.calls ≡ calls_by c leaves.log) × IsOwn (layout_of k.layout) leaves.state c o) (sym is) (leaves.cpus c h.0 h.1)
+      subst (λ (o : CpuState). (o.log.calls ≡ calls_by c leaves.log) × IsOwn (layout_of k.layout) leaves.state c o)
+      (sym is) (leaves.cpus c h.0 h.1)
 
   pub left_first : AreLeftFirst A k.layout (begun_in k)
   left_first c below = record {
@@ -237,7 +303,9 @@ module _ (A : Type 0) (k : Opening A) (xs : List (Option (Slot A))) (same : k.sl
     state = leaves.state;
     run = leaves.run;
     stored = leaves.stored;
-    cpus = one_cpu (λ n o. (o.log.calls ≡ calls_by n leaves.log) × IsOwn (layout_of k.layout) leaves.state n o) c (own_in (begun_in k) c) (first_own c below);
+    cpus =
+        one_cpu (λ n o. (o.log.calls ≡ calls_by n leaves.log) × IsOwn (layout_of k.layout) leaves.state n o) c
+        (own_in (begun_in k) c) (first_own c below);
     parts = λ j x q. absurd cc;
   }
 
@@ -247,11 +315,15 @@ module _ (A : Type 0) (k : Opening A) (xs : List (Option (Slot A))) (same : k.sl
     after = [];
     log_is = sym (append-nil leaves.log);
     on = λ j below. let x = each_part e.end j below in
-        sym x.3 ∙ sym (logs_at e.found j x.0 x.1) ∙ ap (λ (ys : List (Option (Slot A))). slice_index_or (logs_in ys) j []) (sym e.slots_are ∙ sym same);
+        sym x.3 ∙ sym (logs_at e.found j x.0 x.1)
+        ∙ ap (λ (ys : List (Option (Slot A))). slice_index_or (logs_in ys) j []) (sym e.slots_are ∙ sym same);
     by = λ c o here. sym (leaves.cpus c o here).0;
   }
 
-  pub opens : (ws : List ℕ) → length ws ≡ parts → ((j : ℕ) → slice_index ws j ≡ 0) → IsLawful k.layout (opening ws xs (rooted k))
+  pub opens : (ws : List ℕ)
+      → length ws ≡ parts
+      → ((j : ℕ) → slice_index ws j ≡ 0)
+      → IsLawful k.layout (opening ws xs (rooted k))
   opens ws wide zero_words = record {
     ready = leaves.ready;
     log = leaves.log;
@@ -260,27 +332,41 @@ module _ (A : Type 0) (k : Opening A) (xs : List (Option (Slot A))) (same : k.sl
     run = leaves.run;
     stored = leaves.stored;
     wide = wide;
-    deep = length-map xs (λ (y : Option (Slot A)). some y) ∙ ap (λ (ys : List (Option (Slot A))). length ys) e.slots_are ∙ length-map e.found (λ (y : Slot A). Some y) ∙ e.end.all;
-    at_home = λ j lt z. let x = each_part e.end j lt in (x.0, at_map (λ (y : Option (Slot A)). some y) xs j (Some x.0) (in_slot j x.0 x.1), (x.2, x.3));
+    deep =
+        length-map xs (λ (y : Option (Slot A)). some y) ∙ ap (λ (ys : List (Option (Slot A))). length ys) e.slots_are
+        ∙ length-map e.found (λ (y : Slot A). Some y) ∙ e.end.all;
+    at_home = λ j lt z. let x = each_part e.end j lt in
+        (x.0, at_map (λ (y : Option (Slot A)). some y) xs j (Some x.0) (in_slot j x.0 x.1), (x.2, x.3));
     taken = λ j lt nz. absurd (nz (zero_words j));
     each_seat = each;
-    root = λ u f up. subst (λ (v : View A). Rooted k.layout (rooted k ∷ []) leaves.log leaves.state v) (some-injective (rooted k) u f) record {
-      off = refl;
-      layout = refl;
-      count = refl;
-      fresh = λ c le below. first_own c below;
-      goes_on = begins;
-      few = omega arith;
-      ended = λ c e at. absurd (some-ne-none e (sym at));
-      seen = λ c e at. absurd (some-ne-none e (sym at));
-      tried = λ c e at. absurd (some-ne-none e (sym at));
-    };
+    root =
+        λ u f up. subst (λ (v : View A). Rooted k.layout (rooted k ∷ []) leaves.log leaves.state v)
+        (some-injective (rooted k) u f) record {
+          off = refl;
+          layout = refl;
+          count = refl;
+          fresh = λ c le below. first_own c below;
+          goes_on = begins;
+          few = omega arith;
+          ended = λ c e at. absurd (some-ne-none e (sym at));
+          seen = λ c e at. absurd (some-ne-none e (sym at));
+          tried = λ c e at. absurd (some-ne-none e (sym at));
+        };
   }
     where
-      each : (j : ℕ) (v : View A) → get_elem? (rooted k ∷ []) j ≡ some v → Knows k.layout ws (λ _. 0) leaves.log leaves.state j v
-      each zero v f = subst (Knows k.layout ws (λ _. 0) leaves.log leaves.state 0) (some-injective (rooted k) v f) (off_knows A k.layout ws (λ _. 0) leaves.log leaves.state 0 (rooted k) refl (λ j x g. absurd (idle_is x None refl g)))
+      each : (j : ℕ) (v : View A)
+          → get_elem? (rooted k ∷ []) j ≡ some v
+          → Knows k.layout ws (λ _. 0) leaves.log leaves.state j v
+      each zero v f =
+          subst (Knows k.layout ws (λ _. 0) leaves.log leaves.state 0) (some-injective (rooted k) v f)
+          (off_knows A k.layout ws (λ _. 0) leaves.log leaves.state 0 (rooted k) refl
+          (λ j x g. absurd (idle_is x None refl g)))
       each (suc j) v f = absurd (some-ne-none v (sym f))
 
 -- a CPU begins with the own state of its number
-pub first_id : (A : Type 0) (l : TheLayout) (b : Begun) → AreLeftFirst A l b → (c : ℕ) → c < l.config.cpus → (own_in b c).id ≡ c
+pub first_id : (A : Type 0) (l : TheLayout) (b : Begun)
+    → AreLeftFirst A l b
+    → (c : ℕ)
+    → c < l.config.cpus
+    → (own_in b c).id ≡ c
 first_id A l b left c below = (own_left c (own_in b c) (left c below)).id

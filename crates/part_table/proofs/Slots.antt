@@ -34,16 +34,33 @@ used_cpu : (n : Names) (slot : Option ℕ) (c : ℕ) (s : Contents) → (used_of
 unfolding used_of
 used_cpu n slot c s = refl
 
-module _ {A : Type 0} (key : TheLayout) (cpu : ℕ) (own : CpuState) (step : Step) (left : IsLeft {A = A} (layout_of key) cpu own none_at) (known : cpu < key.config.cpus) where
+module _ {A : Type 0} (key : TheLayout) (cpu : ℕ) (own : CpuState) (step : Step)
+    (left : IsLeft {A = A} (layout_of key) cpu own none_at) (known : cpu < key.config.cpus) where
   slot_low : (v : ℕ) → guest_slot (cpu_of own) step ≡ Some v → v < 64
   slot_low v e =
       let slot : Option ℕ = guest_slot (cpu_of own) step in
       let x = used_of (names step) slot cpu left.state.contents in
-      let is : slot ≡ guest_slot x.cpu step = ap (λ (k : Cpu). guest_slot k step) ((own_left cpu own left).content ∙ sym (used_cpu (names step) slot cpu left.state.contents)) in
-      (reached_relies (layout_of key) cpu slot step x known is ∣ record { ready = left.ready; log = left.log; state = left.state; run = left.run; used = refl } ∣₁).slot_low v e
+      let is : slot ≡ guest_slot x.cpu step =
+      ap (λ (k : Cpu). guest_slot k step)
+      ((own_left cpu own left).content ∙ sym (used_cpu (names step) slot cpu left.state.contents)) in
+      (reached_relies
+      (layout_of key) cpu slot step x known
+      is ∣ record {
+        ready = left.ready;
+        log = left.log;
+        state = left.state;
+        run = left.run;
+        used = refl;
+      } ∣₁).slot_low v e
 
   pub guest_low : (v : ℕ) → parts_of (names step) (guest_slot (cpu_of own) step) ≡ Guest v → v < 64
-  guest_low v e = slot_low v (guest_found (uses_vms (names step)) (uses_shared (names step) (guest_slot (cpu_of own) step)) (guest_slot (cpu_of own) step) v e)
+  guest_low v e =
+      slot_low v
+      (guest_found (uses_vms (names step)) (uses_shared (names step) (guest_slot (cpu_of own) step))
+      (guest_slot (cpu_of own) step) v e)
 
   pub both_low : (v : ℕ) → parts_of (names step) (guest_slot (cpu_of own) step) ≡ Both v → v < 64
-  both_low v e = slot_low v (both_found (uses_vms (names step)) (uses_shared (names step) (guest_slot (cpu_of own) step)) (guest_slot (cpu_of own) step) v e)
+  both_low v e =
+      slot_low v
+      (both_found (uses_vms (names step)) (uses_shared (names step) (guest_slot (cpu_of own) step))
+      (guest_slot (cpu_of own) step) v e)

@@ -76,17 +76,26 @@ is_not i j h = grind (arith, nat_tests)
 
 module _ {A : Type 0} where
   -- a part's number, by its kind
-  pub vms_number : (l : Layout) (s : Reference) (k : ℕ) (x : Slot A) (p : VmPart) → x ≡ VmSlot p → IsPart l s k x → k ≡ 0
+  pub vms_number : (l : Layout) (s : Reference) (k : ℕ) (x : Slot A) (p : VmPart)
+      → x ≡ VmSlot p
+      → IsPart l s k x
+      → k ≡ 0
   vms_number l s zero x p e h = refl
   vms_number l s (suc zero) x p e h = absurd (subst (IsPart l s 1) e h)
   vms_number l s (suc (suc v)) x p e h = absurd (subst (IsPart l s (suc (suc v))) e h)
 
-  pub shared_number : (l : Layout) (s : Reference) (k : ℕ) (x : Slot A) (p : SharedPart A) → x ≡ SharedSlot p → IsPart l s k x → k ≡ 1
+  pub shared_number : (l : Layout) (s : Reference) (k : ℕ) (x : Slot A) (p : SharedPart A)
+      → x ≡ SharedSlot p
+      → IsPart l s k x
+      → k ≡ 1
   shared_number l s zero x p e h = absurd (subst (IsPart l s 0) e h)
   shared_number l s (suc zero) x p e h = refl
   shared_number l s (suc (suc v)) x p e h = absurd (subst (IsPart l s (suc (suc v))) e h)
 
-  pub guest_number : (l : Layout) (s : Reference) (k : ℕ) (x : Slot A) (p : GuestPart A) → x ≡ GuestSlot p → IsPart l s k x → 1 < k
+  pub guest_number : (l : Layout) (s : Reference) (k : ℕ) (x : Slot A) (p : GuestPart A)
+      → x ≡ GuestSlot p
+      → IsPart l s k x
+      → 1 < k
   guest_number l s zero x p e h = absurd (subst (IsPart l s 0) e h)
   guest_number l s (suc zero) x p e h = absurd (subst (IsPart l s 1) e h)
   guest_number l s (suc (suc v)) x p e h = omega arith
@@ -101,31 +110,59 @@ module _ {A : Type 0} where
     pub vms_only : (p : VmPart) (j : ℕ) → lent_at {A = A} slot (lent_vms p k) j ≡ only_at 0 (VmSlot p) j
     vms_only p zero = refl
     vms_only p (suc zero) = refl
-    vms_only p (suc (suc u)) = same (is_slot slot u) None ∙ sym (ap (λ b. cond b (Some (VmSlot p)) None) (ne_eqb (suc (suc u)) 0 (λ e. omega (arith, e))))
+    vms_only p (suc (suc u)) =
+        same (is_slot slot u) None
+        ∙ sym (ap (λ b. cond b (Some (VmSlot p)) None) (ne_eqb (suc (suc u)) 0 (λ e. omega (arith, e))))
 
     pub shared_only : (p : SharedPart A) (j : ℕ) → lent_at slot (lent_shared p k) j ≡ only_at 1 (SharedSlot p) j
     shared_only p zero = refl
     shared_only p (suc zero) = refl
-    shared_only p (suc (suc u)) = same (is_slot slot u) None ∙ sym (ap (λ b. cond b (Some (SharedSlot p)) None) (ne_eqb (suc (suc u)) 1 (λ e. omega (arith, e))))
+    shared_only p (suc (suc u)) =
+        same (is_slot slot u) None
+        ∙ sym (ap (λ b. cond b (Some (SharedSlot p)) None) (ne_eqb (suc (suc u)) 1 (λ e. omega (arith, e))))
 
-    pub guest_only : (v n : ℕ) (p : GuestPart A) → slot ≡ Some v → n ≡ v + 2 → (j : ℕ) → lent_at slot (lent_guest p k) j ≡ only_at n (GuestSlot p) j
-    guest_only v n p is at zero = sym (ap (λ b. cond b (Some (GuestSlot p)) None) (ne_eqb 0 n (λ e. omega (arith, e, at))))
-    guest_only v n p is at (suc zero) = sym (ap (λ b. cond b (Some (GuestSlot p)) None) (ne_eqb 1 n (λ e. omega (arith, e, at))))
+    pub guest_only : (v n : ℕ) (p : GuestPart A)
+        → slot ≡ Some v
+        → n ≡ v + 2
+        → (j : ℕ)
+        → lent_at slot (lent_guest p k) j ≡ only_at n (GuestSlot p) j
+    guest_only v n p is at zero =
+        sym (ap (λ b. cond b (Some (GuestSlot p)) None) (ne_eqb 0 n (λ e. omega (arith, e, at))))
+    guest_only v n p is at (suc zero) =
+        sym (ap (λ b. cond b (Some (GuestSlot p)) None) (ne_eqb 1 n (λ e. omega (arith, e, at))))
     guest_only v n p is at (suc (suc u)) = ap (λ o. cond (is_slot o u) (Some (GuestSlot p)) None) is ∙ by_eq u v
-        (λ e. ap (λ b. cond b (Some (GuestSlot p)) None) (is_same u v e) ∙ sym (ap (λ b. cond b (Some (GuestSlot p)) None) (eq-eqb (suc (suc u)) n (omega (arith, e, at)))))
-        (λ ne. ap (λ b. cond b (Some (GuestSlot p)) None) (is_not u v ne) ∙ sym (ap (λ b. cond b (Some (GuestSlot p)) None) (ne_eqb (suc (suc u)) n (λ e. ne (omega (arith, e, at))))))
+        (λ e. ap (λ b. cond b (Some (GuestSlot p)) None) (is_same u v e)
+        ∙ sym (ap (λ b. cond b (Some (GuestSlot p)) None) (eq-eqb (suc (suc u)) n (omega (arith, e, at)))))
+        (λ ne. ap (λ b. cond b (Some (GuestSlot p)) None) (is_not u v ne)
+        ∙ sym
+        (ap (λ b. cond b (Some (GuestSlot p)) None) (ne_eqb (suc (suc u)) n (λ e. ne (omega (arith, e, at))))))
 
-    pub both_is : (v : ℕ) (s : SharedPart A) (p : GuestPart A) → slot ≡ Some v → (j : ℕ) → lent_at slot (lent_both s p k) j ≡ both_at (v + 2) (GuestSlot p) 1 (SharedSlot s) j
+    pub both_is : (v : ℕ) (s : SharedPart A) (p : GuestPart A)
+        → slot ≡ Some v
+        → (j : ℕ)
+        → lent_at slot (lent_both s p k) j ≡ both_at (v + 2) (GuestSlot p) 1 (SharedSlot s) j
     both_is v s p is zero = sym (ap (λ b. cond b (Some (GuestSlot p)) None) (ne_eqb 0 (v + 2) (λ e. omega (arith, e))))
-    both_is v s p is (suc zero) = sym (ap (λ b. cond b (Some (GuestSlot p)) (Some (SharedSlot s))) (ne_eqb 1 (v + 2) (λ e. omega (arith, e))))
+    both_is v s p is (suc zero) =
+        sym (ap (λ b. cond b (Some (GuestSlot p)) (Some (SharedSlot s))) (ne_eqb 1 (v + 2) (λ e. omega (arith, e))))
     both_is v s p is (suc (suc u)) =
-        let rest : cond (eqb (suc (suc u)) 1) (Some (SharedSlot s)) None ≡ None = ap (λ b. cond b (Some (SharedSlot s)) None) (ne_eqb (suc (suc u)) 1 (λ e. omega (arith, e))) in
+        let rest : cond (eqb (suc (suc u)) 1) (Some (SharedSlot s)) None ≡ None =
+        ap (λ b. cond b (Some (SharedSlot s)) None) (ne_eqb (suc (suc u)) 1 (λ e. omega (arith, e))) in
         ap (λ o. cond (is_slot o u) (Some (GuestSlot p)) None) is ∙ by_eq u v
-        (λ e. ap (λ b. cond b (Some (GuestSlot p)) None) (is_same u v e) ∙ sym (ap (λ b. cond b (Some (GuestSlot p)) (cond (eqb (suc (suc u)) 1) (Some (SharedSlot s)) None)) (eq-eqb (suc (suc u)) (v + 2) (omega (arith, e)))))
-        (λ ne. ap (λ b. cond b (Some (GuestSlot p)) None) (is_not u v ne) ∙ sym (ap (λ b. cond b (Some (GuestSlot p)) (cond (eqb (suc (suc u)) 1) (Some (SharedSlot s)) None)) (ne_eqb (suc (suc u)) (v + 2) (λ e. ne (omega (arith, e)))) ∙ rest))
+        (λ e. ap (λ b. cond b (Some (GuestSlot p)) None) (is_same u v e)
+        ∙ sym
+        (ap (λ b. cond b (Some (GuestSlot p)) (cond (eqb (suc (suc u)) 1) (Some (SharedSlot s)) None))
+        (eq-eqb (suc (suc u)) (v + 2) (omega (arith, e)))))
+        (λ ne. ap (λ b. cond b (Some (GuestSlot p)) None) (is_not u v ne)
+        ∙ sym
+        (ap (λ b. cond b (Some (GuestSlot p)) (cond (eqb (suc (suc u)) 1) (Some (SharedSlot s)) None))
+        (ne_eqb (suc (suc u)) (v + 2) (λ e. ne (omega (arith, e))))
+        ∙ rest))
 
   -- what is so of parts is so of the same parts
-  pub left_as : (l : Layout) (cpu : ℕ) (own : CpuState) (f g : ℕ → Option (Slot A)) → ((j : ℕ) → f j ≡ g j) → IsLeft l cpu own g → IsLeft l cpu own f
+  pub left_as : (l : Layout) (cpu : ℕ) (own : CpuState) (f g : ℕ → Option (Slot A))
+      → ((j : ℕ) → f j ≡ g j)
+      → IsLeft l cpu own g
+      → IsLeft l cpu own f
   left_as l cpu own f g e h = record {
     ready = h.ready;
     log = h.log;
@@ -136,13 +173,19 @@ module _ {A : Type 0} where
     parts = λ j x q. h.parts j x (sym (e j) ∙ q);
   }
 
-  pub does_as : (l : Layout) (c : Call) (b b' : ℕ → Option (Slot A)) (own : CpuState) (a a' : ℕ → Option (Slot A)) (owned : CpuState) → ((k : ℕ) → b k ≡ b' k) → ((k : ℕ) → a k ≡ a' k)
+  pub does_as : (l : Layout) (c : Call) (b b' : ℕ → Option (Slot A)) (own : CpuState) (a a' : ℕ → Option (Slot A))
+      (owned : CpuState)
+      → ((k : ℕ) → b k ≡ b' k)
+      → ((k : ℕ) → a k ≡ a' k)
       → Does l c b own a owned → Does l c b' own a' owned
   does_as l c b b' own a a' owned B A' d = record {
     stored = d.stored;
     mine = d.mine;
     used = λ k u. let t = d.used k u in (t.0, t.1, sym (B k) ∙ t.2, sym (A' k) ∙ t.3, t.4);
     only = λ k y e. d.only k y (A' k ∙ e);
-    goes = λ s parts o. let t = d.goes s (λ k x e. parts k x (sym (B k) ∙ e)) o in (t.0, t.1, (λ k y e. t.2 k y (A' k ∙ e)), t.3, t.4, t.5);
-    wants = λ why s parts o change made has. d.wants why s (λ k x e. parts k x (sym (B k) ∙ e)) o change made (λ k x e. has k x (sym (B k) ∙ e));
+    goes = λ s parts o. let t = d.goes s (λ k x e. parts k x (sym (B k) ∙ e)) o in
+        (t.0, t.1, (λ k y e. t.2 k y (A' k ∙ e)), t.3, t.4, t.5);
+    wants =
+        λ why s parts o change made has. d.wants why s (λ k x e. parts k x (sym (B k) ∙ e)) o change made
+        (λ k x e. has k x (sym (B k) ∙ e));
   }

@@ -26,7 +26,10 @@ module _ {A : Type 0} (before : ℕ → Option (Slot A)) where
   abbrev tries_of : List ℕ → List Try
   tries_of ks = map (λ k. (k, option_map log_of (before k))) ks
 
-  there : (k : ℕ) (log : StoredCalls) (o : Option (Slot A)) → before k ≡ o → Some log ≡ option_map log_of o → (x : Slot A) × (before k ≡ Some x) × (log_of x ≡ log)
+  there : (k : ℕ) (log : StoredCalls) (o : Option (Slot A))
+      → before k ≡ o
+      → Some log ≡ option_map log_of o
+      → (x : Slot A) × (before k ≡ Some x) × (log_of x ≡ log)
   there k log None is e = absurd (let no : Some log ≡ None = e in cc)
   there k log (Some x) is e = let same : log_of x ≡ log = cc in (x, is, same)
 
@@ -39,7 +42,12 @@ module _ {A : Type 0} (before : ℕ → Option (Slot A)) where
     as_taken (k ∷ ks) ts a e =
         let both : (k, Some a.0) ∷ a.1 ≡ tries_of (k ∷ ks) = sym a.2 ∙ e in
         let x = there k a.0 (before k) (λ i. before k) (ap first_log both) in
-        All-cons IsSeen k ks (x.0, x.1, a.5 ∙ ap (λ (g : StoredCalls). g.calls ++ c ∷ []) (sym x.2)) (as_taken ks a.1 a.6 (ap later both))
+        All-cons IsSeen k ks (x.0, x.1, a.5 ∙ ap (λ (g : StoredCalls). g.calls ++ c ∷ []) (sym x.2))
+        (as_taken ks a.1 a.6 (ap later both))
 
-pub made_as_taken : {A T : Type 0} (tells : TheLayout → (ℕ → Option (Slot A)) → CpuState → Call → (ℕ → Option (Slot A)) → CpuState → T → T → Type 0) → MadeAsTaken tells
-made_as_taken tells step reply v w from to s m = as_taken m.makes.before s.call v w (used_by step v) s.tries s.taken (append_cancel_left v.tries s.tries (tries_of m.makes.before (used_by step v)) (sym s.tried ∙ m.makes.tried))
+pub made_as_taken : {A T : Type 0}
+    (tells : TheLayout → (ℕ → Option (Slot A)) → CpuState → Call → (ℕ → Option (Slot A)) → CpuState → T → T → Type 0)
+    → MadeAsTaken tells
+made_as_taken tells step reply v w from to s m =
+    as_taken m.makes.before s.call v w (used_by step v) s.tries s.taken
+    (append_cancel_left v.tries s.tries (tries_of m.makes.before (used_by step v)) (sym s.tried ∙ m.makes.tried))

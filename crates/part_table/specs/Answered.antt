@@ -15,7 +15,8 @@ use Rattle.part_table.specs.Tried.{Try, AllTaken, EndsIn, FoundAway, FoundFull}
 abbrev pub used_by : Step → Known → List ℕ
 used_by step v = numbers_for v.own step
 
--- a stored call: it is the step's, with the reply, and is added to the pass's own list. Each part that it used was tried once and taken
+-- a stored call: it is the step's, with the reply, and is added to the pass's own list. Each part
+-- that it used was tried once and taken
 pub record MakesCall (step : Step) (reply : Reply) (v w : Known) : Type 0 where
   pub call : Call
   pub called : IsCalled v.cpu v.own step call
@@ -26,7 +27,8 @@ pub record MakesCall (step : Step) (reply : Reply) (v w : Known) : Type 0 where
   pub tried : w.tries ≡ v.tries ++ tries
   pub taken : AllTaken call v w (used_by step v) tries
 
--- another pass has a part that the step uses: the last try, and no other, found a part taken. Nothing else changed
+-- another pass has a part that the step uses: the last try, and no other, found a part taken.
+-- Nothing else changed
 pub record FindsAway (step : Step) (v w : Known) : Type 0 where
   pub same : IsSame v w
   pub room : v.own.log.room ≢ 0
@@ -41,14 +43,18 @@ pub record MeetsAnother (v w : Known) : Type 0 where
   pub after : List Try
   pub tried : w.tries ≡ v.tries ++ (before ++ (part, None) ∷ after)
 
--- a log is full: the CPU's, and no part was tried, or that of the part that was tried last, as it was taken. Nothing else changed
+-- a log is full: the CPU's, and no part was tried, or that of the part that was tried last, as it
+-- was taken. Nothing else changed
 pub record FindsLogFull (step : Step) (v w : Known) : Type 0 where
   pub same : IsSame v w
   pub tries : List Try
   pub tried : w.tries ≡ v.tries ++ tries
-  pub full : ((v.own.log.room ≡ 0) × (tries ≡ [])) ⊎ ((v.own.log.room ≢ 0) × EndsIn FoundFull (used_by step v) tries)
+  pub full : ((v.own.log.room ≡ 0) × (tries ≡ []))
+      ⊎ ((v.own.log.room ≢ 0) × EndsIn FoundFull (used_by step v) tries)
 
--- The reply to one try: a stored call was made; with Contended another pass has a part that the step uses, and no other reply is given if one was met so; with LogFull a log that would store the call is full
+-- The reply to one try: a stored call was made; with Contended another pass has a part that the
+-- step uses, and no other reply is given if one was met so; with LogFull a log that would store the
+-- call is full
 pub record Answers (step : Step) (reply : Reply) (v w : Known) : Type 0 where
   pub stored : IsStored reply → MakesCall step reply v w
   pub contended : reply ≡ Refused Contended → FindsAway step v w

@@ -15,7 +15,13 @@ use Rattle.part_table.specs.Known.{own_at_boot}
 use Rattle.part_table.specs.Parts.{parts, part_of, log_of}
 
 abbrev pub no_layout : TheLayout
-no_layout = record { map = record { regions = []; carve = record { first = record { 0 = 0 }; count = 0 } }; config = record { cpus = 0; log = 0; geometry = 39 }; geometry = Bits39; known = refl }
+no_layout =
+    record {
+      map = record { regions = []; carve = record { first = record { 0 = 0 }; count = 0 } };
+      config = record { cpus = 0; log = 0; geometry = 39 };
+      geometry = Bits39;
+      known = refl;
+    }
 
 abbrev pub no_own : CpuState
 no_own = own_at_boot no_layout 0
@@ -34,7 +40,8 @@ begun_in k = record { logs = logs_in k.slots.value.items; owns = k.owns.value.it
 abbrev pub own_in : Begun → ℕ → CpuState
 own_in b c = slice_index_or b.owns c no_own
 
--- a history goes on from one that left what the table began with: calls that come first, which are those of the logs of parts and CPUs there, and then others
+-- a history goes on from one that left what the table began with: calls that come first, which are
+-- those of the logs of parts and CPUs there, and then others
 pub record GoesOn (b : Begun) (log : List Call) : Type 0 where
   pub first : List Call
   pub after : List Call
@@ -44,4 +51,5 @@ pub record GoesOn (b : Begun) (log : List Call) : Type 0 where
 
 -- a run leaves the own state with which each CPU begins
 abbrev pub AreLeftFirst : Type 0 → TheLayout → Begun → Type 0
-AreLeftFirst A l b = (c : ℕ) → c < l.config.cpus → IsLeft {A = A} (layout_of l) c (own_in b c) none_at
+AreLeftFirst A l b =
+    (c : ℕ) → c < l.config.cpus → IsLeft {A = A} (layout_of l) c (own_in b c) none_at

@@ -1,4 +1,5 @@
--- What one call does to the parts that it uses and to its CPU's own state, whatever the rest of the state is.
+-- What one call does to the parts that it uses and to its CPU's own state, whatever the rest of the
+-- state is.
 use Rattle.std.specs.Prelude.{◌≡◌, ◌≢◌, ℕ, ◌+◌, false, true, cond, eqb, length, All, List, Option, Some, None, Ok}
 use Rattle.call_table.specs.declared.reply.Call.{Call}
 use Rattle.call_table.specs.declared.reply.Refusal.TheVariants.{NoMemory}
@@ -44,15 +45,22 @@ module _ {A : Type 0} where
   abbrev pub pair_at : ℕ → Slot A → Slot A → ℕ → Option (Slot A)
   pair_at v shared guest = both_at (v + 2) guest 1 shared
 
-  -- There is one legal history, and all that is kept is as at its end: CPUs' own states by number, each with its calls, and parts by number, each with the calls on it. Parts that aren't kept may be anything
-  pub record AreLeft (l : Layout) (owns : ℕ → Option CpuState) (kept : ℕ → Option (Slot A)) : Type 0 where
+  -- There is one legal history, and all that is kept is as at its end: CPUs' own states by number,
+  -- each with its calls, and parts by number, each with the calls on it. Parts that aren't kept may
+  -- be anything
+  pub record AreLeft (l : Layout) (owns : ℕ → Option CpuState)
+      (kept : ℕ → Option (Slot A)) : Type 0 where
     pub ready : CanBoot l
     pub log : List Call
     pub state : Reference
     pub run : IsRun l log state
     pub stored : All (λ c. IsStored c.reply) log
-    pub cpus : (c : ℕ) (k : CpuState) → owns c ≡ Some k → (k.log.calls ≡ calls_by c log) × IsOwn l state c k
-    pub parts : (k : ℕ) (x : Slot A) → kept k ≡ Some x → IsPart l state k x × ((log_of x).calls ≡ calls_on (part_of k) log)
+    pub cpus : (c : ℕ) (k : CpuState)
+        → owns c ≡ Some k
+        → (k.log.calls ≡ calls_by c log) × IsOwn l state c k
+    pub parts : (k : ℕ) (x : Slot A)
+        → kept k ≡ Some x
+        → IsPart l state k x × ((log_of x).calls ≡ calls_on (part_of k) log)
 
   -- what a step may rely on: a run leaves these parts and the CPU's own state
   abbrev pub IsLeft : Layout → ℕ → CpuState → (ℕ → Option (Slot A)) → Type 0
@@ -66,19 +74,41 @@ module _ {A : Type 0} where
 
   -- memory may run out for a call on these parts, in a state: the decided changes may need a growth
   abbrev pub CanWantFor : Layout → Call → (ℕ → Option (Slot A)) → Reference → Type 0
-  CanWantFor l c parts s = (h : Changes) → decides l c.cpu c.slot c.step (used_of (names c.step) c.slot c.cpu s.contents) ≡ Ok h → ((k : ℕ) (x : Slot A) → parts k ≡ Some x → HasMemoryFor h x) → ⊥
+  CanWantFor l c parts s =
+      (h : Changes)
+      → decides l c.cpu c.slot c.step (used_of (names c.step) c.slot c.cpu s.contents) ≡ Ok h
+      → ((k : ℕ) (x : Slot A) → parts k ≡ Some x → HasMemoryFor h x)
+      → ⊥
 
-  -- The call is the reference step on the parts that it uses and on its CPU's own state, in each state that has these: nothing else of the state changes. It is stored in the log of each part that it uses, and in its CPU's. Memory runs out only where it may
-  pub record Does (l : Layout) (c : Call) (before : ℕ → Option (Slot A)) (own : CpuState) (after : ℕ → Option (Slot A)) (owned : CpuState) : Type 0 where
+  -- The call is the reference step on the parts that it uses and on its CPU's own state, in each
+  -- state that has these: nothing else of the state changes. It is stored in the log of each part
+  -- that it uses, and in its CPU's. Memory runs out only where it may
+  pub record Does (l : Layout) (c : Call) (before : ℕ → Option (Slot A)) (own : CpuState)
+      (after : ℕ → Option (Slot A)) (owned : CpuState) : Type 0 where
     pub stored : IsStored c.reply
     pub mine : owned.log ≡ with_call c own.log
-    pub used : (k : ℕ) → uses c k ≡ true → (x : Slot A) × (y : Slot A) × (before k ≡ Some x) × (after k ≡ Some y) × (log_of y ≡ with_call c (log_of x))
+    pub used : (k : ℕ)
+        → uses c k ≡ true
+        → (x : Slot A)
+        × (y : Slot A)
+        × (before k ≡ Some x)
+        × (after k ≡ Some y)
+        × (log_of y ≡ with_call c (log_of x))
     pub only : (k : ℕ) (y : Slot A) → after k ≡ Some y → uses c k ≡ true
-    pub goes : (s : Reference) → ((k : ℕ) (x : Slot A) → before k ≡ Some x → IsPart l s k x) → IsOwn l s c.cpu own
-        → (t : Reference) × Steps l s c t × ((k : ℕ) (y : Slot A) → after k ≡ Some y → IsPart l t k y) × IsOwn l t c.cpu owned
+    pub goes : (s : Reference)
+        → ((k : ℕ) (x : Slot A) → before k ≡ Some x → IsPart l s k x)
+        → IsOwn l s c.cpu own
+        → (t : Reference)
+        × Steps l s c t
+        × ((k : ℕ) (y : Slot A) → after k ≡ Some y → IsPart l t k y)
+        × IsOwn l t c.cpu owned
         × ((k : ℕ) (x : Slot A) → uses c k ≡ false → IsPart l s k x → IsPart l t k x)
         × ((j : ℕ) (k : CpuState) → j ≢ c.cpu → IsOwn l s j k → IsOwn l t j k)
-    pub wants : c.reply ≡ Refused NoMemory → (s : Reference) → ((k : ℕ) (x : Slot A) → before k ≡ Some x → IsPart l s k x) → IsOwn l s c.cpu own → CanWantFor l c before s
+    pub wants : c.reply ≡ Refused NoMemory
+        → (s : Reference)
+        → ((k : ℕ) (x : Slot A) → before k ≡ Some x → IsPart l s k x)
+        → IsOwn l s c.cpu own
+        → CanWantFor l c before s
 
 -- the call of a step that a CPU makes: its number is one more than its log held
 pub record IsCalled (cpu : ℕ) (own : CpuState) (step : Step) (c : Call) : Type 0 where

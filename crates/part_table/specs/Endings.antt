@@ -19,13 +19,15 @@ use Rattle.part_table.specs.Rule.{Ended}
 use Rattle.part_table.specs.Known.{AreFronts, StartsWith, seen_at}
 
 -- one legal history leaves all: the 66 parts, by number, and the CPUs' own states, by number
-pub record IsEndOf {A : Type 0} (l : TheLayout) (found : List (Slot A)) (cpus : List CpuState) : Type 0 where
+pub record IsEndOf {A : Type 0} (l : TheLayout) (found : List (Slot A))
+    (cpus : List CpuState) : Type 0 where
   pub all : length found ≡ parts
   pub count : length cpus ≡ l.config.cpus
   pub left : AreLeft (layout_of l) (λ c. slice_get cpus c) (λ k. slice_get found k)
 
 -- so it is where each part lies in its slot
-pub record IsEndIn {A : Type 0} (l : TheLayout) (slots : List (Option (Slot A))) (cpus : List CpuState) : Type 0 where
+pub record IsEndIn {A : Type 0} (l : TheLayout) (slots : List (Option (Slot A)))
+    (cpus : List CpuState) : Type 0 where
   pub found : List (Slot A)
   pub slots_are : slots ≡ map (λ x. Some x) found
   pub end : IsEndOf l found cpus
@@ -36,13 +38,17 @@ KeepsOwn cpus p = slice_get cpus p.knows.cpu ≡ Some p.knows.own
 
 -- each part's log begins with what the pass has seen of it
 abbrev pub KeepsSeen : {A : Type 0} → List (Slot A) → Pass → Type 0
-KeepsSeen {A = A} found p = (k : ℕ) (x : Slot A) → slice_get found k ≡ Some x → StartsWith (log_of x).calls (seen_at p.knows.seen k)
+KeepsSeen {A = A} found p =
+    (k : ℕ) (x : Slot A)
+    → slice_get found k ≡ Some x
+    → StartsWith (log_of x).calls (seen_at p.knows.seen k)
 
 -- the calls of the part of a number
 abbrev pub calls_at : {A : Type 0} → List (Slot A) → ℕ → List Call
 calls_at found k = unwrap_or (option_map (λ x. (log_of x).calls) (slice_get found k)) []
 
--- each part's log begins with each log of it that the pass took, and is of the same size: one that was full is as it was
+-- each part's log begins with each log of it that the pass took, and is of the same size: one that
+-- was full is as it was
 abbrev pub KeepsTried : {A : Type 0} → TheLayout → List (Slot A) → Pass → Type 0
 KeepsTried l found p = AreFronts l.config.log (calls_at found) p.knows.tries
 
@@ -50,8 +56,12 @@ KeepsTried l found p = AreFronts l.config.log (calls_at found) p.knows.tries
 abbrev pub ForEach : List (Option Pass) → (Pass → Type 0) → Type 0
 ForEach passes F = (c : ℕ) (p : Pass) → slice_get passes c ≡ Some (Some p) → F p
 
--- The parts and the CPUs' own states are the end of one legal history, which goes on from what the table began with, and it is each pass's: its CPU has the state in which it ends, with all its calls, and each part's log begins with what it has seen of the part and with each log of it that it took
-pub record IsEndFor {A : Type 0} (t : Opened) (found : List (Slot A)) (cpus : List CpuState) (Each : (Pass → Type 0) → Type 0) : Type 0 where
+-- The parts and the CPUs' own states are the end of one legal history, which goes on from what the
+-- table began with, and it is each pass's: its CPU has the state in which it ends, with all its
+-- calls, and each part's log begins with what it has seen of the part and with each log of it that
+-- it took
+pub record IsEndFor {A : Type 0} (t : Opened) (found : List (Slot A)) (cpus : List CpuState)
+    (Each : (Pass → Type 0) → Type 0) : Type 0 where
   pub end : IsEndOf t.layout found cpus
   pub goes_on : GoesOn t.begun end.left.log
   pub own : Each (KeepsOwn cpus)
@@ -60,7 +70,8 @@ pub record IsEndFor {A : Type 0} (t : Opened) (found : List (Slot A)) (cpus : Li
 
 -- there are such parts and states
 abbrev pub HasEnd : Type 0 → Opened → List (Option Pass) → Type 0
-HasEnd A t passes = (found : List (Slot A)) × (cpus : List CpuState) × IsEndFor t found cpus (ForEach passes)
+HasEnd A t passes =
+    (found : List (Slot A)) × (cpus : List CpuState) × IsEndFor t found cpus (ForEach passes)
 
 -- what the root keeps of a pass that ends
 abbrev pub ended_of : Pass → Ended
@@ -74,10 +85,14 @@ HasJoined p before after own = (after ≡ before ++ ended_of p ∷ []) × (own �
 abbrev pub owns_of : List Ended → List CpuState
 owns_of ended = map (λ e. e.0) ended
 
--- the first n passes have ended: the root has the state in which each ends, what it has seen and what it tried, and the list has the states
+-- the first n passes have ended: the root has the state in which each ends, what it has seen and
+-- what it tried, and the list has the states
 abbrev pub HaveEnded : ℕ → List (Option Pass) → List Ended → List CpuState → Type 0
 HaveEnded n passes ended cpus = (length ended ≡ n) × (length cpus ≡ n)
-    × ((c : ℕ) (p : Pass) → c < n → slice_get passes c ≡ Some (Some p) → (get_elem? ended c ≡ some (ended_of p)) × (slice_get cpus c ≡ Some p.knows.own))
+    × ((c : ℕ) (p : Pass)
+    → c < n
+    → slice_get passes c ≡ Some (Some p)
+    → (get_elem? ended c ≡ some (ended_of p)) × (slice_get cpus c ≡ Some p.knows.own))
 
 -- each slot has its part
 abbrev pub AllHome : {A : Type 0} → List (Option (Slot A)) → Type 0
@@ -85,7 +100,9 @@ AllHome {A = A} xs = (k : ℕ) → k < parts → (x : Slot A) × (get_elem? xs k
 
 -- the first n slots' parts, in order
 abbrev pub Gives : {A : Type 0} → ℕ → List (Option (Slot A)) → List (Slot A) → Type 0
-Gives {A = A} n xs found = (length found ≡ n) × ((k : ℕ) (x : Slot A) → k < n → get_elem? xs k ≡ some (Some x) → slice_get found k ≡ Some x)
+Gives {A = A} n xs found =
+    (length found ≡ n)
+    × ((k : ℕ) (x : Slot A) → k < n → get_elem? xs k ≡ some (Some x) → slice_get found k ≡ Some x)
 
 -- the first n places are empty
 abbrev pub emptied_to : ℕ → List Bool → Type 0

@@ -22,7 +22,9 @@ at (e ∷ es) d k = cond (eqb k e.0) e.1 (at es d k)
 abbrev pub seen_at : List (ℕ × List Call) → ℕ → List Call
 seen_at seen k = at seen [] k
 
--- What a pass knows while it holds no part: the layout, its CPU's number and own state with its log, what it has seen of each part's log, and each part that it tried, with its log as it was taken, or none where another pass had it
+-- What a pass knows while it holds no part: the layout, its CPU's number and own state with its
+-- log, what it has seen of each part's log, and each part that it tried, with its log as it was
+-- taken, or none where another pass had it
 pub record Known : Type 0 where
   pub layout : TheLayout
   pub cpu : ℕ
@@ -34,15 +36,28 @@ pub record Known : Type 0 where
 abbrev pub StartsWith : List Call → List Call → Type 0
 StartsWith xs ys = (rest : List Call) × (xs ≡ ys ++ rest)
 
--- each log that a try took is a part's, can store `most` calls in all, and begins the calls that the part has
+-- each log that a try took is a part's, can store `most` calls in all, and begins the calls that
+-- the part has
 abbrev pub AreFronts : ℕ → (ℕ → List Call) → List (ℕ × Option StoredCalls) → Type 0
-AreFronts most calls tries = All (λ t. (log : StoredCalls) → t.1 ≡ Some log → (t.0 < parts) × IsOfSize most log × StartsWith (calls t.0) log.calls) tries
+AreFronts most calls tries =
+    All
+    (λ t. (log : StoredCalls)
+    → t.1 ≡ Some log
+    → (t.0 < parts) × IsOfSize most log × StartsWith (calls t.0) log.calls) tries
 
 -- a CPU's own state before its first call
 abbrev pub own_at_boot : TheLayout → ℕ → CpuState
-own_at_boot l cpu = record { id = cpu; loaded = None; hand = None; ticket = None; log = record { calls = []; room = l.config.log } }
+own_at_boot l cpu =
+    record {
+      id = cpu;
+      loaded = None;
+      hand = None;
+      ticket = None;
+      log = record { calls = []; room = l.config.log };
+    }
 
--- there is a legal history that ends with the call. The pass's own state, with its list, is left by it, and what it has seen of the parts that the call used are the history's parts of them
+-- there is a legal history that ends with the call. The pass's own state, with its list, is left by
+-- it, and what it has seen of the parts that the call used are the history's parts of them
 pub record Extends (c : Call) (w : Known) : Type 0 where
   pub left : IsLeft {A = Unit {0}} (layout_of w.layout) w.cpu w.own none_at
   pub ends : (before : List Call) × (left.log ≡ before ++ c ∷ [])
@@ -55,7 +70,8 @@ pub record IsSame (v w : Known) : Type 0 where
   pub own : w.own ≡ v.own
   pub seen : w.seen ≡ v.seen
 
--- what a stored call leaves of it: the call is added to the pass's own list, and there is a legal history that it ends. What the pass has seen of parts that the call didn't use stays
+-- what a stored call leaves of it: the call is added to the pass's own list, and there is a legal
+-- history that it ends. What the pass has seen of parts that the call didn't use stays
 pub record Adds (c : Call) (v w : Known) : Type 0 where
   pub layout : w.layout ≡ v.layout
   pub cpu : w.cpu ≡ v.cpu

@@ -12,8 +12,21 @@ use Rattle.part_table.specs.Does.{Does, IsCalled, IsLeft}
 use Rattle.part_table.specs.Parts.{log_of, uses}
 use Rattle.part_table.specs.Known.{Known}
 
-module _ {A T : Type 0} (tells : TheLayout → (ℕ → Option (Slot A)) → CpuState → Call → (ℕ → Option (Slot A)) → CpuState → T → T → Type 0) (step : Step) where
-  -- The step of the call was made once, on the parts that it uses, by number, as they were taken, with the logs of the tries, and on the pass's own state. A run ends in them, and the call is the reference step on them. The maker reported it, and the parts and the state as the call left them
+module _ {A T : Type 0}
+    (tells : TheLayout
+    → (ℕ → Option (Slot A))
+    → CpuState
+    → Call
+    → (ℕ → Option (Slot A))
+    → CpuState
+    → T
+    → T
+    → Type 0)
+    (step : Step) where
+  -- The step of the call was made once, on the parts that it uses, by number, as they were taken,
+  -- with the logs of the tries, and on the pass's own state. A run ends in them, and the call is
+  -- the reference step on them. The maker reported it, and the parts and the state as the call left
+  -- them
   pub record Makes (ks : List ℕ) (v w : Known) (c : Call) (from to : T) : Type 0 where
     pub before : ℕ → Option (Slot A)
     pub after : ℕ → Option (Slot A)

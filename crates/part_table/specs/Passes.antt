@@ -38,7 +38,8 @@ opened_in table k = opened_as table k.layout (begun_in k)
 
 -- what a CPU's pass knows before its first call
 abbrev pub first_known : Opened → ℕ → Known
-first_known t cpu = record { layout = t.layout; cpu = cpu; own = own_in t.begun cpu; seen = []; tries = [] }
+first_known t cpu =
+    record { layout = t.layout; cpu = cpu; own = own_in t.begun cpu; seen = []; tries = [] }
 
 -- and the pass
 abbrev pub first_pass : Opened → ℕ → Pass
@@ -46,7 +47,8 @@ first_pass t cpu = record { table = t.table; knows = first_known t cpu; holds = 
 
 -- each of the first n CPUs has its pass at its place, before its first call
 abbrev pub AreFirst : Opened → ℕ → List (Option Pass) → Type 0
-AreFirst t n passes = (length passes ≡ n) × ((c : ℕ) → c < n → slice_get passes c ≡ Some (Some (first_pass t c)))
+AreFirst t n passes =
+    (length passes ≡ n) × ((c : ℕ) → c < n → slice_get passes c ≡ Some (Some (first_pass t c)))
 
 -- the pass is of this table
 pub record IsPassOf (t : Opened) (p : Pass) : Type 0 where
@@ -55,14 +57,16 @@ pub record IsPassOf (t : Opened) (p : Pass) : Type 0 where
 
 -- a pass of the table is at its CPU's place
 abbrev pub IsThere : TableId → List (Option Pass) → ℕ → Type 0
-IsThere table passes c = (p : Pass) × (slice_get passes c ≡ Some (Some p)) × (p.table ≡ table) × (p.knows.cpu ≡ c)
+IsThere table passes c =
+    (p : Pass) × (slice_get passes c ≡ Some (Some p)) × (p.table ≡ table) × (p.knows.cpu ≡ c)
 
 -- so it is for each CPU from c on, below n
 abbrev pub AreHomeFrom : TableId → ℕ → ℕ → List (Option Pass) → Type 0
 AreHomeFrom table n c passes = (j : ℕ) → c ≤ j → j < n → IsThere table passes j
 
 -- the root's seat of an open table
-pub record IsReady {A : Type 0} (table : TableId) (key : Opening A) (root_table : TableId) (root : ℕ) (me : Seated A) (layout : TheLayout) : Type 0 where
+pub record IsReady {A : Type 0} (table : TableId) (key : Opening A) (root_table : TableId)
+    (root : ℕ) (me : Seated A) (layout : TheLayout) : Type 0 where
   pub words : table.words ≡ parts
   pub slots : table.slots ≡ parts
   pub key_is : key.layout ≡ layout

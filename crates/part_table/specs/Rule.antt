@@ -46,12 +46,14 @@ known_of v = record { layout = v.layout; cpu = v.cpu; own = v.own; seen = v.seen
 abbrev pub AreFrontsIn : TheLayout → List Call → List (ℕ × Option StoredCalls) → Type 0
 AreFrontsIn key log tries = AreFronts key.config.log (λ k. calls_on (part_of k) log) tries
 
-module _ {A : Type 0} (key : TheLayout) (ws : List ℕ) (holder : ℕ → ℕ) (log : List Call) (state : Reference) where
+module _ {A : Type 0} (key : TheLayout) (ws : List ℕ) (holder : ℕ → ℕ) (log : List Call)
+    (state : Reference) where
   -- the part is as after the history, and its log is the history's part of it
   abbrev pub StandsAfter : ℕ → Slot A → Type 0
   StandsAfter k x = IsPart (layout_of key) state k x × ((log_of x).calls ≡ calls_on (part_of k) log)
 
-  -- what the view of a seat knows. The seat of a CPU is the next after those of the CPUs before it and the root's
+  -- what the view of a seat knows. The seat of a CPU is the next after those of the CPUs before it
+  -- and the root's
   pub record Knows (j : ℕ) (v : View A) : Type 0 where
     pub layout : v.on ≡ true → v.layout ≡ key
     pub known : v.on ≡ true → v.cpu < key.config.cpus
@@ -60,22 +62,41 @@ module _ {A : Type 0} (key : TheLayout) (ws : List ℕ) (holder : ℕ → ℕ) (
     pub own : v.on ≡ true → IsOwn (layout_of key) state v.cpu v.own
     pub seen : v.on ≡ true → (k : ℕ) → StartsWith (calls_on (part_of k) log) (seen_at v.seen k)
     pub tried : v.on ≡ true → AreFrontsIn key log v.tries
-    pub held : (k : ℕ) (x : Slot A) → held_at v.held k ≡ Some x → (v.on ≡ true) × (k < parts) × (slice_index ws k ≢ 0) × (holder k ≡ j) × StandsAfter k x
+    pub held : (k : ℕ) (x : Slot A)
+        → held_at v.held k ≡ Some x
+        → (v.on ≡ true) × (k < parts) × (slice_index ws k ≢ 0) × (holder k ≡ j) × StandsAfter k x
 
--- what the root knows: how many CPUs have a seat, of the first ones, which have ended, their states, what they have seen and tried, that the others are as they began, and that the history goes on from what the table began with
-pub record Rooted {A : Type 0} (key : TheLayout) (views : List (View A)) (log : List Call) (state : Reference) (v : View A) : Type 0 where
+-- what the root knows: how many CPUs have a seat, of the first ones, which have ended, their
+-- states, what they have seen and tried, that the others are as they began, and that the history
+-- goes on from what the table began with
+pub record Rooted {A : Type 0} (key : TheLayout) (views : List (View A)) (log : List Call)
+    (state : Reference) (v : View A) : Type 0 where
   pub off : v.on ≡ false
   pub layout : v.layout ≡ key
   pub count : length views ≡ v.made + 1
-  pub fresh : (c : ℕ) → v.made ≤ c → c < key.config.cpus → ((own_in v.begun c).log.calls ≡ calls_by c log) × IsOwn (layout_of key) state c (own_in v.begun c)
+  pub fresh : (c : ℕ)
+      → v.made ≤ c
+      → c < key.config.cpus
+      → ((own_in v.begun c).log.calls ≡ calls_by c log)
+      × IsOwn (layout_of key) state c (own_in v.begun c)
   pub goes_on : GoesOn v.begun log
   pub few : length v.ended ≤ v.made
-  pub ended : (c : ℕ) (e : Ended) → get_elem? v.ended c ≡ some e → (e.0.log.calls ≡ calls_by c log) × IsOwn (layout_of key) state c e.0 × ((u : View A) → get_elem? views (c + 1) ≡ some u → u.on ≡ false)
-  pub seen : (c : ℕ) (e : Ended) → get_elem? v.ended c ≡ some e → (k : ℕ) → StartsWith (calls_on (part_of k) log) (seen_at e.1 k)
+  pub ended : (c : ℕ) (e : Ended)
+      → get_elem? v.ended c ≡ some e
+      → (e.0.log.calls ≡ calls_by c log)
+      × IsOwn (layout_of key) state c e.0
+      × ((u : View A) → get_elem? views (c + 1) ≡ some u → u.on ≡ false)
+  pub seen : (c : ℕ) (e : Ended)
+      → get_elem? v.ended c ≡ some e
+      → (k : ℕ)
+      → StartsWith (calls_on (part_of k) log) (seen_at e.1 k)
   pub tried : (c : ℕ) (e : Ended) → get_elem? v.ended c ≡ some e → AreFrontsIn key log e.2
 
--- The rule: a word says whether its part is taken, a taken part is held by exactly one seat, and there is a legal history that ends in all parts and all CPUs' own states. What a pass has seen of a part begins its log, and so does each log that it took, also once the pass has ended
-pub record IsLawful {A : Type 0} (key : TheLayout) (s : State (Option (Slot A)) (View A)) : Type 0 where
+-- The rule: a word says whether its part is taken, a taken part is held by exactly one seat, and
+-- there is a legal history that ends in all parts and all CPUs' own states. What a pass has seen of
+-- a part begins its log, and so does each log that it took, also once the pass has ended
+pub record IsLawful {A : Type 0} (key : TheLayout)
+    (s : State (Option (Slot A)) (View A)) : Type 0 where
   pub ready : CanBoot (layout_of key)
   pub log : List Call
   pub state : Reference
@@ -84,17 +105,46 @@ pub record IsLawful {A : Type 0} (key : TheLayout) (s : State (Option (Slot A)) 
   pub stored : All (λ c. IsStored c.reply) log
   pub wide : length s.words ≡ parts
   pub deep : length s.homes ≡ parts
-  pub at_home : (k : ℕ) → k < parts → slice_index s.words k ≡ 0 → (x : Slot A) × (get_elem? s.homes k ≡ some (some (Some x))) × StandsAfter key s.words holder log state k x
-  pub taken : (k : ℕ) → k < parts → slice_index s.words k ≢ 0 → (v : View A) × (x : Slot A) × (get_elem? s.views (holder k) ≡ some v) × (held_at v.held k ≡ Some x)
-  pub each_seat : (j : ℕ) (v : View A) → get_elem? s.views j ≡ some v → Knows key s.words holder log state j v
-  pub root : (v : View A) → get_elem? s.views 0 ≡ some v → v.root ≡ true → Rooted key s.views log state v
+  pub at_home : (k : ℕ)
+      → k < parts
+      → slice_index s.words k ≡ 0
+      → (x : Slot A)
+      × (get_elem? s.homes k ≡ some (some (Some x)))
+      × StandsAfter key s.words holder log state k x
+  pub taken : (k : ℕ)
+      → k < parts
+      → slice_index s.words k ≢ 0
+      → (v : View A)
+      × (x : Slot A)
+      × (get_elem? s.views (holder k) ≡ some v)
+      × (held_at v.held k ≡ Some x)
+  pub each_seat : (j : ℕ) (v : View A)
+      → get_elem? s.views j ≡ some v
+      → Knows key s.words holder log state j v
+  pub root : (v : View A)
+      → get_elem? s.views 0 ≡ some v
+      → v.root ≡ true
+      → Rooted key s.views log state v
 
 abbrev pub no_call : Call
 no_call = record { cpu = 0; number = 0; step = Unfund; reply = Done Nothing; slot = None }
 
 -- the view of a seat of nobody
 abbrev pub nobody : {A : Type 0} → View A
-nobody = record { on = false; layout = no_layout; cpu = 0; own = no_own; seen = []; held = []; tries = []; root = false; begun = record { logs = []; owns = [] }; made = 0; ended = [] }
+nobody =
+    record {
+      on = false;
+      layout = no_layout;
+      cpu = 0;
+      own = no_own;
+      seen = [];
+      held = [];
+      tries = [];
+      root = false;
+      begun = record { logs = []; owns = [] };
+      made = 0;
+      ended = [];
+    }
 
 -- the root's view, before a CPU has a seat
 abbrev pub rooted : {A : Type 0} → Opening A → View A
@@ -105,7 +155,8 @@ one_more v = record v { made = v.made + 1 }
 
 -- the view of the next CPU
 abbrev pub newcomer : {A : Type 0} → View A → View A
-newcomer v = record nobody { on = true; layout = v.layout; cpu = v.made; own = own_in v.begun v.made }
+newcomer v =
+    record nobody { on = true; layout = v.layout; cpu = v.made; own = own_in v.begun v.made }
 
 -- the root has taken in the view of a CPU that ends, with what it has seen and tried
 abbrev pub with_end : {A : Type 0} → View A → View A → View A
@@ -123,13 +174,15 @@ nowhere = record nobody { on = true }
 abbrev pub all_made : {A : Type 0} → Opening A → View A
 all_made k = record (rooted k) { made = k.layout.config.cpus }
 
--- the root's seat before a pass is joined: of n CPUs with a seat, of which none has ended, and nothing is in hand
+-- the root's seat before a pass is joined: of n CPUs with a seat, of which none has ended, and
+-- nothing is in hand
 abbrev pub IsRootOf : {A : Type 0} → ℕ → ℕ → Seated A → Type 0
 IsRootOf n id me = (id ≡ 0) × (me.0.root ≡ true) × (me.0.ended ≡ []) × (me.0.made ≡ n) × (me.1 ≡ [])
 
 -- a seat is the root's as before, of the same table, which began with the same, and of as many CPUs
 abbrev pub StaysRoot : {A : Type 0} → TableId → Seated A → TableId → ℕ → Seated A → Type 0
-StaysRoot table m same id n = (same ≡ table) × (id ≡ 0) × (n.0.root ≡ true) × (n.0.made ≡ m.0.made) × (n.0.begun ≡ m.0.begun)
+StaysRoot table m same id n =
+    (same ≡ table) × (id ≡ 0) × (n.0.root ≡ true) × (n.0.made ≡ m.0.made) × (n.0.begun ≡ m.0.begun)
 
 -- what two seats of one CPU would come to
 abbrev pub clash : {A : Type 0} → View A → View A → View A
@@ -141,7 +194,8 @@ never st m r n = ⊥
 
 -- the part k is in hand, with the log that it was taken with
 abbrev pub taking : {A : Type 0} → View A → ℕ → Slot A → View A
-taking v k x = record v { held = (k, Some x) ∷ v.held; tries = v.tries ++ (k, Some (log_of x)) ∷ [] }
+taking v k x =
+    record v { held = (k, Some x) ∷ v.held; tries = v.tries ++ (k, Some (log_of x)) ∷ [] }
 
 -- the part k was found taken
 abbrev pub missing : {A : Type 0} → View A → ℕ → View A
@@ -155,10 +209,15 @@ releasing v k = record v { held = (k, None) ∷ v.held }
 abbrev pub Standing : {A : Type 0} → View A → Type 0
 Standing v = IsLeft (layout_of v.layout) v.cpu v.own (held_at v.held)
 
--- word found 0: the part is in hand, and its log begins with what was seen. Else it is recorded that it was taken
+-- word found 0: the part is in hand, and its log begins with what was seen. Else it is recorded
+-- that it was taken
 abbrev pub took : {A : Type 0} → Step (Option (Slot A)) → Seated A → ℕ → Seated A → Type 0
 took {A = A} st m r n =
-    (r ≡ 0 → (x : Slot A) × (n ≡ (taking m.0 st.word x, (st.word, Some x) ∷ m.1)) × StartsWith (log_of x).calls (seen_at m.0.seen st.word) × Standing n.0)
+    (r ≡ 0
+    → (x : Slot A)
+    × (n ≡ (taking m.0 st.word x, (st.word, Some x) ∷ m.1))
+    × StartsWith (log_of x).calls (seen_at m.0.seen st.word)
+    × Standing n.0)
     × (r ≢ 0 → n ≡ (missing m.0 st.word, m.1))
 
 abbrev pub tail : {A : Type 0} → Hands A → Hands A
@@ -178,16 +237,32 @@ abbrev pub seen_with : {A : Type 0} → Hands A → List (ℕ × List Call) → 
 seen_with [] seen = seen
 seen_with (e ∷ es) seen = (e.0, seen_of e.1 (at seen [] e.0)) ∷ seen_with es seen
 
--- a call is stored, which leaves the CPU this state, and the part k goes home, as it lies in its slot; others stay in hand, as they lie in theirs
+-- a call is stored, which leaves the CPU this state, and the part k goes home, as it lies in its
+-- slot; others stay in hand, as they lie in theirs
 abbrev pub storing : {A : Type 0} → CpuState → Hands A → View A → ℕ → View A
-storing own after v k = record v { own = own; seen = seen_with after v.seen; held = (k, None) ∷ after }
+storing own after v k =
+    record v { own = own; seen = seen_with after v.seen; held = (k, None) ∷ after }
 
 -- a part goes home with the call stored
-abbrev pub stored : {A : Type 0} → Call → CpuState → Step (Option (Slot A)) → Seated A → ℕ → Seated A → Type 0
+abbrev pub stored : {A : Type 0}
+    → Call
+    → CpuState
+    → Step (Option (Slot A))
+    → Seated A
+    → ℕ
+    → Seated A
+    → Type 0
 stored c own st m r n = (n ≡ (storing own m.1 m.0 st.word, tail m.1)) × Extends c (known_of n.0)
 
 -- a call that used no part is entered
-abbrev pub entered : {A : Type 0} → Call → CpuState → Step (Option (Slot A)) → Seated A → ℕ → Seated A → Type 0
+abbrev pub entered : {A : Type 0}
+    → Call
+    → CpuState
+    → Step (Option (Slot A))
+    → Seated A
+    → ℕ
+    → Seated A
+    → Type 0
 entered c own st m r n = (n ≡ (storing own [] m.0 0, m.1)) × Extends c (known_of n.0)
 
 -- the slot that was taken last is that of the part k, and it is empty
@@ -200,7 +275,8 @@ IsInSlot {A = A} cs k = (x : Slot A) × (cs ≡ (k, Some x) ∷ tail cs)
 
 -- it lies there as it is recorded
 abbrev pub IsInSlotAsHeld : {A : Type 0} → Seated A → ℕ → Type 0
-IsInSlotAsHeld {A = A} m k = (x : Slot A) × (m.1 ≡ (k, Some x) ∷ tail m.1) × (held_at m.0.held k ≡ Some x)
+IsInSlotAsHeld {A = A} m k =
+    (x : Slot A) × (m.1 ≡ (k, Some x) ∷ tail m.1) × (held_at m.0.held k ≡ Some x)
 
 -- a pass at rest holds no part
 abbrev pub IsIdle : {A : Type 0} → View A → Type 0

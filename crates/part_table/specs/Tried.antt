@@ -4,7 +4,8 @@ use Rattle.call_table.specs.declared.reply.Call.{Call}
 use Rattle.part_types.specs.Logs.{StoredCalls}
 use Rattle.part_table.specs.Known.{Known, StartsWith, seen_at}
 
--- a try of a part: its number, and the log with which it was taken, or none where another pass had it
+-- a try of a part: its number, and the log with which it was taken, or none where another pass had
+-- it
 abbrev pub Try : Type 0
 Try = ℕ × Option StoredCalls
 
@@ -20,12 +21,25 @@ FoundFull x = (log : StoredCalls) × (x ≡ Some log) × (log.room ≡ 0)
 abbrev pub FoundAway : Option StoredCalls → Type 0
 FoundAway x = x ≡ None
 
--- The parts were tried in this order, each once at most, and no other. The last try is one like this, and at each before it the part was taken with room in its log
+-- The parts were tried in this order, each once at most, and no other. The last try is one like
+-- this, and at each before it the part was taken with room in its log
 abbrev pub EndsIn : (Option StoredCalls → Type 0) → List ℕ → List Try → Type 0
 EndsIn Last [] ts = ⊥
-EndsIn Last (k ∷ ks) ts = (x : Option StoredCalls) × (rest : List Try) × (ts ≡ (k, x) ∷ rest) × ((Last x × (rest ≡ [])) ⊎ (FoundRoom x × EndsIn Last ks rest))
+EndsIn Last (k ∷ ks) ts =
+    (x : Option StoredCalls)
+    × (rest : List Try)
+    × (ts ≡ (k, x) ∷ rest)
+    × ((Last x × (rest ≡ [])) ⊎ (FoundRoom x × EndsIn Last ks rest))
 
--- Each part was taken once, in this order, with room in its log, which began with what the pass had seen. It has then seen this log with the call
+-- Each part was taken once, in this order, with room in its log, which began with what the pass had
+-- seen. It has then seen this log with the call
 abbrev pub AllTaken : Call → Known → Known → List ℕ → List Try → Type 0
 AllTaken c v w [] ts = ts ≡ []
-AllTaken c v w (k ∷ ks) ts = (log : StoredCalls) × (rest : List Try) × (ts ≡ (k, Some log) ∷ rest) × (log.room ≢ 0) × StartsWith log.calls (seen_at v.seen k) × (seen_at w.seen k ≡ log.calls ++ c ∷ []) × AllTaken c v w ks rest
+AllTaken c v w (k ∷ ks) ts =
+    (log : StoredCalls)
+    × (rest : List Try)
+    × (ts ≡ (k, Some log) ∷ rest)
+    × (log.room ≢ 0)
+    × StartsWith log.calls (seen_at v.seen k)
+    × (seen_at w.seen k ≡ log.calls ++ c ∷ [])
+    × AllTaken c v w ks rest

@@ -1,4 +1,5 @@
--- What a try of a call requires, and what it leaves: how a pass is between its calls, what its exchanges and its step ask, and what each try comes to.
+-- What a try of a call requires, and what it leaves: how a pass is between its calls, what its
+-- exchanges and its step ask, and what each try comes to.
 use Rattle.std.specs.Prelude.{◌≡◌, ◌≢◌, ℕ, ◌<◌, List, [], ◌∷◌, ◌++◌, Option, Some, None, true}
 use Rattle.atomic_table.specs.Seated.{TableId}
 use Rattle.page_state.specs.declared.layout.Layout.{Layout as TheLayout}
@@ -23,8 +24,10 @@ use Rattle.part_table.specs.Rule.{AtRest, Hands, IsIdle, Seated, Standing, held_
 use Rattle.part_table.specs.Tried.{AllTaken, EndsIn, FoundAway, FoundFull, Try}
 
 module _ {A : Type 0} where
-  -- A pass between its calls: its seat is one of the table's and holds no part, its view is that of the CPU with this own state, and a run leaves that state
-  pub record IsAtRest (table : TableId) (l : TheLayout) (cpu : ℕ) (own : CpuState) (seat : TableId) (me : Seated A) : Type 0 where
+  -- A pass between its calls: its seat is one of the table's and holds no part, its view is that of
+  -- the CPU with this own state, and a run leaves that state
+  pub record IsAtRest (table : TableId) (l : TheLayout) (cpu : ℕ) (own : CpuState) (seat : TableId)
+      (me : Seated A) : Type 0 where
     pub same : seat ≡ table
     pub on : me.0.on ≡ true
     pub layout : me.0.layout ≡ l
@@ -34,28 +37,35 @@ module _ {A : Type 0} where
     pub idle : IsIdle me.0
     pub left : AtRest me.0
 
-  -- What a try requires: its pass is at rest, the CPU is one of the layout's and has room in its own log, and the table has a word for each part
-  pub record CanTry (table : TableId) (l : TheLayout) (own : CpuState) (seat : TableId) (me : Seated A) : Type 0 where
+  -- What a try requires: its pass is at rest, the CPU is one of the layout's and has room in its
+  -- own log, and the table has a word for each part
+  pub record CanTry (table : TableId) (l : TheLayout) (own : CpuState) (seat : TableId)
+      (me : Seated A) : Type 0 where
     pub rest : IsAtRest table l own.id own seat me
     pub known : own.id < l.config.cpus
     pub room : own.log.room ≢ 0
     pub words : table.words ≡ parts
 
-  -- What the step on these parts requires: its CPU is one of the layout's, a run leaves the parts and the CPU's own state, they are just those that the step uses, in this order, and no log that would store the call is full
-  pub record CanMake (l : TheLayout) (own : CpuState) (step : Step) (ks : List ℕ) (lent : ℕ → Option (Slot A)) : Type 0 where
+  -- What the step on these parts requires: its CPU is one of the layout's, a run leaves the parts
+  -- and the CPU's own state, they are just those that the step uses, in this order, and no log that
+  -- would store the call is full
+  pub record CanMake (l : TheLayout) (own : CpuState) (step : Step) (ks : List ℕ)
+      (lent : ℕ → Option (Slot A)) : Type 0 where
     pub known : own.id < l.config.cpus
     pub left : ∥ IsLeft (layout_of l) own.id own lent ∥₁
     pub uses : numbers_for own step ≡ ks
     pub own_room : own.log.room ≢ 0
     pub rooms : (k : ℕ) (x : Slot A) → lent k ≡ Some x → (log_of x).room ≢ 0
 
-  -- After the part k is taken: it is in hand, with its log as a try, this log begins with what the pass had seen of it, and a run leaves all parts in hand
+  -- After the part k is taken: it is in hand, with its log as a try, this log begins with what the
+  -- pass had seen of it, and a run leaves all parts in hand
   pub record HasTaken (k : ℕ) (x : Slot A) (m n : Seated A) : Type 0 where
     pub is : n ≡ (taking m.0 k x, (k, None) ∷ m.1)
     pub begun : StartsWith (log_of x).calls (seen_at m.0.seen k)
     pub left : Standing n.0
 
-  -- What storing a call requires: it is the pass's CPU's, uses each part that is held, and does with these and with the CPU's own state what the step does
+  -- What storing a call requires: it is the pass's CPU's, uses each part that is held, and does
+  -- with these and with the CPU's own state what the step does
   pub record CanStore (c : Call) (own : CpuState) (v : View A) (after : Hands A) : Type 0 where
     pub by : c.cpu ≡ v.cpu
     pub used : (j : ℕ) (x : Slot A) → held_at v.held j ≡ Some x → uses c j ≡ true
@@ -67,9 +77,11 @@ TriesOf ks (Stored c) v w = (ts : List Try) × (w.tries ≡ v.tries ++ ts) × Al
 TriesOf ks Contended v w = (ts : List Try) × (w.tries ≡ v.tries ++ ts) × EndsIn FoundAway ks ts
 TriesOf ks LogFull v w = (ts : List Try) × (w.tries ≡ v.tries ++ ts) × EndsIn FoundFull ks ts
 
--- the answer of one try of a step: a stored call is the step's, and if none is stored nothing changed
+-- the answer of one try of a step: a stored call is the step's, and if none is stored nothing
+-- changed
 abbrev pub Tells : Step → List ℕ → Tried → Known → Known → Type 0
-Tells step ks (Stored c) v w = IsCalled v.cpu v.own step c × IsStored c.reply × Adds c v w × TriesOf ks (Stored c) v w
+Tells step ks (Stored c) v w =
+    IsCalled v.cpu v.own step c × IsStored c.reply × Adds c v w × TriesOf ks (Stored c) v w
 Tells step ks Contended v w = IsSame v w × TriesOf ks Contended v w
 Tells step ks LogFull v w = IsSame v w × TriesOf ks LogFull v w
 
@@ -85,7 +97,17 @@ WhereStored (Stored c) F = F
 WhereStored Contended F = Unit {0}
 WhereStored LogFull F = Unit {0}
 
-module _ {A T : Type 0} (tells : TheLayout → (ℕ → Option (Slot A)) → CpuState → Call → (ℕ → Option (Slot A)) → CpuState → T → T → Type 0) (step : Step) where
+module _ {A T : Type 0}
+    (tells : TheLayout
+    → (ℕ → Option (Slot A))
+    → CpuState
+    → Call
+    → (ℕ → Option (Slot A))
+    → CpuState
+    → T
+    → T
+    → Type 0)
+    (step : Step) where
   -- what a maker reports of a try: a call that is stored was made; otherwise it reported nothing
   abbrev pub MakesOf : List ℕ → Tried → Known → Known → T → T → Type 0
   MakesOf ks (Stored c) v w from to = Makes tells step ks v w c from to
@@ -94,4 +116,5 @@ module _ {A T : Type 0} (tells : TheLayout → (ℕ → Option (Slot A)) → Cpu
 
   -- the same of a reply
   abbrev pub MakesFor : Reply → Known → Known → T → T → Type 0
-  MakesFor reply v w from to = (t : Tried) × (reply ≡ reply_of t) × MakesOf (used_by step v) t v w from to
+  MakesFor reply v w from to =
+      (t : Tried) × (reply ≡ reply_of t) × MakesOf (used_by step v) t v w from to

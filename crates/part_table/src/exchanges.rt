@@ -130,7 +130,12 @@ pub fn commit_first<A: Allocator>(
     requires call { CanStore call.now own.now seat.old.me.0 ((guest, Some part) ∷ (1, Some shared) ∷ []) }
     ensures table { seat.new.table_id ≡ seat.old.table_id }
     ensures history { Extends call.now (known_of seat.new.me.0) }
-    ensures home { seat.new.me ≡ (storing own.now ((guest, Some part) ∷ (1, Some shared) ∷ []) seat.old.me.0 guest, (1, Some shared) ∷ []) }
+    ensures home { seat.new.me
+        ≡ (
+          storing own.now ((guest, Some part) ∷ (1, Some shared) ∷ []) seat.old.me.0 guest,
+          (1, Some shared)
+              ∷ [],
+        ) }
 {
     put(table, seat, guest, part);
     seat.turn();

@@ -24,7 +24,16 @@ pub trait Maker<T, G: Gate> {
 
     /// What is told before and after a call: of the layout, the parts that the call uses, by number, and its CPU's own
     /// state, as they are taken and as they go home.
-    ghost tells: { {A : Type 0} → TheLayout → (ℕ → Option (Slot A)) → CpuState → Call → (ℕ → Option (Slot A)) → CpuState → T → T → Type 0 };
+    ghost tells: { {A : Type 0}
+        → TheLayout
+        → (ℕ → Option (Slot A))
+        → CpuState
+        → Call
+        → (ℕ → Option (Slot A))
+        → CpuState
+        → T
+        → T
+        → Type 0 };
 
     /// The step on no part, on the CPU's own state alone.
     fn idle<A: Allocator + Copy>(
@@ -58,7 +67,8 @@ pub trait Maker<T, G: Gate> {
         requires heard { G.heard_taken gate.now.gate.now cpu.old.id (length cpu.old.log.calls + 1) }
         ensures call { IsCalled cpu.old.id cpu.old step result.1 }
         ensures does { Does (layout_of layout.now) result.1 (only_at k slot) cpu.old (only_at k result.0) cpu.new }
-        ensures told { tells layout.now (only_at k slot) cpu.old result.1 (only_at k result.0) cpu.new told.old told.new };
+        ensures told { tells layout.now (only_at k slot) cpu.old result.1
+            (only_at k result.0) cpu.new told.old told.new };
 
     /// The step on the Shared part and the guest of slot v.
     fn both<A: Allocator + Copy>(
@@ -77,8 +87,10 @@ pub trait Maker<T, G: Gate> {
         requires part { v + 2 < parts }
         requires heard { G.heard_taken gate.now.gate.now cpu.old.id (length cpu.old.log.calls + 1) }
         ensures call { IsCalled cpu.old.id cpu.old step result.2 }
-        ensures does { Does (layout_of layout.now) result.2 (pair_at v shared guest) cpu.old (pair_at v result.0 result.1) cpu.new }
-        ensures told { tells layout.now (pair_at v shared guest) cpu.old result.2 (pair_at v result.0 result.1) cpu.new told.old told.new };
+        ensures does { Does (layout_of layout.now) result.2 (pair_at v shared guest) cpu.old
+            (pair_at v result.0 result.1) cpu.new }
+        ensures told { tells layout.now (pair_at v shared guest) cpu.old result.2
+            (pair_at v result.0 result.1) cpu.new told.old told.new };
 }
 
 /// Makes the step, and reports nothing.
@@ -133,7 +145,8 @@ impl<T, G: Gate> Maker<T, G> for Plain {
         requires can { CanMake layout.now cpu.old step (1 ∷ (v + 2) ∷ []) (pair_at v shared guest) }
         requires part { v + 2 < parts }
         ensures call { IsCalled cpu.old.id cpu.old step result.2 }
-        ensures does { Does (layout_of layout.now) result.2 (pair_at v shared guest) cpu.old (pair_at v result.0 result.1) cpu.new }
+        ensures does { Does (layout_of layout.now) result.2 (pair_at v shared guest) cpu.old
+            (pair_at v result.0 result.1) cpu.new }
         ensures told { Unit {0} }
     {
         step::both(alloc, layout, shared, guest, v, cpu, step)

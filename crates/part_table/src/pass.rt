@@ -29,9 +29,19 @@ impl<A: Allocator> Model for CpuPass<A> {
 
     ghost Value = { Pass };
 
-    ghost view = { λ p. record { table = p.seat.table_id; knows = known_of p.seat.me.0; holds = numbers_held p.seat.me.0.held } };
+    ghost view = { λ p. record {
+      table = p.seat.table_id;
+      knows = known_of p.seat.me.0;
+      holds = numbers_held p.seat.me.0.held;
+    } };
 
-    ghost invariant = { λ p. (p.seat.me.1 ≡ []) × IsIdle p.seat.me.0 × (p.seat.me.0.on ≡ true) × (p.seat.me.0.cpu ≡ p.own.id) × (p.seat.me.0.own ≡ p.own) × (p.seat.me.0.cpu < p.seat.me.0.layout.config.cpus) × AtRest p.seat.me.0 };
+    ghost invariant = { λ p. (p.seat.me.1 ≡ [])
+        × IsIdle p.seat.me.0
+        × (p.seat.me.0.on ≡ true)
+        × (p.seat.me.0.cpu ≡ p.own.id)
+        × (p.seat.me.0.own ≡ p.own)
+        × (p.seat.me.0.cpu < p.seat.me.0.layout.config.cpus)
+        × AtRest p.seat.me.0 };
 }
 
 impl<A: Allocator> CpuPass<A> {
@@ -79,7 +89,9 @@ impl<A: Allocator + Copy> CpuPass<A> {
         ensures rest { self.new.holds ≡ [] }
         ensures stays { (self.new.knows.layout ≡ self.old.knows.layout) × (self.new.knows.cpu ≡ self.old.knows.cpu) }
         ensures answers { Answers step result self.old.knows self.new.knows }
-        ensures heard { IsStored result → G.heard_taken gate.now self.old.knows.cpu (length self.old.knows.own.log.calls + 1) }
+        ensures heard { IsStored result
+            → G.heard_taken gate.now self.old.knows.cpu
+            (length self.old.knows.own.log.calls + 1) }
         ensures made { MakesFor {A = A} M.tells step result self.old.knows self.new.knows told.old told.new }
     {
         if self.own.log.room() == 0 {

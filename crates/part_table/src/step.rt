@@ -61,7 +61,8 @@ pub fn both<A: Allocator + Copy>(
 ) -> (Slot<A>, Slot<A>, Call)
     requires can { CanMake layout.now cpu.old step (1 ∷ (v + 2) ∷ []) (pair_at v shared guest) }
     ensures call { IsCalled cpu.old.id cpu.old step result.2 }
-    ensures does { Does (layout_of layout.now) result.2 (pair_at v shared guest) cpu.old (pair_at v result.0 result.1) cpu.new }
+    ensures does { Does (layout_of layout.now) result.2 (pair_at v shared guest) cpu.old
+        (pair_at v result.0 result.1) cpu.new }
 {
     let Slot::Shared(mut s) = shared else {
         unreachable!()

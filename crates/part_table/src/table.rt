@@ -39,9 +39,14 @@ impl<A: Allocator> Model for PartTable<A> {
 
     ghost Value = { Opened };
 
-    ghost view = { λ t. record { table = t.table.shared.table_id; layout = t.layout; begun = begun_in t.table.shared.key } };
+    ghost view = { λ t. record {
+      table = t.table.shared.table_id;
+      layout = t.layout;
+      begun = begun_in t.table.shared.key;
+    } };
 
-    ghost invariant = { λ t. IsReady t.table.shared.table_id t.table.shared.key t.root.table_id t.root.id t.root.me t.layout };
+    ghost invariant = { λ t. IsReady t.table.shared.table_id t.table.shared.key t.root.table_id t.root.id
+        t.root.me t.layout };
 }
 
 /// The words and slots of the table.
@@ -52,8 +57,14 @@ fn new_table<A: Allocator>(
 ) -> Result<(SlotTable<A>, PartSeat<A>), AllocError>
     requires end { IsEndIn opening.now.layout slots.items opening.now.owns.value.items }
     requires slots { opening.now.slots.value ≡ slots }
-    ensures table { IfOk result (λ t. (t.0.shared.table_id.words ≡ parts) × (t.0.shared.table_id.slots ≡ parts) × (t.0.shared.key ≡ opening.now)) }
-    ensures root { IfOk result (λ t. (t.1.table_id ≡ t.0.shared.table_id) × (t.1.id ≡ 0) × (t.1.me ≡ (rooted opening.now, []))) }
+    ensures table { IfOk result
+        (λ t. (t.0.shared.table_id.words ≡ parts)
+        × (t.0.shared.table_id.slots ≡ parts)
+        × (t.0.shared.key ≡ opening.now)) }
+    ensures root { IfOk result
+        (λ t. (t.1.table_id ≡ t.0.shared.table_id)
+        × (t.1.id ≡ 0)
+        × (t.1.me ≡ (rooted opening.now, []))) }
 {
     let words = [0u64; 66];
     match Table::new(global, &words, slots, opening) {
@@ -65,12 +76,17 @@ fn new_table<A: Allocator>(
 /// The pass of the next CPU.
 fn new_pass<A: Allocator>(table: &SlotTable<A>, root: &mut PartSeat<A>, own: CpuState) -> CpuPass<A>
     requires table { (root.old.table_id ≡ table.now.shared.table_id) × (table.now.shared.table_id.words ≡ parts) }
-    requires root { (root.old.id ≡ 0) × (root.old.me.0.root ≡ true) × (root.old.me.0.made ≡ own.id) × (root.old.me.0.layout ≡ table.now.shared.key.layout) }
+    requires root { (root.old.id ≡ 0)
+        × (root.old.me.0.root ≡ true)
+        × (root.old.me.0.made ≡ own.id)
+        × (root.old.me.0.layout ≡ table.now.shared.key.layout) }
     requires begun { root.old.me.0.begun ≡ begun_in table.now.shared.key }
     requires known { own.id < table.now.shared.key.layout.config.cpus }
     requires left { AreLeftFirst A table.now.shared.key.layout (begun_in table.now.shared.key) }
     requires own { own ≡ own_in (begun_in table.now.shared.key) own.id }
-    ensures root { (root.new.table_id ≡ root.old.table_id) × (root.new.id ≡ 0) × (root.new.me ≡ (one_more root.old.me.0, root.old.me.1)) }
+    ensures root { (root.new.table_id ≡ root.old.table_id)
+        × (root.new.id ≡ 0)
+        × (root.new.me ≡ (one_more root.old.me.0, root.old.me.1)) }
     ensures pass { result ≡ first_pass (opened_in root.old.table_id table.now.shared.key) own.id }
 {
     let seat = table.shared.split_seat::<Root>(root);
@@ -90,7 +106,9 @@ fn new_passes<A: Allocator>(
     requires count { vec_len owns ≡ table.now.shared.key.layout.config.cpus }
     requires owns { owns ≡ table.now.shared.key.owns.value }
     requires room { (passes.items ≡ []) × (vec_len owns ≤ vec_capacity passes) }
-    ensures root { (root.new.table_id ≡ root.old.table_id) × (root.new.id ≡ 0) × (root.new.me ≡ (all_made table.now.shared.key, [])) }
+    ensures root { (root.new.table_id ≡ root.old.table_id)
+        × (root.new.id ≡ 0)
+        × (root.new.me ≡ (all_made table.now.shared.key, [])) }
     ensures passes { AreFirst (opened_in root.old.table_id table.now.shared.key) (vec_len owns) result.items }
 {
     let count = owns.len();
@@ -160,7 +178,10 @@ impl<A: Allocator> PartTable<A> {
     ) -> (A, Layout, Vec<Slot<A>>, Vec<CpuState>)
         requires count { vec_len passes ≡ self.layout.config.cpus }
         requires home { AreHomeFrom self.table (vec_len passes) 0 passes.items }
-        requires room { (cpus.items ≡ []) × (vec_len passes ≤ vec_capacity cpus) × (found.items ≡ []) × (parts ≤ vec_capacity found) }
+        requires room { (cpus.items ≡ [])
+            × (vec_len passes ≤ vec_capacity cpus)
+            × (found.items ≡ [])
+            × (parts ≤ vec_capacity found) }
         ensures layout { result.1 ≡ self.layout }
         ensures end { IsEndFor self result.2.items result.3.items (ForEach passes.items) }
     {
@@ -207,7 +228,9 @@ impl<A: Allocator + Copy> PartTable<A> {
         ensures cpu { pass.new.knows.cpu ≡ pass.old.knows.cpu }
         ensures rest { pass.new.holds ≡ [] }
         ensures answers { Answers step result pass.old.knows pass.new.knows }
-        ensures heard { IsStored result → G.heard_taken gate.now pass.old.knows.cpu (length pass.old.knows.own.log.calls + 1) }
+        ensures heard { IsStored result
+            → G.heard_taken gate.now pass.old.knows.cpu
+            (length pass.old.knows.own.log.calls + 1) }
     {
         self.try_step_by(gate, &Plain, pass, step, &mut ())
     }
@@ -226,8 +249,11 @@ impl<A: Allocator + Copy> PartTable<A> {
         ensures cpu { pass.new.knows.cpu ≡ pass.old.knows.cpu }
         ensures rest { pass.new.holds ≡ [] }
         ensures answers { Answers step result pass.old.knows pass.new.knows }
-        ensures heard { IsStored result → G.heard_taken gate.now pass.old.knows.cpu (length pass.old.knows.own.log.calls + 1) }
-        ensures made { IsStored result → IsMade {A = A} M.tells step result pass.old.knows pass.new.knows told.old told.new }
+        ensures heard { IsStored result
+            → G.heard_taken gate.now pass.old.knows.cpu
+            (length pass.old.knows.own.log.calls + 1) }
+        ensures made { IsStored result
+            → IsMade {A = A} M.tells step result pass.old.knows pass.new.knows told.old told.new }
         ensures untold { (IsStored result → ⊥) → told.new ≡ told.old }
     {
         let _ = &self.root;
@@ -245,7 +271,9 @@ impl<A: Allocator + Copy> PartTable<A> {
 
 /// Two passes of one CPU can't be had: the rule has a seat for each CPU alone.
 fn clash<A: Allocator>(table: &SlotTable<A>, one: CpuPass<A>, other: CpuPass<A>)
-    requires table { (one.table ≡ table.now.shared.table_id) × (other.table ≡ table.now.shared.table_id) × (table.now.shared.table_id.words ≡ parts) }
+    requires table { (one.table ≡ table.now.shared.table_id)
+        × (other.table ≡ table.now.shared.table_id)
+        × (table.now.shared.table_id.words ≡ parts) }
     ensures { one.knows.cpu ≢ other.knows.cpu }
 {
     if one.own.id != other.own.id {
@@ -265,12 +293,17 @@ fn join_one<A: Allocator>(
     cpu: usize,
 ) -> CpuState
     requires table { (root.old.table_id ≡ table.now.shared.table_id) × (table.now.shared.table_id.words ≡ parts) }
-    requires root { (root.old.id ≡ 0) × (root.old.me.0.root ≡ true) × (length root.old.me.0.ended ≡ cpu) × (cpu < root.old.me.0.made) }
+    requires root { (root.old.id ≡ 0)
+        × (root.old.me.0.root ≡ true)
+        × (length root.old.me.0.ended ≡ cpu)
+        × (cpu < root.old.me.0.made) }
     requires inside { cpu < vec_len passes.old }
     requires there { IsThere root.old.table_id passes.old.items cpu }
     ensures root { StaysRoot root.old.table_id root.old.me root.new.table_id root.new.id root.new.me }
     ensures hand { root.new.me.1 ≡ root.old.me.1 }
-    ensures ended { (p : Pass) → slice_get passes.old.items cpu ≡ Some (Some p) → HasJoined p root.old.me.0.ended root.new.me.0.ended result }
+    ensures ended { (p : Pass)
+        → slice_get passes.old.items cpu ≡ Some (Some p)
+        → HasJoined p root.old.me.0.ended root.new.me.0.ended result }
     ensures others { (j : ℕ) → j ≢ cpu → slice_get passes.new.items j ≡ slice_get passes.old.items j }
     ensures count { vec_len passes.new ≡ vec_len passes.old }
 {
@@ -354,7 +387,9 @@ fn drop_all<A: Allocator>(
     mut root: PartSeat<A>,
     passes: Vec<Option<CpuPass<A>>>,
 )
-    requires table { (root.table_id ≡ table.shared.table_id) × (table.shared.table_id.words ≡ parts) × (table.shared.table_id.slots ≡ parts) }
+    requires table { (root.table_id ≡ table.shared.table_id)
+        × (table.shared.table_id.words ≡ parts)
+        × (table.shared.table_id.slots ≡ parts) }
     requires root { IsRootOf (vec_len passes) root.id root.me }
     requires all { vec_len passes ≡ table.shared.key.layout.config.cpus }
     requires home { AreHomeFrom root.table_id (vec_len passes) 0 passes.items }
@@ -374,12 +409,20 @@ fn end<A: Allocator>(
     found: Vec<Slot<A>>,
     cpus: Vec<CpuState>,
 ) -> (Vec<Slot<A>>, Vec<CpuState>)
-    requires table { (root.table_id ≡ table.shared.table_id) × (table.shared.table_id.words ≡ parts) × (table.shared.table_id.slots ≡ parts) }
+    requires table { (root.table_id ≡ table.shared.table_id)
+        × (table.shared.table_id.words ≡ parts)
+        × (table.shared.table_id.slots ≡ parts) }
     requires root { IsRootOf (vec_len passes) root.id root.me }
     requires all { vec_len passes ≡ table.shared.key.layout.config.cpus }
     requires home { AreHomeFrom root.table_id (vec_len passes) 0 passes.items }
-    requires room { (cpus.items ≡ []) × (vec_len passes ≤ vec_capacity cpus) × (found.items ≡ []) × (parts ≤ vec_capacity found) }
-    ensures { IsEndFor (opened_as root.table_id table.shared.key.layout root.me.0.begun) result.0.items result.1.items (ForEach passes.items) }
+    requires room { (cpus.items ≡ [])
+        × (vec_len passes ≤ vec_capacity cpus)
+        × (found.items ≡ [])
+        × (parts ≤ vec_capacity found) }
+    ensures { IsEndFor
+        (opened_as root.table_id table.shared.key.layout root.me.0.begun) result.0.items
+        result.1.items
+        (ForEach passes.items) }
 {
     let cpus = join_all(&table, &mut root, passes, cpus);
     let mut closed = table.close_with(root);

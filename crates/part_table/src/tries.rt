@@ -37,10 +37,13 @@ pub fn none<A: Allocator + Copy, T, G: Gate, M: Maker<T, G>>(
 ) -> Tried
     requires can { CanTry table.now.shared.table_id layout.now cpu.old seat.old.table_id seat.old.me }
     requires uses { numbers_for cpu.old step ≡ [] }
-    ensures rest { IsAtRest table.now.shared.table_id layout.now cpu.old.id cpu.new seat.new.table_id seat.new.me }
+    ensures rest { IsAtRest table.now.shared.table_id layout.now cpu.old.id cpu.new seat.new.table_id
+        seat.new.me }
     ensures tells { Tells step [] result (known_of seat.old.me.0) (known_of seat.new.me.0) }
-    ensures made { MakesOf {A = A} M.tells step [] result (known_of seat.old.me.0) (known_of seat.new.me.0) told.old told.new }
-    ensures heard { WhereStored result (G.heard_taken gate.now.gate.now cpu.old.id (length cpu.old.log.calls + 1)) }
+    ensures made { MakesOf {A = A} M.tells step [] result (known_of seat.old.me.0)
+        (known_of seat.new.me.0) told.old told.new }
+    ensures heard { WhereStored result
+        (G.heard_taken gate.now.gate.now cpu.old.id (length cpu.old.log.calls + 1)) }
 {
     gate.taken_none(cpu, &step);
     let call = maker.idle::<A>(gate, layout, cpu, step, told);
@@ -64,10 +67,13 @@ pub fn one<A: Allocator + Copy, T, G: Gate, M: Maker<T, G>>(
     requires can { CanTry table.now.shared.table_id layout.now cpu.old seat.old.table_id seat.old.me }
     requires part { k < parts }
     requires uses { numbers_for cpu.old step ≡ k ∷ [] }
-    ensures rest { IsAtRest table.now.shared.table_id layout.now cpu.old.id cpu.new seat.new.table_id seat.new.me }
+    ensures rest { IsAtRest table.now.shared.table_id layout.now cpu.old.id cpu.new seat.new.table_id
+        seat.new.me }
     ensures tells { Tells step (k ∷ []) result (known_of seat.old.me.0) (known_of seat.new.me.0) }
-    ensures made { MakesOf {A = A} M.tells step (k ∷ []) result (known_of seat.old.me.0) (known_of seat.new.me.0) told.old told.new }
-    ensures heard { WhereStored result (G.heard_taken gate.now.gate.now cpu.old.id (length cpu.old.log.calls + 1)) }
+    ensures made { MakesOf {A = A} M.tells step (k ∷ []) result (known_of seat.old.me.0)
+        (known_of seat.new.me.0) told.old told.new }
+    ensures heard { WhereStored result
+        (G.heard_taken gate.now.gate.now cpu.old.id (length cpu.old.log.calls + 1)) }
 {
     let at = k as usize;
     let (id, number) = (cpu.id, cpu.log.len() as u64 + 1);
@@ -104,10 +110,13 @@ pub fn two<A: Allocator + Copy, T, G: Gate, M: Maker<T, G>>(
     requires can { CanTry table.now.shared.table_id layout.now cpu.old seat.old.table_id seat.old.me }
     requires part { v + 2 < parts }
     requires uses { numbers_for cpu.old step ≡ 1 ∷ (v + 2) ∷ [] }
-    ensures rest { IsAtRest table.now.shared.table_id layout.now cpu.old.id cpu.new seat.new.table_id seat.new.me }
+    ensures rest { IsAtRest table.now.shared.table_id layout.now cpu.old.id cpu.new seat.new.table_id
+        seat.new.me }
     ensures tells { Tells step (1 ∷ (v + 2) ∷ []) result (known_of seat.old.me.0) (known_of seat.new.me.0) }
-    ensures made { MakesOf {A = A} M.tells step (1 ∷ (v + 2) ∷ []) result (known_of seat.old.me.0) (known_of seat.new.me.0) told.old told.new }
-    ensures heard { WhereStored result (G.heard_taken gate.now.gate.now cpu.old.id (length cpu.old.log.calls + 1)) }
+    ensures made { MakesOf {A = A} M.tells step (1 ∷ (v + 2) ∷ []) result (known_of seat.old.me.0)
+        (known_of seat.new.me.0) told.old told.new }
+    ensures heard { WhereStored result
+        (G.heard_taken gate.now.gate.now cpu.old.id (length cpu.old.log.calls + 1)) }
 {
     let at = v as usize + 2;
     let (id, number) = (cpu.id, cpu.log.len() as u64 + 1);
@@ -157,10 +166,14 @@ pub fn any<A: Allocator + Copy, T, G: Gate, M: Maker<T, G>>(
     told: &mut T,
 ) -> Tried
     requires can { CanTry table.now.shared.table_id layout.now cpu.old seat.old.table_id seat.old.me }
-    ensures rest { IsAtRest table.now.shared.table_id layout.now cpu.old.id cpu.new seat.new.table_id seat.new.me }
-    ensures tells { Tells step (numbers_for cpu.old step) result (known_of seat.old.me.0) (known_of seat.new.me.0) }
-    ensures made { MakesOf {A = A} M.tells step (numbers_for cpu.old step) result (known_of seat.old.me.0) (known_of seat.new.me.0) told.old told.new }
-    ensures heard { WhereStored result (G.heard_taken gate.now.gate.now cpu.old.id (length cpu.old.log.calls + 1)) }
+    ensures rest { IsAtRest table.now.shared.table_id layout.now cpu.old.id cpu.new seat.new.table_id
+        seat.new.me }
+    ensures tells { Tells step (numbers_for cpu.old step) result (known_of seat.old.me.0)
+        (known_of seat.new.me.0) }
+    ensures made { MakesOf {A = A} M.tells step (numbers_for cpu.old step) result (known_of seat.old.me.0)
+        (known_of seat.new.me.0) told.old told.new }
+    ensures heard { WhereStored result
+        (G.heard_taken gate.now.gate.now cpu.old.id (length cpu.old.log.calls + 1)) }
 {
     match uses(cpu, &step) {
         UsedParts::Nothing => none(gate, maker, table, seat, layout, cpu, step, told),

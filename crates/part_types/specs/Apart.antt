@@ -8,7 +8,10 @@ use Rattle.table_tree.specs.View.{uses, tables_of}
 
 -- each frame is free or that of one table at most, and the pool has room for all but the roots
 abbrev pub IsApart : {A : Type 0} → TableTree A → TableTree A → StoredFrames → Type 0
-IsApart host hyp p = ((f : ℕ) → uses host f + uses hyp f + frame_count f p.frames ≤ 1) × (tables_of host + tables_of hyp + length p.frames ≤ p.room + 2)
+IsApart host hyp p =
+    ((f : ℕ) → uses host f + uses hyp f + frame_count f p.frames ≤ 1)
+    × (tables_of host + tables_of hyp + length p.frames ≤ p.room + 2)
 
-pub IsApart-prop : {A : Type 0} (host hyp : TableTree A) (p : StoredFrames) → IsProp (IsApart host hyp p)
+pub IsApart-prop : {A : Type 0} (host hyp : TableTree A) (p : StoredFrames)
+    → IsProp (IsApart host hyp p)
 IsApart-prop host hyp p = ×_prop (Π_prop (λ f. le_prop)) le_prop

@@ -42,13 +42,22 @@ module _ {A : Type 0} where
 
 -- the lent parts, as those that a call uses
 abbrev pub used_in : {A : Type 0} → Lent A → Used
-used_in x = record { vms = unwrap_or (option_map vm_slots x.vms) no_vms; shared = unwrap_or (option_map shared_of x.shared) no_shared; guest = unwrap_or (option_map guest_held x.guest) no_guest; cpu = cpu_of x.cpu }
+used_in x =
+    record {
+      vms = unwrap_or (option_map vm_slots x.vms) no_vms;
+      shared =
+          unwrap_or (option_map shared_of x.shared) no_shared;
+      guest =
+          unwrap_or (option_map guest_held x.guest) no_guest;
+      cpu = cpu_of x.cpu;
+    }
 
 -- the slot of the Guest part that a step of the CPU uses
 abbrev pub slot_in : {A : Type 0} → Lent A → Step → Option ℕ
 slot_in x step = guest_slot (cpu_of x.cpu) step
 
--- a Shared part of the layout: trees of its depth, a row for each memory frame and for no other, and a log of its size
+-- a Shared part of the layout: trees of its depth, a row for each memory frame and for no other,
+-- and a log of its size
 pub record SharedSuits {A : Type 0} (l : Layout) (s : SharedPart A) : Type 0 where
   pub depth : depth_of s ≡ l.depth
   pub rows : HasMemoryRows l.memory s.owners
@@ -74,11 +83,25 @@ pub record LentLogs : Type 0 where
   pub cpu : StoredCalls
 
 abbrev pub logs_in : {A : Type 0} → Lent A → LentLogs
-logs_in x = record { vms = option_map (λ p. p.log) x.vms; shared = option_map (λ p. p.log) x.shared; guest = option_map (λ p. p.log) x.guest; cpu = x.cpu.log }
+logs_in x =
+    record {
+      vms = option_map (λ p. p.log) x.vms;
+      shared = option_map (λ p. p.log) x.shared;
+      guest = option_map (λ p. p.log) x.guest;
+      cpu = x.cpu.log;
+    }
 
 -- their rooms
 abbrev pub rooms_in : LentLogs → UsedRooms
-rooms_in g = record { vms = unwrap_or (option_map (λ s. s.room) g.vms) 0; shared = unwrap_or (option_map (λ s. s.room) g.shared) 0; guest = unwrap_or (option_map (λ s. s.room) g.guest) 0; cpu = g.cpu.room }
+rooms_in g =
+    record {
+      vms = unwrap_or (option_map (λ s. s.room) g.vms) 0;
+      shared =
+          unwrap_or (option_map (λ s. s.room) g.shared) 0;
+      guest =
+          unwrap_or (option_map (λ s. s.room) g.guest) 0;
+      cpu = g.cpu.room;
+    }
 
 -- a log with a call at its end
 abbrev pub with_call : Call → StoredCalls → StoredCalls
@@ -86,8 +109,21 @@ with_call c g = record { calls = g.calls ++ c ∷ []; room = g.room - 1 }
 
 -- each log with a call at its end
 abbrev pub all_with : Call → LentLogs → LentLogs
-all_with c g = record { vms = option_map (with_call c) g.vms; shared = option_map (with_call c) g.shared; guest = option_map (with_call c) g.guest; cpu = with_call c g.cpu }
+all_with c g =
+    record {
+      vms = option_map (with_call c) g.vms;
+      shared = option_map (with_call c) g.shared;
+      guest = option_map (with_call c) g.guest;
+      cpu = with_call c g.cpu;
+    }
 
 -- the call of a step that a CPU makes: its number is one more than its log holds
 abbrev pub call_in : {A : Type 0} → Lent A → Step → Reply → Call
-call_in x step reply = record { cpu = x.cpu.id; number = length x.cpu.log.calls + 1; step = step; reply = reply; slot = slot_in x step }
+call_in x step reply =
+    record {
+      cpu = x.cpu.id;
+      number = length x.cpu.log.calls + 1;
+      step = step;
+      reply = reply;
+      slot = slot_in x step;
+    }

@@ -29,7 +29,8 @@ module _ {A : Type 0} where
   abbrev pub shared_with : SharedPlan A → SharedPart A → Shared
   shared_with p s = record (shared_of s) { free = in_hand p ++ s.pool.frames }
 
--- a plan is for the maps as they are: each has just the tables that it needs and room in its maplets; the frames were the pool's lowest
+-- a plan is for the maps as they are: each has just the tables that it needs and room in its
+-- maplets; the frames were the pool's lowest
 pub record IsPlanOf {A : Type 0} (s : SharedPart A) (p : SharedPlan A) : Type 0 where
   pub host : length (frames_of p.host.spare.stock) ≡ need_for s.host.tree p.host.change
   pub hyp : length (frames_of p.hyp.spare.stock) ≡ need_for s.hyp.tree p.hyp.change
@@ -50,16 +51,22 @@ module _ {A : Type 0} where
     pub hyp : n.hyp ≡ need_for s.hyp.tree h.hyp
     pub small : n.host + n.hyp ≤ 2 ^ 41
 
-  -- a plan for the changes was made of part `s`, which is now `t`: its frames are the pool's, its tables came from the spares first
-  pub record IsPlanned (h : Changes) (n : SharedNeed) (s t : SharedPart A) (p : SharedPlan A) : Type 0 where
+  -- a plan for the changes was made of part `s`, which is now `t`: its frames are the pool's, its
+  -- tables came from the spares first
+  pub record IsPlanned (h : Changes) (n : SharedNeed) (s t : SharedPart A)
+      (p : SharedPlan A) : Type 0 where
     pub ready : IsPlanOf t p
     pub both : PlansBoth h p
     pub whole : shared_with p t ≡ shared_of s
     pub host_spares : spares_of t.host.tree ≡ spares_of s.host.tree - n.host
     pub hyp_spares : spares_of t.hyp.tree ≡ spares_of s.hyp.tree - n.hyp
 
-  -- the changes were made of part `s`, which is now `t`: tables came from the spares first, and those that went are spares
+  -- the changes were made of part `s`, which is now `t`: tables came from the spares first, and
+  -- those that went are spares
   pub record IsMade (h : Changes) (s t : SharedPart A) : Type 0 where
     pub made : shared_of t ≡ shared_after (depth_of s) h (shared_of s)
-    pub host_spares : spares_of t.host.tree ≡ spares_of s.host.tree - need_for s.host.tree h.host + length (back_from s.host.tree h.host)
-    pub hyp_spares : spares_of t.hyp.tree ≡ spares_of s.hyp.tree - need_for s.hyp.tree h.hyp + length (back_from s.hyp.tree h.hyp)
+    pub host_spares : spares_of t.host.tree
+        ≡ spares_of s.host.tree - need_for s.host.tree h.host + length
+        (back_from s.host.tree h.host)
+    pub hyp_spares : spares_of t.hyp.tree
+        ≡ spares_of s.hyp.tree - need_for s.hyp.tree h.hyp + length (back_from s.hyp.tree h.hyp)

@@ -5,7 +5,8 @@ use Rattle.table_tree.specs.View.{spares_of}
 use Rattle.part_types.specs.declared.parts.SharedPart.{SharedPart}
 use Rattle.reference_model.specs.declared.changes.Changes.{Changes}
 
--- no growth can be needed: both maplets have the room that a change asks, and each tree a spare for each table that it needs
+-- no growth can be needed: both maplets have the room that a change asks, and each tree a spare for
+-- each table that it needs
 pub record IsRoomy {A : Type 0} (h : Changes) (s : SharedPart A) : Type 0 where
   pub host : HasRoomFor h.host s.host.maplets
   pub hyp : HasRoomFor h.hyp s.hyp.maplets

@@ -21,7 +21,13 @@ vm_slots v = vms_of v.table
 
 -- the Shared part; a frame that has no row in the table is no memory frame, and has the plain one
 abbrev pub shared_of : {A : Type 0} → SharedPart A → Shared
-shared_of s = record { host = tree_of s.host.tree; hyp = tree_of s.hyp.tree; free = s.pool.frames; row = λ f. unwrap_or (row_at s.owners f) plain_row }
+shared_of s =
+    record {
+      host = tree_of s.host.tree;
+      hyp = tree_of s.hyp.tree;
+      free = s.pool.frames;
+      row = λ f. unwrap_or (row_at s.owners f) plain_row;
+    }
 
 -- the depth of its trees
 abbrev pub depth_of : {A : Type 0} → SharedPart A → ℕ
@@ -37,4 +43,8 @@ cpu_of k = record { loaded = k.loaded; hand = k.hand; ticket = k.ticket }
 
 -- the Shared part with a row at a range, which advances along it
 abbrev pub rows_given : PageRange → Row → Shared → Shared
-rows_given frames row x = record x { row = λ f. if is_in_range frames f then advance_row row (f - frames.first.0) else x.row f }
+rows_given frames row x =
+    record x {
+      row = λ f. if is_in_range frames f then advance_row row (f - frames.first.0)
+          else x.row f;
+    }

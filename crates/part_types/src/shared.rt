@@ -62,9 +62,13 @@ impl<A: Allocator> SharedPart<A> {
         requires host_change { FitsWhere (depth_of self.old) plan.host.change }
         requires hyp_change { FitsWhere (depth_of self.old) plan.hyp.change }
         requires planned { IsPlanOf self.old plan }
-        ensures made { shared_of self.new ≡ shared_after (depth_of self.old) (planned plan) (shared_with plan self.old) }
-        ensures host_spares { spares_of self.new.host.tree ≡ spares_of self.old.host.tree + length (back_from self.old.host.tree plan.host.change) }
-        ensures hyp_spares { spares_of self.new.hyp.tree ≡ spares_of self.old.hyp.tree + length (back_from self.old.hyp.tree plan.hyp.change) }
+        ensures made { shared_of self.new
+            ≡ shared_after (depth_of self.old) (planned plan) (shared_with plan self.old) }
+        ensures host_spares { spares_of self.new.host.tree
+            ≡ spares_of self.old.host.tree + length
+            (back_from self.old.host.tree plan.host.change) }
+        ensures hyp_spares { spares_of self.new.hyp.tree
+            ≡ spares_of self.old.hyp.tree + length (back_from self.old.hyp.tree plan.hyp.change) }
         ensures rest { KeepsRest self.old self.new }
     {
         let SharedPlan {
@@ -142,7 +146,9 @@ impl<A: Allocator + Copy> SharedPart<A> {
         requires host_change { FitsWhere (depth_of self.old) changes.now.host }
         requires hyp_change { FitsWhere (depth_of self.old) changes.now.hyp }
         ensures made { OnOk result (IsMade changes.now self.old self.new) }
-        ensures no_pool { (result ≡ Err PoolFault.NoPool) ↔ (length self.old.pool.frames < shared_need (depth_of self.old) changes.now (shared_of self.old)) }
+        ensures no_pool { (result ≡ Err PoolFault.NoPool)
+            ↔ (length self.old.pool.frames < shared_need (depth_of self.old) changes.now
+            (shared_of self.old)) }
         ensures no_memory { result ≡ Err PoolFault.NoMemory → IsRoomy changes.now self.old → ⊥ }
         ensures err { OnErr result (IsUnchanged self.old self.new) }
         ensures err_runs { OnErr result (KeepsRuns self.old self.new) }

@@ -25,7 +25,11 @@ less_test p q h = grind (arith, nat_tests)
 more_test : (p q : ℕ) → q ≤ p → nat_lt p q ≡ false
 more_test p q h = grind (arith, nat_tests)
 
-pub same_trees : (g : Geometry) (pages : List PlainPage) (roots : List PlainRoot) (trees : List TreeOfLists) → length trees ≡ 66 → AreTrees g pages roots (λ k. get_or (map tree_in_lists trees) k no_tree) → trees_in trees ≡ trees_said g pages roots
+pub same_trees : (g : Geometry) (pages : List PlainPage) (roots : List PlainRoot) (trees : List TreeOfLists)
+    → length trees ≡ 66
+    → AreTrees g pages roots (λ k. get_or (map tree_in_lists trees) k no_tree)
+    → trees_in trees ≡ trees_said g pages roots
 same_trees g pages roots trees n x = fun_ext (λ k. by_lt k 66
     (λ l. x.trees_are k l ∙ sym (if-true (nat_lt k 66) (tree_of g pages roots k) no_tree (less_test k 66 l)))
-    (λ l. past_end tree_in_lists no_tree trees k (omega (arith, n, l)) ∙ sym (if-false (nat_lt k 66) (tree_of g pages roots k) no_tree (more_test k 66 l))))
+    (λ l. past_end tree_in_lists no_tree trees k (omega (arith, n, l))
+    ∙ sym (if-false (nat_lt k 66) (tree_of g pages roots k) no_tree (more_test k 66 l))))

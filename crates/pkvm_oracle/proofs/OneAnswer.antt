@@ -14,23 +14,34 @@ use Rattle.pkvm_oracle.specs.Laws.{CheckedElse, CheckedOnce, UncheckedOnce}
 pub checked_else : CheckedElse
 checked_else l regions kept pages roots told (Kept why) c h = made_else l regions kept why c.layout c.taken h
 checked_else l regions kept pages roots told (Trees fault) c h =
-    trees_else (geometry_said l) pages roots (tree_of (geometry_said l) pages roots) fault (record { given = c.checked.given; once = c.checked.once; trees_are = λ tree less. refl }) h.2
+    trees_else (geometry_said l) pages roots (tree_of (geometry_said l) pages roots) fault
+    (record { given = c.checked.given; once = c.checked.once; trees_are = λ tree less. refl }) h.2
 checked_else l regions kept pages roots told NoMemory c h = tt
 
 pub checked_once : CheckedOnce
 checked_once l regions kept pages roots None None a b = tt
 checked_once l regions kept pages roots None (Some g) a b =
-    absurd (well_else (layout_said l regions) (contents_said kept) (found_said (layout_said l regions) (contents_said kept) (geometry_said l) pages roots) g (a.checked.none.0 refl) b.checked.first)
+    absurd
+    (well_else (layout_said l regions) (contents_said kept)
+    (found_said (layout_said l regions) (contents_said kept) (geometry_said l) pages roots) g
+    (a.checked.none.0 refl) b.checked.first)
 checked_once l regions kept pages roots (Some f) None a b =
-    absurd (well_else (layout_said l regions) (contents_said kept) (found_said (layout_said l regions) (contents_said kept) (geometry_said l) pages roots) f (b.checked.none.0 refl) a.checked.first)
+    absurd
+    (well_else (layout_said l regions) (contents_said kept)
+    (found_said (layout_said l regions) (contents_said kept) (geometry_said l) pages roots) f
+    (b.checked.none.0 refl) a.checked.first)
 checked_once l regions kept pages roots (Some f) (Some g) a b =
-    finding_once (layout_said l regions) (contents_said kept) (found_said (layout_said l regions) (contents_said kept) (geometry_said l) pages roots) f g a.checked.first b.checked.first
+    finding_once (layout_said l regions) (contents_said kept)
+    (found_said (layout_said l regions) (contents_said kept) (geometry_said l) pages roots) f g a.checked.first
+    b.checked.first
 
 pub unchecked_once : UncheckedOnce
 unchecked_once l regions kept pages roots NoMemory g h k = inl tt
 unchecked_once l regions kept pages roots (Kept f) NoMemory h k = inr (inl tt)
-unchecked_once l regions kept pages roots (Kept f) (Kept g) h k = either (λ x. x) (next (λ x. x) (ap Kept)) (unmade_once l regions kept f g h k)
+unchecked_once l regions kept pages roots (Kept f) (Kept g) h k =
+    either (λ x. x) (next (λ x. x) (ap Kept)) (unmade_once l regions kept f g h k)
 unchecked_once l regions kept pages roots (Kept f) (Trees g) h k = inl (made_else l regions kept f k.0 k.1 h)
 unchecked_once l regions kept pages roots (Trees f) NoMemory h k = inr (inl tt)
 unchecked_once l regions kept pages roots (Trees f) (Kept g) h k = inr (inl (made_else l regions kept g h.0 h.1 k))
-unchecked_once l regions kept pages roots (Trees f) (Trees g) h k = either (λ x. x) (next (λ x. x) (ap Trees)) (fault_once (geometry_said l) pages roots f g h.2 k.2)
+unchecked_once l regions kept pages roots (Trees f) (Trees g) h k =
+    either (λ x. x) (next (λ x. x) (ap Trees)) (fault_once (geometry_said l) pages roots f g h.2 k.2)

@@ -19,23 +19,37 @@ use Rattle.pkvm_oracle.specs.declared.legal.Untested.TheVariants.{Flags, State, 
 use Rattle.pkvm_oracle.specs.Legal.{asks_for_trees, IsTested, IsTestedFrom, IsTestedIn, IsUntested, IsUntestedFrom}
 
 pub tested_lists : (trees : Bool) (g : GhostLists) (o : Option Illegal) → IsKept g → TreesHaveFirstBlocks g
-    → (o ≡ None) ↔ IsLegalBy trees (layout_of g.layout) (contents_in g) → IfSome o (IsIllegalBy trees g) → IsTestedFrom trees g o
+    → (o ≡ None) ↔ IsLegalBy trees (layout_of g.layout) (contents_in g)
+    → IfSome o (IsIllegalBy trees g)
+    → IsTestedFrom trees g o
 tested_lists trees g None k b n t = record { none = n; first = tt }
-tested_lists trees g (Some x) k b n t = record { none = n; first = record { lists = g; kept = k; blocks = b; layout = refl; contents = refl; told = t } }
+tested_lists trees g (Some x) k b n t =
+    record { none = n; first = record { lists = g; kept = k; blocks = b; layout = refl; contents = refl; told = t } }
 
 module _ (l : PlainLayout) (regions : List PlainRegion) (p : Lists) (flags : ℕ) where
-  pub tested_said : (trees : Bool) (g : GhostLists) (r : Result (Option Illegal) Untested) → asks_for_trees flags ≡ Some trees → IsTakenLayout l regions → AreTaken l.cpus p
-      → layout_of g.layout ≡ layout_said l regions → ghost_state g ≡ state_said p → IfOk r (IsTestedFrom trees g) → IfOk r (IsTested l regions p flags)
+  pub tested_said : (trees : Bool) (g : GhostLists) (r : Result (Option Illegal) Untested)
+      → asks_for_trees flags ≡ Some trees
+      → IsTakenLayout l regions
+      → AreTaken l.cpus p
+      → layout_of g.layout ≡ layout_said l regions
+      → ghost_state g ≡ state_said p
+      → IfOk r (IsTestedFrom trees g)
+      → IfOk r (IsTested l regions p flags)
   tested_said trees g (Ok o) asked taken are e s h = record {
     trees = trees;
     asked = asked;
     layout = taken;
     taken = are;
-    tested = subst (λ (x : Layout). IsTestedIn trees x (contents_said p) o) e (subst (λ (c : Contents). IsTestedIn trees (layout_of g.layout) c o) (ap (λ (x : Reference). x.contents) s) h);
+    tested =
+        subst (λ (x : Layout). IsTestedIn trees x (contents_said p) o) e
+        (subst (λ (c : Contents). IsTestedIn trees (layout_of g.layout) c o)
+        (ap (λ (x : Reference). x.contents) s) h);
   }
   tested_said trees g (Err why) asked taken are e s h = tt
 
-  pub untested_said : (r : Result (Option Illegal) Untested) → IfErr r IsUntestedFrom → IfErr r (IsUntested l regions p flags)
+  pub untested_said : (r : Result (Option Illegal) Untested)
+      → IfErr r IsUntestedFrom
+      → IfErr r (IsUntested l regions p flags)
   untested_said (Ok o) h = tt
   untested_said (Err Flags) h = absurd h
   untested_said (Err (State why)) h = absurd h

@@ -42,8 +42,10 @@ trees_said g pages roots n = if nat_lt n 66 then tree_of g pages roots n else no
 abbrev pub found_said : Layout → Contents → Geometry → List PlainPage → List PlainRoot → Contents
 found_said l kept g pages roots = found l kept (trees_said g pages roots)
 
--- a state is checked: no table is reached twice, and nothing is told just where all agrees and the state is legal; else the first difference, or why it isn't
-pub record IsCheckedIn (l : Layout) (kept : Contents) (g : Geometry) (pages : List PlainPage) (roots : List PlainRoot) (told : Option Finding) : Type 0 where
+-- a state is checked: no table is reached twice, and nothing is told just where all agrees and the
+-- state is legal; else the first difference, or why it isn't
+pub record IsCheckedIn (l : Layout) (kept : Contents) (g : Geometry) (pages : List PlainPage)
+    (roots : List PlainRoot) (told : Option Finding) : Type 0 where
   pub given : AreGiven pages roots
   pub once : AllPairs AreOtherFrames (all_tables g pages roots)
   pub none : (told ≡ None) ↔ IsWell l kept (found_said l kept g pages roots)
@@ -51,13 +53,16 @@ pub record IsCheckedIn (l : Layout) (kept : Contents) (g : Geometry) (pages : Li
 
 -- a state on lists
 abbrev pub IsCheckedFrom : GhostLists → List PlainPage → List PlainRoot → Option Finding → Type 0
-IsCheckedFrom kept pages roots told = IsCheckedIn (layout_of kept.layout) (contents_in kept) kept.layout.geometry pages roots told
+IsCheckedFrom kept pages roots told =
+    IsCheckedIn (layout_of kept.layout) (contents_in kept) kept.layout.geometry pages roots told
 
 -- and one on plain lists, which make it
-pub record IsChecked (l : PlainLayout) (regions : List PlainRegion) (kept : Lists) (pages : List PlainPage) (roots : List PlainRoot) (told : Option Finding) : Type 0 where
+pub record IsChecked (l : PlainLayout) (regions : List PlainRegion) (kept : Lists)
+    (pages : List PlainPage) (roots : List PlainRoot) (told : Option Finding) : Type 0 where
   pub layout : IsTakenLayout l regions
   pub taken : AreTaken l.cpus kept
-  pub checked : IsCheckedIn (layout_said l regions) (contents_said kept) (geometry_said l) pages roots told
+  pub checked : IsCheckedIn (layout_said l regions) (contents_said kept)
+      (geometry_said l) pages roots told
 
 -- why it isn't, where the state is well
 abbrev pub IsUncheckedFrom : Geometry → List PlainPage → List PlainRoot → Unchecked → Type 0
@@ -66,9 +71,11 @@ IsUncheckedFrom g pages roots (Trees fault) = IsTreeFault g pages roots fault
 IsUncheckedFrom g pages roots NoMemory = Unit {0}
 
 -- and why it isn't: the first that is true
-abbrev pub IsUnchecked : PlainLayout → List PlainRegion → Lists → List PlainPage → List PlainRoot → Unchecked → Type 0
+abbrev pub IsUnchecked : PlainLayout → List PlainRegion → Lists → List PlainPage → List PlainRoot
+    → Unchecked → Type 0
 IsUnchecked l regions kept pages roots (Kept why) = IsUnmade l regions kept why
-IsUnchecked l regions kept pages roots (Trees fault) = IsTakenLayout l regions × AreTaken l.cpus kept × IsTreeFault (geometry_said l) pages roots fault
+IsUnchecked l regions kept pages roots (Trees fault) =
+    IsTakenLayout l regions × AreTaken l.cpus kept × IsTreeFault (geometry_said l) pages roots fault
 IsUnchecked l regions kept pages roots NoMemory = Unit {0}
 
 -- the index of the block, so many heights up, that a block lies in
@@ -92,7 +99,8 @@ refused_by_trees (trees.PageTwice i) = record { fault = 16; list = 9; index = i 
 refused_by_trees (trees.NoTree i) = record { fault = 17; list = 10; index = i }
 refused_by_trees (trees.RootTwice i) = record { fault = 18; list = 10; index = i }
 refused_by_trees (trees.NoPage i) = record { fault = 19; list = 10; index = i }
-refused_by_trees (trees.Again first second) = record { fault = fault_again first second; list = second.tree; index = second.table.frame }
+refused_by_trees (trees.Again first second) =
+    record { fault = fault_again first second; list = second.tree; index = second.table.frame }
 refused_by_trees trees.NoMemory = of_fault 0
 
 abbrev pub status_by_trees : TreeFault → ℤ
@@ -110,9 +118,11 @@ status_by_audit (Kept why) = status_by_made (negsuc 8) why
 status_by_audit (Trees fault) = status_by_trees fault
 status_by_audit NoMemory = negsuc 11
 
-module _ (layout : PlainLayout) (regions : List PlainRegion) (kept : Lists) (pages : List PlainPage) (roots : List PlainRoot) where
+module _ (layout : PlainLayout) (regions : List PlainRegion) (kept : Lists)
+    (pages : List PlainPage) (roots : List PlainRoot) where
   -- nothing is found, and nothing written
-  pub record Agrees (old new : List ℕ) (count : ℕ) (refused : PlainRefused) (status : ℤ) : Type 0 where
+  pub record Agrees (old new : List ℕ) (count : ℕ) (refused : PlainRefused)
+      (status : ℤ) : Type 0 where
     pub checked : IsChecked layout regions kept pages roots None
     pub status_is : status ≡ pos 0
     pub count_is : count ≡ 0
@@ -120,7 +130,8 @@ module _ (layout : PlainLayout) (regions : List PlainRegion) (kept : Lists) (pag
     pub text : new ≡ old
 
   -- a difference or a fault is found, and written as text
-  pub record Differs (old new : List ℕ) (count : ℕ) (refused : PlainRefused) (status : ℤ) : Type 0 where
+  pub record Differs (old new : List ℕ) (count : ℕ) (refused : PlainRefused)
+      (status : ℤ) : Type 0 where
     pub found_is : Finding
     pub checked : IsChecked layout regions kept pages roots (Some found_is)
     pub status_is : status ≡ pos 1
@@ -130,7 +141,8 @@ module _ (layout : PlainLayout) (regions : List PlainRegion) (kept : Lists) (pag
     pub behind : drop count new ≡ drop count old
 
   -- a difference or a fault is found, and its text has no room
-  pub record HasNoRoom (old new : List ℕ) (count : ℕ) (refused : PlainRefused) (status : ℤ) : Type 0 where
+  pub record HasNoRoom (old new : List ℕ) (count : ℕ) (refused : PlainRefused)
+      (status : ℤ) : Type 0 where
     pub found_is : Finding
     pub checked : IsChecked layout regions kept pages roots (Some found_is)
     pub status_is : status ≡ negsuc 1
@@ -140,7 +152,8 @@ module _ (layout : PlainLayout) (regions : List PlainRegion) (kept : Lists) (pag
     pub text : new ≡ old
 
   -- there is no audit, and nothing is written
-  pub record IsRefused (old new : List ℕ) (count : ℕ) (refused : PlainRefused) (status : ℤ) : Type 0 where
+  pub record IsRefused (old new : List ℕ) (count : ℕ) (refused : PlainRefused)
+      (status : ℤ) : Type 0 where
     pub why : Unchecked
     pub unchecked : IsUnchecked layout regions kept pages roots why
     pub status_is : status ≡ status_by_audit why
@@ -151,4 +164,6 @@ module _ (layout : PlainLayout) (regions : List PlainRegion) (kept : Lists) (pag
   -- one of these
   abbrev pub IsAudited : List ℕ → List ℕ → ℕ → PlainRefused → ℤ → Type 0
   IsAudited old new count refused status =
-      Agrees old new count refused status ⊎ (Differs old new count refused status ⊎ (HasNoRoom old new count refused status ⊎ IsRefused old new count refused status))
+      Agrees old new count refused status
+      ⊎ (Differs old new count refused status
+      ⊎ (HasNoRoom old new count refused status ⊎ IsRefused old new count refused status))

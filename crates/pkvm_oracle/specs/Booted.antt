@@ -29,7 +29,8 @@ status_by_boot unbooted.NoMemory = negsuc 11
 
 module _ (layout : PlainLayout) (regions : List PlainRegion) where
   -- the state at boot is written
-  pub record TellsBoot (old_room new_room : PlainRoom) (sizes : PlainSizes) (refused : PlainRefused) (status : ℤ) : Type 0 where
+  pub record TellsBoot (old_room new_room : PlainRoom) (sizes : PlainSizes)
+      (refused : PlainRefused) (status : ℤ) : Type 0 where
     pub lists : Lists
     pub booted : IsBootTold layout regions lists
     pub written : AreWritten lists old_room new_room
@@ -38,7 +39,8 @@ module _ (layout : PlainLayout) (regions : List PlainRegion) where
     pub refused_is : refused ≡ of_fault 0
 
   -- a list of it has no room, and nothing is written
-  pub record HasNoRoomForBoot (old_room new_room : PlainRoom) (sizes : PlainSizes) (refused : PlainRefused) (status : ℤ) : Type 0 where
+  pub record HasNoRoomForBoot (old_room new_room : PlainRoom) (sizes : PlainSizes)
+      (refused : PlainRefused) (status : ℤ) : Type 0 where
     pub lists : Lists
     pub booted : IsBootTold layout regions lists
     pub sizes_are : sizes ≡ sizes_of lists
@@ -48,7 +50,8 @@ module _ (layout : PlainLayout) (regions : List PlainRegion) where
     pub refused_is : refused ≡ of_fault 0
 
   -- there is none, and nothing is written
-  pub record HasNoBoot (old_room new_room : PlainRoom) (sizes : PlainSizes) (refused : PlainRefused) (status : ℤ) : Type 0 where
+  pub record HasNoBoot (old_room new_room : PlainRoom) (sizes : PlainSizes)
+      (refused : PlainRefused) (status : ℤ) : Type 0 where
     pub why : Unbooted
     pub unbooted : IsUnbooted layout regions why
     pub sizes_are : sizes ≡ no_sizes
@@ -59,4 +62,6 @@ module _ (layout : PlainLayout) (regions : List PlainRegion) where
   -- one of these
   abbrev pub IsBooted : PlainRoom → PlainRoom → PlainSizes → PlainRefused → ℤ → Type 0
   IsBooted old_room new_room sizes refused status =
-      TellsBoot old_room new_room sizes refused status ⊎ (HasNoRoomForBoot old_room new_room sizes refused status ⊎ HasNoBoot old_room new_room sizes refused status)
+      TellsBoot old_room new_room sizes refused status
+      ⊎ (HasNoRoomForBoot old_room new_room sizes refused status
+      ⊎ HasNoBoot old_room new_room sizes refused status)

@@ -37,7 +37,8 @@ text_of_fault n =
     if n == 1 then codes "address bits that are neither 39 nor 48"
     else if n == 2 then codes "over 16 regions"
     else if n == 3 then codes "a region or the carve-out has no page"
-    else if n == 4 then codes "a region ends over page 2^26, or there are over 524288 pages of memory"
+    else if n == 4
+    then codes "a region ends over page 2^26, or there are over 524288 pages of memory"
     else if n == 5 then codes "two regions share a page"
     else if n == 6 then codes "the carve-out isn't in one memory region"
     else text_of_list_fault n
@@ -67,4 +68,6 @@ module _ (fault : ℕ) where
 
   -- one of these
   abbrev pub IsFaultTold : List ℕ → List ℕ → ℕ → ℤ → Type 0
-  IsFaultTold old new count status = IsUnknown old new count status ⊎ (IsNamed old new count status ⊎ LacksRoom old new count status)
+  IsFaultTold old new count status =
+      IsUnknown old new count status
+      ⊎ (IsNamed old new count status ⊎ LacksRoom old new count status)

@@ -17,9 +17,11 @@ use Rattle.c_judge.specs.Texts.{text_of_found}
 use Rattle.pkvm_oracle.specs.declared.judged.PlainRefused.{PlainRefused}
 use Rattle.pkvm_oracle.specs.Refusals.{of_fault, refused_by, refused_by_found, status_by, status_by_found}
 
-module _ (layout : PlainLayout) (regions : List PlainRegion) (before : Lists) (call : PlainCall) (after : Lists) where
+module _ (layout : PlainLayout) (regions : List PlainRegion) (before : Lists) (call : PlainCall)
+    (after : Lists) where
   -- nothing is found, and nothing written
-  pub record Agrees (old new : List ℕ) (count : ℕ) (refused : PlainRefused) (status : ℤ) : Type 0 where
+  pub record Agrees (old new : List ℕ) (count : ℕ) (refused : PlainRefused)
+      (status : ℤ) : Type 0 where
     pub judged : IsFound layout regions before call after None
     pub status_is : status ≡ pos 0
     pub count_is : count ≡ 0
@@ -27,7 +29,8 @@ module _ (layout : PlainLayout) (regions : List PlainRegion) (before : Lists) (c
     pub text : new ≡ old
 
   -- a difference is found, and written as text
-  pub record Differs (old new : List ℕ) (count : ℕ) (refused : PlainRefused) (status : ℤ) : Type 0 where
+  pub record Differs (old new : List ℕ) (count : ℕ) (refused : PlainRefused)
+      (status : ℤ) : Type 0 where
     pub found : Found
     pub judged : IsFound layout regions before call after (Some found)
     pub status_is : status ≡ pos 1
@@ -37,7 +40,8 @@ module _ (layout : PlainLayout) (regions : List PlainRegion) (before : Lists) (c
     pub behind : drop count new ≡ drop count old
 
   -- a difference is found, and its text has no room
-  pub record HasNoRoom (old new : List ℕ) (count : ℕ) (refused : PlainRefused) (status : ℤ) : Type 0 where
+  pub record HasNoRoom (old new : List ℕ) (count : ℕ) (refused : PlainRefused)
+      (status : ℤ) : Type 0 where
     pub found : Found
     pub judged : IsFound layout regions before call after (Some found)
     pub status_is : status ≡ negsuc 1
@@ -47,7 +51,8 @@ module _ (layout : PlainLayout) (regions : List PlainRegion) (before : Lists) (c
     pub text : new ≡ old
 
   -- there is no judgement, and nothing is written
-  pub record IsRefused (old new : List ℕ) (count : ℕ) (refused : PlainRefused) (status : ℤ) : Type 0 where
+  pub record IsRefused (old new : List ℕ) (count : ℕ) (refused : PlainRefused)
+      (status : ℤ) : Type 0 where
     pub why : Unfound
     pub unjudged : IsUnfound layout regions before call after why
     pub status_is : status ≡ status_by_found why
@@ -58,13 +63,18 @@ module _ (layout : PlainLayout) (regions : List PlainRegion) (before : Lists) (c
   -- one of these
   abbrev pub IsAnswered : List ℕ → List ℕ → ℕ → PlainRefused → ℤ → Type 0
   IsAnswered old new count refused status =
-      Agrees old new count refused status ⊎ (Differs old new count refused status ⊎ (HasNoRoom old new count refused status ⊎ IsRefused old new count refused status))
+      Agrees old new count refused status
+      ⊎ (Differs old new count refused status
+      ⊎ (HasNoRoom old new count refused status ⊎ IsRefused old new count refused status))
 
 -- the judgement of a call, by what its layout and the states before and after it list
-abbrev pub IsCallJudged : PlainLayout → PlainState → PlainCall → PlainState → List ℕ → List ℕ → ℕ → PlainRefused → ℤ → Type 0
-IsCallJudged layout before call after = IsAnswered layout layout.regions.now (lists_told before) call (lists_told after)
+abbrev pub IsCallJudged : PlainLayout → PlainState → PlainCall → PlainState → List ℕ → List ℕ → ℕ
+    → PlainRefused → ℤ → Type 0
+IsCallJudged layout before call after =
+    IsAnswered layout layout.regions.now (lists_told before) call (lists_told after)
 
-module _ (layout : PlainLayout) (regions : List PlainRegion) (before : Lists) (cpu : ℕ) (step : PlainStep) where
+module _ (layout : PlainLayout) (regions : List PlainRegion) (before : Lists) (cpu : ℕ)
+    (step : PlainStep) where
   -- the reply is written
   pub record IsTold (new : PlainReply) (refused : PlainRefused) (status : ℤ) : Type 0 where
     pub foretold : IsForetold layout regions before cpu step new

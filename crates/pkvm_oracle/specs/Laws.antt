@@ -21,8 +21,12 @@ LacksMemory NoMemory = Unit {0}
 
 -- an audit that is made is refused for want of memory alone
 abbrev pub CheckedElse : Type 0
-CheckedElse = (l : PlainLayout) (regions : List PlainRegion) (kept : Lists) (pages : List PlainPage) (roots : List PlainRoot) (told : Option Finding) (why : Unchecked)
-    → IsChecked l regions kept pages roots told → IsUnchecked l regions kept pages roots why → LacksMemory why
+CheckedElse =
+    (l : PlainLayout) (regions : List PlainRegion) (kept : Lists) (pages : List PlainPage)
+    (roots : List PlainRoot) (told : Option Finding) (why : Unchecked)
+    → IsChecked l regions kept pages roots told
+    → IsUnchecked l regions kept pages roots why
+    → LacksMemory why
 
 -- two answers are alike
 abbrev pub AreAlikeIn : Option Finding → Option Finding → Type 0
@@ -32,10 +36,18 @@ AreAlikeIn found other = ⊥
 
 -- an audit has one answer, but for which block of a tree or which places it names
 abbrev pub CheckedOnce : Type 0
-CheckedOnce = (l : PlainLayout) (regions : List PlainRegion) (kept : Lists) (pages : List PlainPage) (roots : List PlainRoot) (f g : Option Finding)
-    → IsChecked l regions kept pages roots f → IsChecked l regions kept pages roots g → AreAlikeIn f g
+CheckedOnce =
+    (l : PlainLayout) (regions : List PlainRegion) (kept : Lists) (pages : List PlainPage)
+    (roots : List PlainRoot) (f g : Option Finding)
+    → IsChecked l regions kept pages roots f
+    → IsChecked l regions kept pages roots g
+    → AreAlikeIn f g
 
 -- and one that isn't made has one reason
 abbrev pub UncheckedOnce : Type 0
-UncheckedOnce = (l : PlainLayout) (regions : List PlainRegion) (kept : Lists) (pages : List PlainPage) (roots : List PlainRoot) (f g : Unchecked)
-    → IsUnchecked l regions kept pages roots f → IsUnchecked l regions kept pages roots g → LacksMemory f ⊎ (LacksMemory g ⊎ (f ≡ g))
+UncheckedOnce =
+    (l : PlainLayout) (regions : List PlainRegion) (kept : Lists) (pages : List PlainPage)
+    (roots : List PlainRoot) (f g : Unchecked)
+    → IsUnchecked l regions kept pages roots f
+    → IsUnchecked l regions kept pages roots g
+    → LacksMemory f ⊎ (LacksMemory g ⊎ (f ≡ g))

@@ -19,12 +19,15 @@ use Rattle.pkvm_oracle.specs.declared.legal.Untested.{Untested}
 use Rattle.pkvm_oracle.specs.declared.legal.Untested.TheVariants.{Flags, State, NoMemory}
 use Rattle.pkvm_oracle.specs.Refusals.{of_fault, refused_by_made, status_by_made}
 
--- whether flags ask that each tree is the coarsest of its map: 0 does, 1 doesn't, and others are unknown
+-- whether flags ask that each tree is the coarsest of its map: 0 does, 1 doesn't, and others are
+-- unknown
 abbrev pub asks_for_trees : ℕ → Option Bool
 asks_for_trees n = if n == 0 then Some true else if n == 1 then Some false else None
 
--- contents are tested: nothing is told just where they are legal; else it is so of lists that say them, and what comes before it isn't
-pub record IsTestedIn (trees : Bool) (l : Layout) (s : Contents) (told : Option Illegal) : Type 0 where
+-- contents are tested: nothing is told just where they are legal; else it is so of lists that say
+-- them, and what comes before it isn't
+pub record IsTestedIn (trees : Bool) (l : Layout) (s : Contents)
+    (told : Option Illegal) : Type 0 where
   pub none : (told ≡ None) ↔ IsLegalBy trees l s
   pub first : IfSome told (IsToldOf trees l s)
 
@@ -33,7 +36,8 @@ abbrev pub IsTestedFrom : Bool → GhostLists → Option Illegal → Type 0
 IsTestedFrom trees g told = IsTestedIn trees (layout_of g.layout) (contents_in g) told
 
 -- and one on plain lists, which make it, by known flags
-pub record IsTested (l : PlainLayout) (regions : List PlainRegion) (p : Lists) (flags : ℕ) (told : Option Illegal) : Type 0 where
+pub record IsTested (l : PlainLayout) (regions : List PlainRegion) (p : Lists) (flags : ℕ)
+    (told : Option Illegal) : Type 0 where
   pub trees : Bool
   pub asked : asks_for_trees flags ≡ Some trees
   pub layout : IsTakenLayout l regions
@@ -55,7 +59,8 @@ abbrev pub refused_by_test : Untested → PlainRefused
 refused_by_test (State why) = refused_by_made why
 refused_by_test other = of_fault 0
 
--- the status where there is no test: -3 for flags, -8 and -9 for a layout and a state, -12 for want of memory
+-- the status where there is no test: -3 for flags, -8 and -9 for a layout and a state, -12 for want
+-- of memory
 abbrev pub status_by_test : Untested → ℤ
 status_by_test Flags = negsuc 2
 status_by_test (State why) = status_by_made (negsuc 8) why
@@ -63,7 +68,8 @@ status_by_test NoMemory = negsuc 11
 
 module _ (layout : PlainLayout) (regions : List PlainRegion) (state : Lists) (flags : ℕ) where
   -- the state is legal, and nothing is written
-  pub record Agrees (old new : List ℕ) (count : ℕ) (refused : PlainRefused) (status : ℤ) : Type 0 where
+  pub record Agrees (old new : List ℕ) (count : ℕ) (refused : PlainRefused)
+      (status : ℤ) : Type 0 where
     pub tested : IsTested layout regions state flags None
     pub status_is : status ≡ pos 0
     pub count_is : count ≡ 0
@@ -71,7 +77,8 @@ module _ (layout : PlainLayout) (regions : List PlainRegion) (state : Lists) (fl
     pub text : new ≡ old
 
   -- a fault is found, and written as text
-  pub record Differs (old new : List ℕ) (count : ℕ) (refused : PlainRefused) (status : ℤ) : Type 0 where
+  pub record Differs (old new : List ℕ) (count : ℕ) (refused : PlainRefused)
+      (status : ℤ) : Type 0 where
     pub found : Illegal
     pub tested : IsTested layout regions state flags (Some found)
     pub status_is : status ≡ pos 1
@@ -81,7 +88,8 @@ module _ (layout : PlainLayout) (regions : List PlainRegion) (state : Lists) (fl
     pub behind : drop count new ≡ drop count old
 
   -- a fault is found, and its text has no room
-  pub record HasNoRoom (old new : List ℕ) (count : ℕ) (refused : PlainRefused) (status : ℤ) : Type 0 where
+  pub record HasNoRoom (old new : List ℕ) (count : ℕ) (refused : PlainRefused)
+      (status : ℤ) : Type 0 where
     pub found : Illegal
     pub tested : IsTested layout regions state flags (Some found)
     pub status_is : status ≡ negsuc 1
@@ -91,7 +99,8 @@ module _ (layout : PlainLayout) (regions : List PlainRegion) (state : Lists) (fl
     pub text : new ≡ old
 
   -- there is no test, and nothing is written
-  pub record IsRefused (old new : List ℕ) (count : ℕ) (refused : PlainRefused) (status : ℤ) : Type 0 where
+  pub record IsRefused (old new : List ℕ) (count : ℕ) (refused : PlainRefused)
+      (status : ℤ) : Type 0 where
     pub why : Untested
     pub untested : IsUntested layout regions state flags why
     pub status_is : status ≡ status_by_test why
@@ -102,4 +111,6 @@ module _ (layout : PlainLayout) (regions : List PlainRegion) (state : Lists) (fl
   -- one of these
   abbrev pub IsStateTested : List ℕ → List ℕ → ℕ → PlainRefused → ℤ → Type 0
   IsStateTested old new count refused status =
-      Agrees old new count refused status ⊎ (Differs old new count refused status ⊎ (HasNoRoom old new count refused status ⊎ IsRefused old new count refused status))
+      Agrees old new count refused status
+      ⊎ (Differs old new count refused status
+      ⊎ (HasNoRoom old new count refused status ⊎ IsRefused old new count refused status))

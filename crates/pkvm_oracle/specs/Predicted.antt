@@ -41,13 +41,25 @@ room_of r = record {
 }
 
 abbrev pub no_sizes : PlainSizes
-no_sizes = record { runs = 0; tables = 0; frames = 0; slots = 0; loads = 0; guests = 0; cpus = 0; rows = 0 }
+no_sizes =
+    record {
+      runs = 0;
+      tables = 0;
+      frames = 0;
+      slots = 0;
+      loads = 0;
+      guests = 0;
+      cpus = 0;
+      rows = 0;
+    }
 
 -- each list has room
 abbrev pub fits : PlainSizes → PlainSizes → Bool
 fits s r =
-    nat_le s.runs r.runs && nat_le s.tables r.tables && (nat_le s.frames r.frames && nat_le s.rows r.rows)
-    && (nat_le s.slots r.slots && nat_le s.loads r.loads && (nat_le s.guests r.guests && nat_le s.cpus r.cpus))
+    nat_le s.runs r.runs && nat_le s.tables r.tables
+    && (nat_le s.frames r.frames && nat_le s.rows r.rows)
+    && (nat_le s.slots r.slots && nat_le s.loads r.loads
+    && (nat_le s.guests r.guests && nat_le s.cpus r.cpus))
 
 -- the members are the front, and all behind them stays
 pub record IsPut {X : Type 0} (members old new : List X) : Type 0 where
@@ -81,9 +93,11 @@ pub record AreWritten (p : Lists) (old new : PlainRoom) : Type 0 where
   pub lists : ArePut p old new
   pub rooms : AreInPlace old new
 
-module _ (layout : PlainLayout) (regions : List PlainRegion) (before : Lists) (cpu : ℕ) (step : PlainStep) where
+module _ (layout : PlainLayout) (regions : List PlainRegion) (before : Lists) (cpu : ℕ)
+    (step : PlainStep) where
   -- the reply and the state after it are written
-  pub record TellsState (new : PlainReply) (old_room new_room : PlainRoom) (sizes : PlainSizes) (refused : PlainRefused) (status : ℤ) : Type 0 where
+  pub record TellsState (new : PlainReply) (old_room new_room : PlainRoom) (sizes : PlainSizes)
+      (refused : PlainRefused) (status : ℤ) : Type 0 where
     pub after : Lists
     pub foretold : IsForetoldState layout regions before cpu step new after
     pub written : AreWritten after old_room new_room
@@ -92,7 +106,8 @@ module _ (layout : PlainLayout) (regions : List PlainRegion) (before : Lists) (c
     pub refused_is : refused ≡ of_fault 0
 
   -- a list of the state after it has no room, and nothing is written
-  pub record HasNoRoom (old new : PlainReply) (old_room new_room : PlainRoom) (sizes : PlainSizes) (refused : PlainRefused) (status : ℤ) : Type 0 where
+  pub record HasNoRoom (old new : PlainReply) (old_room new_room : PlainRoom) (sizes : PlainSizes)
+      (refused : PlainRefused) (status : ℤ) : Type 0 where
     pub told : PlainReply
     pub after : Lists
     pub foretold : IsForetoldState layout regions before cpu step told after
@@ -104,7 +119,8 @@ module _ (layout : PlainLayout) (regions : List PlainRegion) (before : Lists) (c
     pub refused_is : refused ≡ of_fault 0
 
   -- there is none, and nothing is written
-  pub record HasNoState (old new : PlainReply) (old_room new_room : PlainRoom) (sizes : PlainSizes) (refused : PlainRefused) (status : ℤ) : Type 0 where
+  pub record HasNoState (old new : PlainReply) (old_room new_room : PlainRoom) (sizes : PlainSizes)
+      (refused : PlainRefused) (status : ℤ) : Type 0 where
     pub why : Unjudged
     pub untold : IsUntold layout regions before cpu step why
     pub sizes_are : sizes ≡ no_sizes
@@ -114,11 +130,15 @@ module _ (layout : PlainLayout) (regions : List PlainRegion) (before : Lists) (c
     pub refused_is : refused ≡ refused_by why
 
   -- one of these
-  abbrev pub IsPredictedState : PlainReply → PlainReply → PlainRoom → PlainRoom → PlainSizes → PlainRefused → ℤ → Type 0
+  abbrev pub IsPredictedState : PlainReply → PlainReply → PlainRoom → PlainRoom → PlainSizes
+      → PlainRefused → ℤ → Type 0
   IsPredictedState old new old_room new_room sizes refused status =
       TellsState new old_room new_room sizes refused status
-      ⊎ (HasNoRoom old new old_room new_room sizes refused status ⊎ HasNoState old new old_room new_room sizes refused status)
+      ⊎ (HasNoRoom old new old_room new_room sizes refused status
+      ⊎ HasNoState old new old_room new_room sizes refused status)
 
 -- the prediction of a call, by what its layout and the state before it list
-abbrev pub IsCallPredicted : PlainLayout → PlainState → ℕ → PlainStep → PlainReply → PlainReply → PlainRoom → PlainRoom → PlainSizes → PlainRefused → ℤ → Type 0
-IsCallPredicted layout before cpu step = IsPredictedState layout layout.regions.now (lists_told before) cpu step
+abbrev pub IsCallPredicted : PlainLayout → PlainState → ℕ → PlainStep → PlainReply → PlainReply
+    → PlainRoom → PlainRoom → PlainSizes → PlainRefused → ℤ → Type 0
+IsCallPredicted layout before cpu step =
+    IsPredictedState layout layout.regions.now (lists_told before) cpu step

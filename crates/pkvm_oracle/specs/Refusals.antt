@@ -65,11 +65,14 @@ abbrev pub of_fault : ℕ → PlainRefused
 of_fault fault = record { fault = fault; list = 0; index = 0 }
 
 abbrev pub refused_by_state : PlainFault → PlainRefused
-refused_by_state (faults.Unknown list at) = record { fault = 7; list = number_of_list list; index = at }
-refused_by_state (faults.Twice list at) = record { fault = 10; list = number_of_list list; index = at }
+refused_by_state (faults.Unknown list at) =
+    record { fault = 7; list = number_of_list list; index = at }
+refused_by_state (faults.Twice list at) =
+    record { fault = 10; list = number_of_list list; index = at }
 refused_by_state (faults.Rows fault) = of_fault (fault_of_rows fault)
 refused_by_state (faults.Lists fault None) = of_fault (fault_of_lists fault)
-refused_by_state (faults.Lists fault (Some told)) = record { fault = fault_of_lists fault; list = number_of_list told.0; index = told.1 }
+refused_by_state (faults.Lists fault (Some told)) =
+    record { fault = fault_of_lists fault; list = number_of_list told.0; index = told.1 }
 refused_by_state faults.NoMemory = of_fault 0
 
 abbrev pub refused_by_made : Unmade → PlainRefused

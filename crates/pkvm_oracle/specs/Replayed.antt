@@ -40,4 +40,6 @@ pub record BreaksOff (trace old new : List ℕ) (written : ℕ) (status : ℤ) :
 
 -- one of these
 abbrev pub IsAnswered : List ℕ → List ℕ → List ℕ → ℕ → ℤ → Type 0
-IsAnswered trace old new written status = Replays trace old new written status ⊎ (HasNoRoom trace old new written status ⊎ BreaksOff trace old new written status)
+IsAnswered trace old new written status =
+    Replays trace old new written status
+    ⊎ (HasNoRoom trace old new written status ⊎ BreaksOff trace old new written status)

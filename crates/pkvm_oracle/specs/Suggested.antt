@@ -22,10 +22,12 @@ status_by_suggestion unsuggested.Cpus = negsuc 6
 status_by_suggestion (unsuggested.State why) = status_by_made (negsuc 8) why
 status_by_suggestion unsuggested.NoMemory = negsuc 11
 
-module _ (layout : PlainLayout) (regions : List PlainRegion) (lists : Lists) (random hostile : ℕ) where
+module _ (layout : PlainLayout) (regions : List PlainRegion) (lists : Lists)
+    (random hostile : ℕ) where
   -- the CPU and the step of a call are written, and its reply stays
   pub record TellsCall (old new : PlainCall) (refused : PlainRefused) (status : ℤ) : Type 0 where
-    pub suggested : IsSuggestedCall layout regions lists random hostile (record { cpu = new.cpu; step = new.step })
+    pub suggested : IsSuggestedCall layout regions lists random hostile
+        (record { cpu = new.cpu; step = new.step })
     pub reply : new.reply ≡ old.reply
     pub status_is : status ≡ pos 0
     pub refused_is : refused ≡ of_fault 0
@@ -40,4 +42,5 @@ module _ (layout : PlainLayout) (regions : List PlainRegion) (lists : Lists) (ra
 
   -- one of these
   abbrev pub IsCallSuggested : PlainCall → PlainCall → PlainRefused → ℤ → Type 0
-  IsCallSuggested old new refused status = TellsCall old new refused status ⊎ HasNoCall old new refused status
+  IsCallSuggested old new refused status =
+      TellsCall old new refused status ⊎ HasNoCall old new refused status

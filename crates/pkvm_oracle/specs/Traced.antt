@@ -19,14 +19,16 @@ status_in count room = if nat_le count room then pos 0 else negsuc 1
 
 module _ (l : PlainLayout) (regions : List PlainRegion) where
   -- the lines of the layout are offered
-  pub record GivesStart (old new : List ℕ) (count : ℕ) (refused : PlainRefused) (status : ℤ) : Type 0 where
+  pub record GivesStart (old new : List ℕ) (count : ℕ) (refused : PlainRefused)
+      (status : ℤ) : Type 0 where
     pub can : CanBootPlain l regions
     pub offered : IsOffered (text_of_start l regions) old new count
     pub status_is : status ≡ status_in count (length old)
     pub refused_is : refused ≡ of_fault 0
 
   -- the layout doesn't boot, and nothing is written
-  pub record HasNoStart (old new : List ℕ) (count : ℕ) (refused : PlainRefused) (status : ℤ) : Type 0 where
+  pub record HasNoStart (old new : List ℕ) (count : ℕ) (refused : PlainRefused)
+      (status : ℤ) : Type 0 where
     pub why : Unbooted
     pub unbooted : IsUnbooted l regions why
     pub count_is : count ≡ 0
@@ -36,7 +38,8 @@ module _ (l : PlainLayout) (regions : List PlainRegion) where
 
   -- one of both
   abbrev pub IsStartTraced : List ℕ → List ℕ → ℕ → PlainRefused → ℤ → Type 0
-  IsStartTraced old new count refused status = GivesStart old new count refused status ⊎ HasNoStart old new count refused status
+  IsStartTraced old new count refused status =
+      GivesStart old new count refused status ⊎ HasNoStart old new count refused status
 
 -- the status of a call that has no line
 abbrev pub status_by_line : Unwritten → ℤ
@@ -60,4 +63,5 @@ module _ (l : PlainLayout) (call : PlainCall) where
 
   -- one of both
   abbrev pub IsCallTraced : List ℕ → List ℕ → ℕ → ℤ → Type 0
-  IsCallTraced old new count status = GivesLine old new count status ⊎ HasNoLine old new count status
+  IsCallTraced old new count status =
+      GivesLine old new count status ⊎ HasNoLine old new count status

@@ -8,7 +8,8 @@ use Rattle.c_words.specs.Numbers.{level_said}
 use Rattle.c_words.specs.Said.{desc_said}
 use Rattle.c_words.specs.Written.{desc_written}
 
--- the word of a level is decoded: the one descriptor that it says is written, with 0 in each field that isn't named for it
+-- the word of a level is decoded: the one descriptor that it says is written, with 0 in each field
+-- that isn't named for it
 pub record Decodes (level : Level) (word : ℕ) (new : PlainWord) (status : ℤ) : Type 0 where
   pub desc : Desc
   pub said : IsSaid level word desc
@@ -17,7 +18,9 @@ pub record Decodes (level : Level) (word : ℕ) (new : PlainWord) (status : ℤ)
 
 -- or there is no such level, and nothing is written
 abbrev pub IsDecoded : ℕ → ℕ → PlainWord → PlainWord → ℤ → Type 0
-IsDecoded level word old new status = MatchOption (level_said level) ((status ≡ negsuc 0) × (new ≡ old)) (λ l. Decodes l word new status)
+IsDecoded level word old new status =
+    MatchOption (level_said level) ((status ≡ negsuc 0) × (new ≡ old))
+    (λ l. Decodes l word new status)
 
 -- a word of 64 bits is the one that says a descriptor
 pub record IsTheWord (level : Level) (desc : Desc) (word : ℕ) : Type 0 where
@@ -27,10 +30,12 @@ pub record IsTheWord (level : Level) (desc : Desc) (word : ℕ) : Type 0 where
 -- a descriptor is encoded as the one word that says it, or none does, and nothing is written
 abbrev pub Encodes : Level → Desc → ℕ → ℕ → ℤ → Type 0
 Encodes level desc old new status =
-    ((status ≡ pos 0) × IsTheWord level desc new) ⊎ ((status ≡ negsuc 3) × (new ≡ old) × ((w : ℕ) → w < 2 ^ 64 → Says level w desc → ⊥))
+    ((status ≡ pos 0) × IsTheWord level desc new)
+    ⊎ ((status ≡ negsuc 3) × (new ≡ old) × ((w : ℕ) → w < 2 ^ 64 → Says level w desc → ⊥))
 
 -- or there is no such level, or a number is unknown
 abbrev pub IsEncoded : ℕ → PlainWord → ℕ → ℕ → ℤ → Type 0
 IsEncoded level says old new status =
     MatchOption (level_said level) ((status ≡ negsuc 0) × (new ≡ old)) (λ l.
-    MatchOption (desc_said says) ((status ≡ negsuc 2) × (new ≡ old)) (λ desc. Encodes l desc old new status))
+    MatchOption (desc_said says) ((status ≡ negsuc 2) × (new ≡ old))
+    (λ desc. Encodes l desc old new status))

@@ -33,8 +33,11 @@ fn checked(
     pages: &[PlainPage<'_>],
     roots: &[PlainRoot],
 ) -> Result<Option<Finding>, Unchecked>
-    ensures checked { IfOk result (IsChecked layout.now layout.now.regions.now (lists_told kept.now) pages.now roots.now) }
-    ensures unchecked { IfErr result (IsUnchecked layout.now layout.now.regions.now (lists_told kept.now) pages.now roots.now) }
+    ensures checked { IfOk result
+        (IsChecked layout.now layout.now.regions.now (lists_told kept.now) pages.now roots.now) }
+    ensures unchecked { IfErr result
+        (IsUnchecked layout.now layout.now.regions.now
+        (lists_told kept.now) pages.now roots.now) }
 {
     match made(alloc, layout, kept) {
         Ok(state) => {
@@ -189,7 +192,9 @@ pub extern "C" fn pkvm_audit(
     text_len: &mut usize,
     refused: &mut PlainRefused,
 ) -> i32
-    ensures { IsAudited layout.now layout.now.regions.now (lists_told kept.now) pages.now roots.now text.old text.new text_len.new refused.new result }
+    ensures { IsAudited layout.now layout.now.regions.now
+        (lists_told kept.now) pages.now roots.now text.old text.new text_len.new refused.new
+        result }
 {
     *text_len = 0;
     *refused = NOTHING;

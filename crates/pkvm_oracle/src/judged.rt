@@ -220,7 +220,8 @@ pub extern "C" fn pkvm_judge(
     text_len: &mut usize,
     refused: &mut PlainRefused,
 ) -> i32
-    ensures { IsCallJudged layout.now before.now call.now after.now text.old text.new text_len.new refused.new result }
+    ensures { IsCallJudged layout.now before.now call.now after.now text.old text.new text_len.new
+        refused.new result }
 {
     *text_len = 0;
     *refused = NOTHING;
@@ -253,7 +254,8 @@ pub extern "C" fn pkvm_predict_reply(
     reply: &mut PlainReply,
     refused: &mut PlainRefused,
 ) -> i32
-    ensures { IsPredicted layout.now layout.now.regions.now (lists_told before.now) cpu step.now reply.old reply.new refused.new result }
+    ensures { IsPredicted layout.now layout.now.regions.now
+        (lists_told before.now) cpu step.now reply.old reply.new refused.new result }
 {
     *refused = NOTHING;
     match foretold(alloc, layout, before, cpu, *step) {

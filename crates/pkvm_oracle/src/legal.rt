@@ -43,7 +43,8 @@ fn trees_asked(flags: u64) -> Option<bool>
 fn illegal_by(alloc: Global, trees: bool, state: &GhostLists) -> Result<Option<Illegal>, AllocError>
     requires kept { IsKept state.now }
     requires blocks { TreesHaveFirstBlocks state.now }
-    ensures legal { IfOk result (λ o. (o ≡ None) ↔ IsLegalBy trees (layout_of state.now.layout) (contents_in state.now)) }
+    ensures legal { IfOk result
+        (λ o. (o ≡ None) ↔ IsLegalBy trees (layout_of state.now.layout) (contents_in state.now)) }
     ensures told { IfOk result (λ o. IfSome o (IsIllegalBy trees state.now)) }
 {
     if trees {
@@ -123,7 +124,8 @@ pub extern "C" fn pkvm_check(
     text_len: &mut usize,
     refused: &mut PlainRefused,
 ) -> i32
-    ensures { IsStateTested layout.now layout.now.regions.now (lists_told state.now) flags text.old text.new text_len.new refused.new result }
+    ensures { IsStateTested layout.now layout.now.regions.now
+        (lists_told state.now) flags text.old text.new text_len.new refused.new result }
 {
     *text_len = 0;
     *refused = NOTHING;

@@ -140,7 +140,8 @@ pub extern "C" fn pkvm_predict(
     sizes: &mut PlainSizes,
     refused: &mut PlainRefused,
 ) -> i32
-    ensures { IsCallPredicted layout.now before.now cpu step.now reply.old reply.new room.old room.new sizes.new refused.new result }
+    ensures { IsCallPredicted layout.now before.now cpu step.now reply.old reply.new room.old room.new
+        sizes.new refused.new result }
 {
     *refused = NOTHING;
     *sizes = NO_SIZES;

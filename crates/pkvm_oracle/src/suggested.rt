@@ -43,7 +43,8 @@ pub extern "C" fn pkvm_suggest(
     call: &mut PlainCall,
     refused: &mut PlainRefused,
 ) -> i32
-    ensures { IsCallSuggested layout.now layout.now.regions.now (lists_told state.now) random hostile call.old call.new refused.new result }
+    ensures { IsCallSuggested layout.now layout.now.regions.now
+        (lists_told state.now) random hostile call.old call.new refused.new result }
 {
     *refused = NOTHING;
     match suggested_call(alloc, layout, state, random, hostile) {

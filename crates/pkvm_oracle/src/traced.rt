@@ -38,7 +38,8 @@ pub extern "C" fn pkvm_trace_start(
     text_len: &mut usize,
     refused: &mut PlainRefused,
 ) -> i32
-    ensures { IsStartTraced layout.now layout.now.regions.now text.old text.new text_len.new refused.new result }
+    ensures { IsStartTraced layout.now layout.now.regions.now text.old text.new text_len.new refused.new
+        result }
 {
     *text_len = 0;
     *refused = NOTHING;

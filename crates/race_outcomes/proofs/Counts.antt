@@ -13,7 +13,9 @@ nones [] = 0
 nones (None ∷ ts) = suc (nones ts)
 nones (Some r ∷ ts) = nones ts
 
-nones_set : (ts : List (Option Reply)) (i : ℕ) (r : Reply) → slice_get ts i ≡ Some None → nones ts ≡ suc (nones (slice_set ts i (Some r)))
+nones_set : (ts : List (Option Reply)) (i : ℕ) (r : Reply)
+    → slice_get ts i ≡ Some None
+    → nones ts ≡ suc (nones (slice_set ts i (Some r)))
 nones_set [] i r e = absurd (cc)
 nones_set (None ∷ ts) zero r e = refl
 nones_set (Some x ∷ ts) zero r e = absurd (apart x e)
@@ -41,7 +43,11 @@ module _ (l : Layout) (turns : List Turn) where
       let rest = leads_count more h.0 q h.2 in
       omega (arith, one, to, rest)
 
-  pub order_count : (order : List ℕ) (p q : Point) (rs : List Reply) → p.told ≡ none_told turns → q.told ≡ map Some rs → Leads l turns p order q → length order ≡ length turns
+  pub order_count : (order : List ℕ) (p q : Point) (rs : List Reply)
+      → p.told ≡ none_told turns
+      → q.told ≡ map Some rs
+      → Leads l turns p order q
+      → length order ≡ length turns
   order_count order p q rs e f h =
       let n = leads_count order p q h in
       let a = ap nones e ∙ nones_first turns in
@@ -49,7 +55,9 @@ module _ (l : Layout) (turns : List Turn) where
       omega (arith, n, a, b)
 
   -- an order has no more steps than there are
-  pub order_few : (s : Reference) (order : List ℕ) (q : Point) → Leads l turns (first_point s turns) order q → length order ≤ length turns
+  pub order_few : (s : Reference) (order : List ℕ) (q : Point)
+      → Leads l turns (first_point s turns) order q
+      → length order ≤ length turns
   order_few s order q h =
       let n = leads_count order (first_point s turns) q h in
       let a = nones_first turns in

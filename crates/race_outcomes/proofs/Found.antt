@@ -23,7 +23,10 @@ use Rattle.race_outcomes.proofs.Members.{from_map, to_map}
 
 -- replies of all steps
 
-pub none_at : (rs : List Reply) (i : ℕ) → i < length (map {B = Option Reply} Some rs) → get_or (map {B = Option Reply} Some rs) i None ≡ None → ⊥
+pub none_at : (rs : List Reply) (i : ℕ)
+    → i < length (map {B = Option Reply} Some rs)
+    → get_or (map {B = Option Reply} Some rs) i None ≡ None
+    → ⊥
 none_at [] i less e = absurd (omega arith)
 none_at (r ∷ rs) zero less e = cc
 none_at (r ∷ rs) (suc i) less e = none_at rs i (omega arith) e
@@ -34,11 +37,15 @@ all_same [] (y ∷ b) e = absurd (cc)
 all_same (x ∷ a) [] e = absurd (cc)
 all_same (x ∷ a) (y ∷ b) e = let rest = all_same a b (heads e).1 in let first = (heads e).0 in cc
   where
-    heads : ◌≡◌ {A = List (Option Reply)} (Some x ∷ map Some a) (Some y ∷ map Some b) → (x ≡ y) × (map {B = Option Reply} Some a ≡ map Some b)
+    heads : ◌≡◌ {A = List (Option Reply)} (Some x ∷ map Some a) (Some y ∷ map Some b)
+        → (x ≡ y) × (map {B = Option Reply} Some a ≡ map Some b)
     heads e = (cc, cc)
 
 -- outcomes of nodes, of one node more
-pub outcomes_more : (m : Node) (before : List Node) (old new : List Outcome) → AreOutcomes before old → IsOutcomeAdded m old new → AreOutcomes (before ++ m ∷ []) new
+pub outcomes_more : (m : Node) (before : List Node) (old new : List Outcome)
+    → AreOutcomes before old
+    → IsOutcomeAdded m old new
+    → AreOutcomes (before ++ m ∷ []) new
 outcomes_more m before old new h a = by_case a.grows
   where
     Comes : List Node → Outcome → Type 0
@@ -60,92 +67,166 @@ outcomes_more m before old new h a = by_case a.grows
     at_end : Goes new m
     at_end = a.has
 
-    by_case : (new ≡ old) ⊎ ((o : Outcome) × (new ≡ old ++ o ∷ []) × IsToldBy m o × ¬ Contains (replies_of old) o.replies.items) → AreOutcomes (before ++ m ∷ []) new
+    by_case : (new ≡ old)
+        ⊎ ((o : Outcome) × (new ≡ old ++ o ∷ []) × IsToldBy m o × ¬ Contains (replies_of old) o.replies.items)
+        → AreOutcomes (before ++ m ∷ []) new
     by_case (inl e) = record {
-      sound = subst (All (Comes (before ++ m ∷ []))) (sym e) (All-weaker (Comes before) (Comes (before ++ m ∷ [])) still old h.sound);
-      complete = All-append (Goes new) before (m ∷ []) (subst (λ os. All (Goes os) before) (sym e) h.complete) (All-cons (Goes new) m [] at_end (All-nil (Goes new)));
+      sound =
+          subst (All (Comes (before ++ m ∷ []))) (sym e)
+          (All-weaker (Comes before) (Comes (before ++ m ∷ [])) still old h.sound);
+      complete =
+          All-append (Goes new) before (m ∷ []) (subst (λ os. All (Goes os) before) (sym e) h.complete)
+          (All-cons (Goes new) m [] at_end (All-nil (Goes new)));
       once = subst (AllPairs (λ (x y : Outcome). x.replies.items ≢ y.replies.items)) (sym e) h.once;
     }
     by_case (inr e) =
         let o = e.0 in
         record {
           sound = subst (All (Comes (before ++ m ∷ []))) (sym e.1)
-              (All-append (Comes (before ++ m ∷ [])) old (o ∷ []) (All-weaker (Comes before) (Comes (before ++ m ∷ [])) still old h.sound) (All-cons (Comes (before ++ m ∷ [])) o [] (m, here, e.2) (All-nil (Comes (before ++ m ∷ [])))));
-          complete = All-append (Goes new) before (m ∷ []) (All-weaker (Goes old) (Goes new) grown before h.complete) (All-cons (Goes new) m [] at_end (All-nil (Goes new)));
-          once = subst (AllPairs (λ (x y : Outcome). x.replies.items ≢ y.replies.items)) (sym e.1) (all_pairs_push (λ (x y : Outcome). x.replies.items ≢ y.replies.items) old o h.once apart);
+              (All-append (Comes (before ++ m ∷ [])) old (o ∷ [])
+              (All-weaker (Comes before) (Comes (before ++ m ∷ [])) still old h.sound)
+              (All-cons (Comes (before ++ m ∷ [])) o [] (m, here, e.2) (All-nil (Comes (before ++ m ∷ [])))));
+          complete =
+              All-append (Goes new) before (m ∷ []) (All-weaker (Goes old) (Goes new) grown before h.complete)
+              (All-cons (Goes new) m [] at_end (All-nil (Goes new)));
+          once =
+              subst (AllPairs (λ (x y : Outcome). x.replies.items ≢ y.replies.items)) (sym e.1)
+              (all_pairs_push (λ (x y : Outcome). x.replies.items ≢ y.replies.items) old o h.once apart);
         }
       where
         grown : (n : Node) → Goes old n → Goes new n
         grown n g rs t =
-            subst (λ os. Contains (replies_of os) rs) (sym e.1) (subst (λ ls. Contains ls rs) (sym (map-append (λ (x : Outcome). x.replies.items) old (e.0 ∷ []))) (Contains-append_left (replies_of old) (replies_of (e.0 ∷ [])) rs (g rs t)))
+            subst (λ os. Contains (replies_of os) rs) (sym e.1)
+            (subst (λ ls. Contains ls rs) (sym (map-append (λ (x : Outcome). x.replies.items) old (e.0 ∷ [])))
+            (Contains-append_left (replies_of old) (replies_of (e.0 ∷ [])) rs (g rs t)))
 
         apart : (k : ℕ) (d : Outcome) → k < length old → (get_or old k d).replies.items ≢ e.0.replies.items
-        apart k d less same = e.3 (subst (Contains (replies_of old)) same (to_map (λ (x : Outcome). x.replies.items) old (get_or old k d) (Contains-get_or old k d less)))
+        apart k d less same =
+            e.3
+            (subst (Contains (replies_of old)) same
+            (to_map (λ (x : Outcome). x.replies.items) old (get_or old k d) (Contains-get_or old k d less)))
 
 module _ (l : Layout) (s : Reference) (turns : List Turn) where
   -- all outcomes, from the last layer
-  pub all_outcomes : (wanted : List (Option (Vec ℕ Global))) (ns : List Node) (os : List Outcome) → IsLayer turns wanted l s (length turns) ns → AreOutcomes ns os → AllOutcomes l s turns wanted os
+  pub all_outcomes : (wanted : List (Option (Vec ℕ Global))) (ns : List Node) (os : List Outcome)
+      → IsLayer turns wanted l s (length turns) ns
+      → AreOutcomes ns os
+      → AllOutcomes l s turns wanted os
   all_outcomes wanted ns os h a = record {
     sound = All-weaker (λ o. (n : Node) × Contains ns n × IsToldBy n o) _ gives os a.sound;
     complete = λ rs out are.
-        let there = from_map point_of ns (record { state = out.1.end; told = map Some rs }) (h.complete out.0 (record { state = out.1.end; told = map Some rs }) (order_count l turns out.0 (first_point s turns) (record { state = out.1.end; told = map Some rs }) rs refl refl out.1.leads) out.1.leads are) in
-        All-contains (λ n. (rs : List Reply) → n.told.items ≡ map Some rs → Contains (replies_of os) rs) ns there.0 a.complete there.1 rs (ap (λ (p : Point). p.told) there.2);
+        let there =
+        from_map point_of ns (record { state = out.1.end; told = map Some rs })
+        (h.complete out.0 (record { state = out.1.end; told = map Some rs })
+        (order_count l turns out.0 (first_point s turns)
+        (record { state = out.1.end; told = map Some rs }) rs refl refl out.1.leads) out.1.leads are) in
+        All-contains
+        (λ n. (rs : List Reply) → n.told.items ≡ map Some rs → Contains (replies_of os) rs) ns there.0 a.complete
+        there.1 rs
+        (ap (λ (p : Point). p.told) there.2);
     once = a.once;
   }
     where
-      gives : (o : Outcome) → (n : Node) × Contains ns n × IsToldBy n o → Gives l s turns o.order.items o.replies.items × AreWanted wanted (map Some o.replies.items)
+      gives : (o : Outcome)
+          → (n : Node) × Contains ns n × IsToldBy n o
+          → Gives l s turns o.order.items o.replies.items × AreWanted wanted (map Some o.replies.items)
       gives o g =
           let n = g.0 in
-          let was : IsReached turns wanted l s (length turns) n = All-contains (IsReached turns wanted l s (length turns)) ns n h.sound g.1 in
-          let along : Leads l turns (first_point s turns) o.order.items (point_of n) = subst (λ os. Leads l turns (first_point s turns) os (point_of n)) (sym g.2.order) was.leads in (
+          let was : IsReached turns wanted l s (length turns) n =
+          All-contains (IsReached turns wanted l s (length turns)) ns n h.sound g.1 in
+          let along : Leads l turns (first_point s turns) o.order.items (point_of n) =
+          subst (λ os. Leads l turns (first_point s turns) os (point_of n)) (sym g.2.order) was.leads in (
             record {
               end = ghost_state n.state;
-              leads = subst (λ ts. Leads l turns (first_point s turns) o.order.items (record { state = ghost_state n.state; told = ts })) g.2.told along;
+              leads =
+                  subst
+                  (λ ts. Leads l turns (first_point s turns) o.order.items
+                  (record { state = ghost_state n.state; told = ts })) g.2.told along;
             },
             subst (AreWanted wanted) g.2.told was.are_wanted,
           )
 
   -- an order that gives wanted replies, from all outcomes
-  pub none_gives : (wanted : List (Option (Vec ℕ Global))) (os : List Outcome) → AllOutcomes l s turns wanted os → os ≡ [] → NoneWanted l s turns wanted
+  pub none_gives : (wanted : List (Option (Vec ℕ Global))) (os : List Outcome)
+      → AllOutcomes l s turns wanted os
+      → os ≡ []
+      → NoneWanted l s turns wanted
   none_gives wanted os h e order g =
       let there = h.complete g.0 (order, g.1) g.2 in
       let k : there.0 < length (replies_of os) = there.1 in
       let none : length (replies_of os) ≡ 0 = ap (λ (xs : List Outcome). length (replies_of xs)) e in
       omega arith
 
-  pub one_gives : (wanted : List (Option (Vec ℕ Global))) (os : List Outcome) (o : Outcome) (order : List ℕ) → AllOutcomes l s turns wanted os → Contains os o → order ≡ o.order.items → GivesWanted l s turns wanted order
+  pub one_gives : (wanted : List (Option (Vec ℕ Global))) (os : List Outcome) (o : Outcome) (order : List ℕ)
+      → AllOutcomes l s turns wanted os
+      → Contains os o
+      → order ≡ o.order.items
+      → GivesWanted l s turns wanted order
   one_gives wanted os o order h there e =
-      let g = All-contains (λ (x : Outcome). Gives l s turns x.order.items x.replies.items × AreWanted wanted (map Some x.replies.items)) os o h.sound there in
+      let g =
+      All-contains
+      (λ (x : Outcome). Gives l s turns x.order.items x.replies.items
+      × AreWanted wanted (map Some x.replies.items)) os o h.sound there in
       subst (GivesWanted l s turns wanted) (sym e) (o.replies.items, g.0, g.1)
 
 -- steps in order, with one more
-pub along_more : (l : Layout) (s : Reference) (turns : List Turn) (t : Turn) → told_along l s (turns ++ t ∷ []) ≡ ((told_along l s turns).0 ++ (told_to l (told_along l s turns).1 t).0 ∷ [], (told_to l (told_along l s turns).1 t).1)
+pub along_more : (l : Layout) (s : Reference) (turns : List Turn) (t : Turn)
+    → told_along l s (turns ++ t ∷ [])
+    ≡ (
+      (told_along l s turns).0 ++ (told_to l (told_along l s turns).1 t).0
+          ∷ [],
+      (told_to l (told_along l s turns).1 t).1,
+    )
 along_more l s [] t = refl
 along_more l s (x ∷ more) t =
     let r = told_to l s x in
     let rest = along_more l r.1 more t in
     ap (λ (p : List Reply × Reference). (r.0 ∷ p.0, p.1)) rest
 
-pub along_next : (l k : Layout) (s now after : Reference) (turns : List Turn) (i : ℕ) (d : Turn) (replies more : List Reply) (r : Reply) → i < length turns → k ≡ l → (replies, now) ≡ told_along l s (take i turns)
-    → more ≡ replies ++ r ∷ [] → (r, after) ≡ told_to k now (get_or turns i d) → (more, after) ≡ told_along l s (take (i + 1) turns)
+pub along_next : (l k : Layout) (s now after : Reference) (turns : List Turn) (i : ℕ) (d : Turn)
+    (replies more : List Reply) (r : Reply)
+    → i < length turns
+    → k ≡ l
+    → (replies, now) ≡ told_along l s (take i turns)
+    → more ≡ replies ++ r ∷ []
+    → (r, after) ≡ told_to k now (get_or turns i d)
+    → (more, after) ≡ told_along l s (take (i + 1) turns)
 along_next l k s now after turns i d replies more r less layout so grows step =
     let t = get_or turns i d in
     let here : (r, after) ≡ told_to l now t = subst (λ (m : Layout). (r, after) ≡ told_to m now t) layout step in
-    let all : told_along l s (take (i + 1) turns) ≡ told_along l s (take i turns ++ t ∷ []) = ap (told_along l s) (take_more turns i d less) in
-    ends replies now more r after (told_along l s (take i turns)) t so grows here ∙ sym (all ∙ along_more l s (take i turns) t)
+    let all : told_along l s (take (i + 1) turns) ≡ told_along l s (take i turns ++ t ∷ []) =
+    ap (told_along l s) (take_more turns i d less) in
+    ends replies now more r after (told_along l s (take i turns)) t so grows here
+    ∙ sym (all ∙ along_more l s (take i turns) t)
   where
-    ends : (replies : List Reply) (now : Reference) (more : List Reply) (r : Reply) (after : Reference) (a : List Reply × Reference) (t : Turn) → (replies, now) ≡ a → more ≡ replies ++ r ∷ [] → (r, after) ≡ told_to l now t
+    ends : (replies : List Reply) (now : Reference) (more : List Reply) (r : Reply) (after : Reference)
+        (a : List Reply × Reference) (t : Turn)
+        → (replies, now) ≡ a
+        → more ≡ replies ++ r ∷ []
+        → (r, after) ≡ told_to l now t
         → ◌≡◌ {A = List Reply × Reference} (more, after) (a.0 ++ (told_to l a.1 t).0 ∷ [], (told_to l a.1 t).1)
     ends replies now more r after a t so grows here =
-        subst (λ (b : List Reply × Reference). ◌≡◌ {A = List Reply × Reference} (more, after) (b.0 ++ (told_to l b.1 t).0 ∷ [], (told_to l b.1 t).1)) so
-        (subst (λ (f : Reply × Reference). ◌≡◌ {A = List Reply × Reference} (more, after) (replies ++ f.0 ∷ [], f.1)) here (ap (λ ms. (ms, after)) grows))
+        subst
+        (λ (b : List Reply × Reference). ◌≡◌ {A = List Reply × Reference} (more, after)
+        (b.0 ++ (told_to l b.1 t).0 ∷ [], (told_to l b.1 t).1)) so
+        (subst
+        (λ (f : Reply × Reference). ◌≡◌ {A = List Reply × Reference} (more, after) (replies ++ f.0 ∷ [], f.1)) here
+        (ap (λ ms. (ms, after)) grows))
 
 -- a fault of a step is one of the steps in order
-pub step_fault : (l : Layout) (s now : Reference) (turns : List Turn) (i : ℕ) (d : Turn) (replies : List Reply) (f : OutcomesFault) → i < length turns → (replies, now) ≡ told_along l s (take i turns) → IsTurnFault now (get_or turns i d) f
+pub step_fault : (l : Layout) (s now : Reference) (turns : List Turn) (i : ℕ) (d : Turn) (replies : List Reply)
+    (f : OutcomesFault)
+    → i < length turns
+    → (replies, now) ≡ told_along l s (take i turns)
+    → IsTurnFault now (get_or turns i d) f
     → IsStepFault l s turns f
 step_fault l s now turns i d replies (TooMany made) less so h = absurd h
-step_fault l s now turns i d replies Generation less so h =
-    (i, get_or turns i d, slice_get-get_or turns i d less, subst (λ (x : List Reply × Reference). IsLastGeneration x.1 (get_or turns i d)) so h)
+step_fault l s now turns i d replies Generation less so h = (
+  i,
+  get_or turns i d,
+  slice_get-get_or turns i d less,
+  subst (λ (x : List Reply × Reference). IsLastGeneration x.1 (get_or turns i d)) so h,
+)
 step_fault l s now turns i d replies NoMemory less so h = tt
 
 -- a fault that is passed on

@@ -30,11 +30,18 @@ module _ (l : Layout) (turns : List Turn) where
   leads_length (place ∷ more) p q h = leads_length more h.0 q h.2 ∙ makes_length p place h.0 h.1
 
   -- what is wanted after a step was wanted before it
-  pub makes_wanted : (wanted : List (Option (Vec ℕ Global))) (p : Point) (place : ℕ) (q : Point) → Makes l turns p place q → AreWanted wanted q.told → AreWanted wanted p.told
-  makes_wanted wanted p place q m h = wanted_before wanted p.told place _ m.next.unmade (subst (λ (x : Point). AreWanted wanted x.told) m.made h)
+  pub makes_wanted : (wanted : List (Option (Vec ℕ Global))) (p : Point) (place : ℕ) (q : Point)
+      → Makes l turns p place q
+      → AreWanted wanted q.told
+      → AreWanted wanted p.told
+  makes_wanted wanted p place q m h =
+      wanted_before wanted p.told place _ m.next.unmade (subst (λ (x : Point). AreWanted wanted x.told) m.made h)
 
   -- one step more
-  pub leads_more : (order : List ℕ) (p q : Point) (place : ℕ) (r : Point) → Leads l turns p order q → Makes l turns q place r → Leads l turns p (order ++ place ∷ []) r
+  pub leads_more : (order : List ℕ) (p q : Point) (place : ℕ) (r : Point)
+      → Leads l turns p order q
+      → Makes l turns q place r
+      → Leads l turns p (order ++ place ∷ []) r
   leads_more [] p q place r h m = (r, subst (λ (x : Point). Makes l turns x place r) h m, refl)
   leads_more (x ∷ more) p q place r h m = (h.0, h.1, leads_more more h.0 q place r h.2 m)
 
@@ -47,37 +54,73 @@ module _ (l : Layout) (turns : List Turn) where
     pub leads : Leads l turns p front between
     pub makes : Makes l turns between place r
 
-  pub leads_last : (n : ℕ) (order : List ℕ) (p r : Point) → length order ≡ suc n → Leads l turns p order r → IsLast n p order r
+  pub leads_last : (n : ℕ) (order : List ℕ) (p r : Point)
+      → length order ≡ suc n
+      → Leads l turns p order r
+      → IsLast n p order r
   leads_last n [] p r e h = absurd (omega arith)
-  leads_last zero (x ∷ []) p r e h = record { front = []; place = x; between = p; count = refl; leads = refl; makes = subst (λ (y : Point). Makes l turns p x y) (sym h.2) h.1 }
+  leads_last zero (x ∷ []) p r e h =
+      record {
+        front = [];
+        place = x;
+        between = p;
+        count = refl;
+        leads = refl;
+        makes = subst (λ (y : Point). Makes l turns p x y) (sym h.2) h.1;
+      }
   leads_last (suc n) (x ∷ []) p r e h = absurd (omega arith)
   leads_last zero (x ∷ y ∷ more) p r e h = absurd (omega arith)
   leads_last (suc n) (x ∷ y ∷ more) p r e h =
       let rest = leads_last n (y ∷ more) h.0 r (omega arith) h.2 in
-      record { front = x ∷ rest.front; place = rest.place; between = rest.between; count = ap suc rest.count; leads = (h.0, h.1, rest.leads); makes = rest.makes }
+      record {
+        front = x
+            ∷ rest.front;
+        place =
+            rest.place;
+        between =
+            rest.between;
+        count = ap suc rest.count;
+        leads = (h.0, h.1, rest.leads);
+        makes = rest.makes;
+      }
 
 pub none_length : (turns : List Turn) → length (none_told turns) ≡ length turns
 none_length [] = refl
 none_length (t ∷ ts) = ap suc (none_length ts)
 
 -- the step at a place, as code makes it
-module _ (l : Layout) (turns : List Turn) (p : Point) (place : ℕ) (d : Turn) (reply : Reply) (after : Reference) (told_is : (reply, after) ≡ told_to l p.state (get_or turns place d)) where
+module _ (l : Layout) (turns : List Turn) (p : Point) (place : ℕ) (d : Turn) (reply : Reply) (after : Reference)
+    (told_is : (reply, after) ≡ told_to l p.state (get_or turns place d)) where
   at_turn : (t : Turn) → slice_get turns place ≡ Some t → (reply, after) ≡ told_to l p.state t
-  at_turn t e = subst (λ (x : Turn). (reply, after) ≡ told_to l p.state x) (get_or_from_slice_get turns place t d e) told_is
+  at_turn t e =
+      subst (λ (x : Turn). (reply, after) ≡ told_to l p.state x) (get_or_from_slice_get turns place t d e) told_is
 
-  pub step_makes : (told : List (Option Reply)) → (turn : Turn) × IsNext turns p.told place turn → told ≡ slice_set p.told place (Some reply) → Makes l turns p place (record { state = after; told = told })
+  pub step_makes : (told : List (Option Reply))
+      → (turn : Turn) × IsNext turns p.told place turn
+      → told ≡ slice_set p.told place (Some reply)
+      → Makes l turns p place (record { state = after; told = told })
   step_makes told n e =
       let f : (reply, after) ≡ told_to l p.state n.0 = at_turn n.0 n.1.at in
       record { turn = n.0; next = n.1; made = same told reply after (told_to l p.state n.0) f e }
     where
-      same : (told : List (Option Reply)) (r : Reply) (s : Reference) (f : Reply × Reference) → (r, s) ≡ f → told ≡ slice_set p.told place (Some r)
-          → ◌≡◌ {A = Point} (record { state = s; told = told }) (record { state = f.1; told = slice_set p.told place (Some f.0) })
-      same told r s f e g i = record { state = (e i).1; told = (g ∙ ap (λ (x : Reply × Reference). slice_set p.told place (Some x.0)) e) i }
+      same : (told : List (Option Reply)) (r : Reply) (s : Reference) (f : Reply × Reference)
+          → (r, s) ≡ f
+          → told ≡ slice_set p.told place (Some r)
+          → ◌≡◌ {A = Point} (record { state = s; told = told })
+          (record { state = f.1; told = slice_set p.told place (Some f.0) })
+      same told r s f e g i =
+          record { state = (e i).1; told = (g ∙ ap (λ (x : Reply × Reference). slice_set p.told place (Some x.0)) e) i }
 
-  pub step_wanted : (wanted : List (Option (Vec ℕ Global))) (q : Point) (w : Option (Vec ℕ Global)) → place < length wanted → length wanted ≡ length turns → length p.told ≡ length turns → Makes l turns p place q → AreWanted wanted q.told
+  pub step_wanted : (wanted : List (Option (Vec ℕ Global))) (q : Point) (w : Option (Vec ℕ Global))
+      → place < length wanted
+      → length wanted ≡ length turns
+      → length p.told ≡ length turns
+      → Makes l turns p place q
+      → AreWanted wanted q.told
       → IsWanted (get_or wanted place w) (Some reply)
   step_wanted wanted q w less count told_count m are =
       let f : (reply, after) ≡ told_to l p.state m.turn = at_turn m.turn m.next.at in
-      let there : AreWanted wanted (slice_set p.told place (Some (told_to l p.state m.turn).0)) = subst (λ (x : Point). AreWanted wanted x.told) m.made are in
+      let there : AreWanted wanted (slice_set p.told place (Some (told_to l p.state m.turn).0)) =
+      subst (λ (x : Point). AreWanted wanted x.told) m.made are in
       wanted_at wanted p.told place w reply less (omega (arith, count, told_count))
       (subst (λ (x : Reply × Reference). AreWanted wanted (slice_set p.told place (Some x.0))) (sym f) there)

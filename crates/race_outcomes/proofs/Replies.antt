@@ -13,7 +13,9 @@ use Rattle.call_table.proofs.Equality.{replies_tell}
 pub told_tell : Tells (options.ghosts reply_type.the_row replies.ghosts replies.dict).eq
 told_tell = options_tell reply_type.the_row replies.ghosts replies.dict replies_tell
 
-pub told_same : (a b : List (Option Reply)) (r : Bool) → r ≡ pointwise (options.ghosts reply_type.the_row replies.ghosts replies.dict).eq a b → Decides r (a ≡ b)
+pub told_same : (a b : List (Option Reply)) (r : Bool)
+    → r ≡ pointwise (options.ghosts reply_type.the_row replies.ghosts replies.dict).eq a b
+    → Decides r (a ≡ b)
 told_same a b r e = slice_eq-Decides told_tell a b r e
 
 pub replies_same : (a b : List Reply) (r : Bool) → r ≡ pointwise replies.ghosts.eq a b → Decides r (a ≡ b)

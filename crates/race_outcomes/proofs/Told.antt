@@ -19,11 +19,15 @@ use Rattle.race_outcomes.specs.declared.node.Turn.{Turn}
 use Rattle.race_outcomes.specs.Laws.{IsPlain, is_want}
 use Rattle.race_outcomes.specs.Orders.{is_wanting, told_to, wanting}
 
-pub told_plain : (l : Layout) (s : Reference) (turn : Turn) → is_wanting turn (foretell l s turn.cpu turn.step).0 ≡ false → told_to l s turn ≡ foretell l s turn.cpu turn.step
+pub told_plain : (l : Layout) (s : Reference) (turn : Turn)
+    → is_wanting turn (foretell l s turn.cpu turn.step).0 ≡ false
+    → told_to l s turn ≡ foretell l s turn.cpu turn.step
 unfolding told_to
 told_plain l s turn e = let r = foretell l s turn.cpu turn.step in if-false (is_wanting turn r.0) (wanting s r) r e
 
-pub told_want : (l : Layout) (s : Reference) (turn : Turn) → is_wanting turn (foretell l s turn.cpu turn.step).0 ≡ true → told_to l s turn ≡ wanting s (foretell l s turn.cpu turn.step)
+pub told_want : (l : Layout) (s : Reference) (turn : Turn)
+    → is_wanting turn (foretell l s turn.cpu turn.step).0 ≡ true
+    → told_to l s turn ≡ wanting s (foretell l s turn.cpu turn.step)
 unfolding told_to
 told_want l s turn e = let r = foretell l s turn.cpu turn.step in if-true (is_wanting turn r.0) (wanting s r) r e
 
@@ -49,12 +53,20 @@ no_want b c = refl
 
 -- as code tells it
 module _ (l : Layout) (s : Reference) (turn : Turn) (reply : Reply) (after : Reference) where
-  pub told_made : pair reply after ≡ foretell l s turn.cpu turn.step → is_wanting turn reply ≡ false → pair reply after ≡ told_to l s turn
+  pub told_made : pair reply after ≡ foretell l s turn.cpu turn.step
+      → is_wanting turn reply ≡ false
+      → pair reply after ≡ told_to l s turn
   told_made f e = f ∙ sym (told_plain l s turn (ap (λ (p : Reply × Reference). is_wanting turn p.0) (sym f) ∙ e))
 
-  pub told_wanting : (left : Reference) → pair reply after ≡ foretell l s turn.cpu turn.step → is_wanting turn reply ≡ true → left.contents ≡ s.contents → left.rooms ≡ after.rooms → pair (Refused NoMemory) left ≡ told_to l s turn
+  pub told_wanting : (left : Reference)
+      → pair reply after ≡ foretell l s turn.cpu turn.step
+      → is_wanting turn reply ≡ true
+      → left.contents ≡ s.contents
+      → left.rooms ≡ after.rooms
+      → pair (Refused NoMemory) left ≡ told_to l s turn
   told_wanting left f e contents rooms =
-      same_pair (Refused NoMemory) (Refused NoMemory) left (state_with s.contents after.rooms) refl (same_state left.contents s.contents left.rooms after.rooms contents rooms)
+      same_pair (Refused NoMemory) (Refused NoMemory) left (state_with s.contents after.rooms) refl
+      (same_state left.contents s.contents left.rooms after.rooms contents rooms)
       ∙ ap (λ (p : Reply × Reference). wanting s p) f
       ∙ sym (told_want l s turn (ap (λ (p : Reply × Reference). is_wanting turn p.0) (sym f) ∙ e))
 
@@ -67,9 +79,15 @@ module _ (l : Layout) (s t : Reference) (c : Call) (wants : Bool) (h : Steps l s
   turn = record { cpu = c.cpu; step = c.step; wants = wants }
 
   abbrev answer_by : Option Refusal → Reply × Used
-  answer_by o = elim o [ Some why ↦ (Refused why, x) | None ↦ (Done (rule_of l c.cpu c.slot c.step x).changes.value, made l c.cpu c.slot c.step x) ]
+  answer_by o =
+      elim o [
+        | Some why ↦ (Refused why, x)
+        | None ↦ (Done (rule_of l c.cpu c.slot c.step x).changes.value, made l c.cpu c.slot c.step x)
+      ]
 
-  answer_is : (o : Option Refusal) → fails l c.cpu c.slot c.step x ≡ o → ◌≡◌ {A = Reply × Used} (answer l c.cpu c.slot c.step x) (answer_by o)
+  answer_is : (o : Option Refusal)
+      → fails l c.cpu c.slot c.step x ≡ o
+      → ◌≡◌ {A = Reply × Used} (answer l c.cpu c.slot c.step x) (answer_by o)
   unfolding answer
   answer_is o e = ap answer_by e
 
@@ -77,30 +95,54 @@ module _ (l : Layout) (s t : Reference) (c : Call) (wants : Bool) (h : Steps l s
   unfolding used_of
   slot_is = h.on.slot
 
-  foretold : is_full (names c.step) c.slot (rooms_by c s) ≡ false → (o : Option Refusal) → fails l c.cpu c.slot c.step x ≡ o
-      → ◌≡◌ {A = Reply × Reference} (foretell l s c.cpu c.step) (pair (answer_by o).0 (with_used c s (answer_by o).1 (stored (rooms_by c s))))
-  foretold room o e = let a = answer_by o in foretold-answer l s c.cpu c.step c.slot slot_is a.0 a.1 room (answer_is o e)
+  foretold : is_full (names c.step) c.slot (rooms_by c s) ≡ false
+      → (o : Option Refusal)
+      → fails l c.cpu c.slot c.step x ≡ o
+      → ◌≡◌ {A = Reply × Reference} (foretell l s c.cpu c.step)
+      (pair (answer_by o).0 (with_used c s (answer_by o).1 (stored (rooms_by c s))))
+  foretold room o e = let a = answer_by o in
+      foretold-answer l s c.cpu c.step c.slot slot_is a.0 a.1 room (answer_is o e)
 
   -- where memory isn't wanted
-  answered : is_full (names c.step) c.slot (rooms_by c s) ≡ false → (o : Option Refusal) → fails l c.cpu c.slot c.step x ≡ o → h.left ≡ stored (rooms_by c s) → c.reply ≡ (answer_by o).0 → h.after ≡ (answer_by o).1
+  answered : is_full (names c.step) c.slot (rooms_by c s) ≡ false
+      → (o : Option Refusal)
+      → fails l c.cpu c.slot c.step x ≡ o
+      → h.left ≡ stored (rooms_by c s)
+      → c.reply ≡ (answer_by o).0
+      → h.after ≡ (answer_by o).1
       → is_wanting turn (answer_by o).0 ≡ false → told_to l s turn ≡ pair c.reply t
   answered room o e rooms r n plain =
       let a = answer_by o in
       let f = foretold room o e in
       told_plain l s turn (ap (λ (p : Reply × Reference). is_wanting turn p.0) f ∙ plain)
-      ∙ f ∙ sym (same_pair c.reply a.0 t (with_used c s a.1 (stored (rooms_by c s))) r (h.next ∙ ap (λ (y : Used). with_used c s y h.left) n ∙ ap (λ (q : UsedRooms). with_used c s a.1 q) rooms))
+      ∙ f
+      ∙ sym
+      (same_pair c.reply a.0 t (with_used c s a.1 (stored (rooms_by c s))) r
+      (h.next ∙ ap (λ (y : Used). with_used c s y h.left) n
+      ∙ ap (λ (q : UsedRooms). with_used c s a.1 q) rooms))
 
   -- where it is
-  wanted : is_full (names c.step) c.slot (rooms_by c s) ≡ false → fails l c.cpu c.slot c.step x ≡ None → h.left ≡ stored (rooms_by c s) → c.reply ≡ Refused NoMemory → may_grow c.step ≡ true → wants ≡ true
+  wanted : is_full (names c.step) c.slot (rooms_by c s) ≡ false
+      → fails l c.cpu c.slot c.step x ≡ None
+      → h.left ≡ stored (rooms_by c s)
+      → c.reply ≡ Refused NoMemory
+      → may_grow c.step ≡ true
+      → wants ≡ true
       → told_to l s turn ≡ pair c.reply t
   wanted room e rooms r grows w =
       let f = foretold room None e in
-      let so : is_wanting turn (foretell l s c.cpu c.step).0 ≡ true = ap (λ (p : Reply × Reference). is_wanting turn p.0) f ∙ rw (w, grows) refl in
+      let so : is_wanting turn (foretell l s c.cpu c.step).0 ≡ true =
+      ap (λ (p : Reply × Reference). is_wanting turn p.0) f ∙ rw (w, grows) refl in
       let keeps : t.contents ≡ s.contents = refusal_keeps l s t c NoMemory h r in
-      let left : t.rooms ≡ put_rooms (names c.step) c.slot c.cpu s.rooms (stored (rooms_by c s)) = ap (λ (u : Reference). u.rooms) h.next ∙ ap (put_rooms (names c.step) c.slot c.cpu s.rooms) rooms in
+      let left : t.rooms ≡ put_rooms (names c.step) c.slot c.cpu s.rooms (stored (rooms_by c s)) =
+      ap (λ (u : Reference). u.rooms) h.next ∙ ap (put_rooms (names c.step) c.slot c.cpu s.rooms) rooms in
       told_want l s turn so
       ∙ ap (λ (p : Reply × Reference). wanting s p) f
-      ∙ sym (same_pair c.reply (Refused NoMemory) t (state_with s.contents (put_rooms (names c.step) c.slot c.cpu s.rooms (stored (rooms_by c s)))) r (same_state t.contents s.contents t.rooms (put_rooms (names c.step) c.slot c.cpu s.rooms (stored (rooms_by c s))) keeps left))
+      ∙ sym
+      (same_pair c.reply (Refused NoMemory) t
+      (state_with s.contents (put_rooms (names c.step) c.slot c.cpu s.rooms (stored (rooms_by c s)))) r
+      (same_state t.contents s.contents t.rooms
+      (put_rooms (names c.step) c.slot c.cpu s.rooms (stored (rooms_by c s))) keeps left))
 
   pub call_told : wants ≡ is_want c.reply → IsPlain c.reply → told_to l s turn ≡ pair c.reply t
   call_told theirs plain = elim h.on.answers [
@@ -108,12 +150,16 @@ module _ (l : Layout) (s t : Reference) (c : Call) (wants : Bool) (h : Steps l s
     | inr p ↦ by_answer p p.answered
   ]
     where
-      by_answer : IsStoredAnswer l c x (rooms_by c s) h.after h.left → Answered l c.cpu c.slot c.step true x c.reply h.after → told_to l s turn ≡ pair c.reply t
+      by_answer : IsStoredAnswer l c x (rooms_by c s) h.after h.left
+          → Answered l c.cpu c.slot c.step true x c.reply h.after
+          → told_to l s turn ≡ pair c.reply t
       by_answer p (inl m) =
           let v = Done (rule_of l c.cpu c.slot c.step x).changes.value in
           let plain : wants ≡ false = theirs ∙ ap is_want m.reply_is in
-          answered p.room None m.passes p.rooms m.reply_is m.next (ap (λ (b : Bool). b && may_grow c.step && is_done v) plain ∙ no_want (may_grow c.step) (is_done v))
-      by_answer p (inr (inl m)) = answered p.room (Some m.why) m.fail p.rooms m.reply_is m.next (no_and wants (may_grow c.step))
+          answered p.room None m.passes p.rooms m.reply_is m.next
+          (ap (λ (b : Bool). b && may_grow c.step && is_done v) plain ∙ no_want (may_grow c.step) (is_done v))
+      by_answer p (inr (inl m)) =
+          answered p.room (Some m.why) m.fail p.rooms m.reply_is m.next (no_and wants (may_grow c.step))
       by_answer p (inr (inr m)) = wanted p.room m.passes p.rooms m.reply_is m.grows (theirs ∙ ap is_want m.reply_is)
 
 -- and what a step is told, some call of the model is told
@@ -132,13 +178,25 @@ module _ (l : Layout) (s : Reference) (turn : Turn) where
   as_foretold : told_to l s turn ≡ r → IsTold l s turn
   as_foretold e =
       let one = step_exists l s turn.cpu turn.step in
-      record { call = one.0; cpu = one.1; step = one.2; reply = one.3 ∙ ap (λ (p : Reply × Reference). p.0) (sym e); steps = subst (λ (p : Reply × Reference). Steps l s one.0 p.1) (sym e) one.4 }
+      record {
+        call = one.0;
+        cpu = one.1;
+        step = one.2;
+        reply = one.3
+            ∙ ap (λ (p : Reply × Reference). p.0) (sym e);
+        steps =
+            subst (λ (p : Reply × Reference). Steps l s one.0 p.1) (sym e) one.4;
+      }
 
   done_not_refused : (v : Reply) (why : Refusal) → is_done v ≡ true → v ≡ Refused why → ⊥
   done_not_refused v why d e = let no : is_done (Refused why) ≡ true = subst (λ (x : Reply). is_done x ≡ true) e d in cc
 
   -- the call that wants memory, in place of the one that is made
-  wanting_call : (c : Call) (t : Reference) → Steps l s c t → is_done c.reply ≡ true → may_grow c.step ≡ true → Steps l s (record c { reply = Refused NoMemory }) (state_with s.contents t.rooms)
+  wanting_call : (c : Call) (t : Reference)
+      → Steps l s c t
+      → is_done c.reply ≡ true
+      → may_grow c.step ≡ true
+      → Steps l s (record c { reply = Refused NoMemory }) (state_with s.contents t.rooms)
   wanting_call c t h done grows = elim h.on.answers [
     | inl p ↦ absurd (let e = p.reply in done_not_refused c.reply _ done e)
     | inr p ↦ by_answer p p.answered
@@ -147,7 +205,9 @@ module _ (l : Layout) (s : Reference) (turn : Turn) where
       d : Call
       d = record c { reply = Refused NoMemory }
 
-      by_answer : IsStoredAnswer l c (used_by c s) (rooms_by c s) h.after h.left → Answered l c.cpu c.slot c.step true (used_by c s) c.reply h.after → Steps l s d (state_with s.contents t.rooms)
+      by_answer : IsStoredAnswer l c (used_by c s) (rooms_by c s) h.after h.left
+          → Answered l c.cpu c.slot c.step true (used_by c s) c.reply h.after
+          → Steps l s d (state_with s.contents t.rooms)
       by_answer p (inr (inl m)) = absurd (done_not_refused c.reply m.why done m.reply_is)
       by_answer p (inr (inr m)) = absurd (done_not_refused c.reply NoMemory done m.reply_is)
       by_answer p (inl m) =
@@ -156,11 +216,32 @@ module _ (l : Layout) (s : Reference) (turn : Turn) where
           let steps : Steps l s d u = record {
             after = used_by c s;
             left = q;
-            on = record { slot = h.on.slot; number = h.on.number; answers = inr (record { room = p.room; answered = inr (inr (record { passes = m.passes; grows = grows; wanted = refl; reply_is = refl; next = refl })); rooms = refl }) };
+            on =
+                record {
+                  slot = h.on.slot;
+                  number = h.on.number;
+                  answers =
+                      inr
+                      (record {
+                        room = p.room;
+                        answered =
+                            inr
+                            (inr
+                            (record {
+                              passes = m.passes;
+                              grows = grows;
+                              wanted = refl;
+                              reply_is = refl;
+                              next = refl;
+                            }));
+                        rooms = refl;
+                      });
+                };
             next = refl;
           } in
           let keeps : u.contents ≡ s.contents = refusal_keeps l s u d NoMemory steps refl in
-          let left : t.rooms ≡ u.rooms = ap (λ (v : Reference). v.rooms) h.next ∙ ap (put_rooms (names c.step) c.slot c.cpu s.rooms) p.rooms in
+          let left : t.rooms ≡ u.rooms =
+          ap (λ (v : Reference). v.rooms) h.next ∙ ap (put_rooms (names c.step) c.slot c.cpu s.rooms) p.rooms in
           subst (Steps l s d) (same_state u.contents s.contents u.rooms t.rooms keeps (sym left)) steps
 
   as_wanting : is_wanting turn r.0 ≡ true → IsTold l s turn
@@ -175,7 +256,8 @@ module _ (l : Layout) (s : Reference) (turn : Turn) where
         cpu = one.1;
         step = one.2;
         reply = sym (ap (λ (p : Reply × Reference). p.0) e);
-        steps = subst (λ (p : Reply × Reference). Steps l s (record one.0 { reply = Refused NoMemory }) p.1) (sym e) steps;
+        steps =
+            subst (λ (p : Reply × Reference). Steps l s (record one.0 { reply = Refused NoMemory }) p.1) (sym e) steps;
       }
 
   pub turn_exists : IsTold l s turn

@@ -25,13 +25,15 @@ abbrev pub AreOfLayout : Layout → List GhostLists → Type 0
 AreOfLayout l gs = All (λ g. layout_of g.layout ≡ l) gs
 
 -- from a state the step leads to another of the layout, with this reply
-pub record LeadsTo (l : Layout) (s : Reference) (turn : Turn) (reply : Reply) (g : GhostLists) : Type 0 where
+pub record LeadsTo (l : Layout) (s : Reference) (turn : Turn) (reply : Reply)
+    (g : GhostLists) : Type 0 where
   pub told : (reply, ghost_state g) ≡ told_to l s turn
   pub layout : layout_of g.layout ≡ l
 
 -- so does the step at the place of one that was made
 abbrev pub IsMadeFrom : Layout → Reference → List Turn → Made → Type 0
-IsMadeFrom l s turns m = (turn : Turn) → slice_get turns m.place ≡ Some turn → LeadsTo l s turn m.reply m.state
+IsMadeFrom l s turns m =
+    (turn : Turn) → slice_get turns m.place ≡ Some turn → LeadsTo l s turn m.reply m.state
 
 -- a state of the layout, and steps that were made from it
 pub record IsKnown (l : Layout) (turns : List Turn) (k : Known) : Type 0 where
@@ -43,7 +45,8 @@ abbrev pub StayKnown : Layout → List Known → List Known → Type 0
 StayKnown l old new = (turns : List Turn) → All (IsKnown l turns) old → All (IsKnown l turns) new
 
 -- known states and those after them are of the layout
-pub record AreKnown (l : Layout) (turns : List Turn) (ks : List Known) (after : States) : Type 0 where
+pub record AreKnown (l : Layout) (turns : List Turn) (ks : List Known)
+    (after : States) : Type 0 where
   pub known : All (IsKnown l turns) ks
   pub layouts : AreOfLayout l after.states.items
 

@@ -21,11 +21,16 @@ is_of cpu None = false
 -- the places of a CPU's steps, where the first step has this place
 abbrev pub places_of : ℕ → ℕ → List Turn → List ℕ
 places_of cpu first [] = []
-places_of cpu first (t ∷ more) = if t.cpu == cpu then first ∷ places_of cpu (first + 1) more else places_of cpu (first + 1) more
+places_of cpu first (t ∷ more) =
+    if t.cpu == cpu then first ∷ places_of cpu (first + 1) more else places_of cpu (first + 1) more
 
 -- An order has the steps of each CPU, each once, in the list's order
 abbrev pub OrdersKeep : Type 0
-OrdersKeep = (l : Layout) (s : Reference) (turns : List Turn) (order : List ℕ) (replies : List Reply) → Gives l s turns order replies → (cpu : ℕ) → filter (λ i. is_of cpu (slice_get turns i)) order ≡ places_of cpu 0 turns
+OrdersKeep =
+    (l : Layout) (s : Reference) (turns : List Turn) (order : List ℕ) (replies : List Reply)
+    → Gives l s turns order replies
+    → (cpu : ℕ)
+    → filter (λ i. is_of cpu (slice_get turns i)) order ≡ places_of cpu 0 turns
 
 -- a reply that isn't of a full log, nor of a part that was taken
 abbrev pub IsPlain : Reply → Type 0
@@ -48,17 +53,28 @@ AreTheirs (t ∷ more) (r ∷ rs) = (t.wants ≡ is_want r) × IsPlain r × AreT
 abbrev pub answers_of : ℕ → List Turn → List Reply → List (Step × Reply)
 answers_of cpu [] replies = []
 answers_of cpu (t ∷ more) [] = []
-answers_of cpu (t ∷ more) (r ∷ rs) = if t.cpu == cpu then (t.step, r) ∷ answers_of cpu more rs else answers_of cpu more rs
+answers_of cpu (t ∷ more) (r ∷ rs) =
+    if t.cpu == cpu then (t.step, r) ∷ answers_of cpu more rs else answers_of cpu more rs
 
 -- calls are these steps with these replies: those of each CPU are its own, in the list's order
 pub record AreCalls (turns : List Turn) (replies : List Reply) (log : List Call) : Type 0 where
   pub count : length replies ≡ length turns
-  pub each : (cpu : ℕ) → map (λ c. (c.step, c.reply)) (calls_by cpu log) ≡ answers_of cpu turns replies
+  pub each : (cpu : ℕ)
+      → map (λ c. (c.step, c.reply)) (calls_by cpu log) ≡ answers_of cpu turns replies
 
--- If a list of calls is a run of the model, the replies of its steps are an outcome, unless one is of a full log or of a part that was taken
+-- If a list of calls is a run of the model, the replies of its steps are an outcome, unless one is
+-- of a full log or of a part that was taken
 abbrev pub RunsAreOutcomes : Type 0
-RunsAreOutcomes = (l : Layout) (s t : Reference) (turns : List Turn) (replies : List Reply) (log : List Call) → Runs (Steps l) s log t → AreCalls turns replies log → AreTheirs turns replies → IsOutcome l s turns replies
+RunsAreOutcomes =
+    (l : Layout) (s t : Reference) (turns : List Turn) (replies : List Reply) (log : List Call)
+    → Runs (Steps l) s log t
+    → AreCalls turns replies log
+    → AreTheirs turns replies
+    → IsOutcome l s turns replies
 
 -- And an outcome is that of a run of the model, whose calls are the steps with these replies
 abbrev pub OutcomesAreRuns : Type 0
-OutcomesAreRuns = (l : Layout) (s : Reference) (turns : List Turn) (replies : List Reply) → IsOutcome l s turns replies → (log : List Call) × (t : Reference) × Runs (Steps l) s log t × AreCalls turns replies log
+OutcomesAreRuns =
+    (l : Layout) (s : Reference) (turns : List Turn) (replies : List Reply)
+    → IsOutcome l s turns replies
+    → (log : List Call) × (t : Reference) × Runs (Steps l) s log t × AreCalls turns replies log

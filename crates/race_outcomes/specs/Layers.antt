@@ -55,7 +55,11 @@ AreApart m n = layout_of m.state.layout ≡ layout_of n.state.layout → point_o
 
 -- nodes are of one layout
 abbrev pub HaveOneLayout : List Node → Type 0
-HaveOneLayout ns = (m n : Node) → Contains ns m → Contains ns n → layout_of m.state.layout ≡ layout_of n.state.layout
+HaveOneLayout ns =
+    (m n : Node)
+    → Contains ns m
+    → Contains ns n
+    → layout_of m.state.layout ≡ layout_of n.state.layout
 
 -- a node is at another point than each of these
 abbrev pub IsApartFrom : List Node → Node → Type 0
@@ -63,7 +67,10 @@ IsApartFrom ns n = All (λ m. AreApart m n) ns
 
 -- each node has its place among those of the key of its replies
 abbrev pub HavePlaces : List Node → List (List ℕ) → Type 0
-HavePlaces ns places = (i : ℕ) (n : Node) → slice_get ns i ≡ Some n → Contains (get_or places (key_of n.told.items) []) i
+HavePlaces ns places =
+    (i : ℕ) (n : Node)
+    → slice_get ns i ≡ Some n
+    → Contains (get_or places (key_of n.told.items) []) i
 
 -- the places of each key
 abbrev pub places_in : Layer → List (List ℕ)
@@ -77,9 +84,11 @@ pub record IsIndexed (x : Layer) : Type 0 where
 
 -- a node is added, or its point is there
 abbrev pub IsAdded : List Node → Node → List Node → Type 0
-IsAdded old node new = (new ≡ old ++ node ∷ []) ⊎ ((new ≡ old) × Contains (points_of old) (point_of node))
+IsAdded old node new =
+    (new ≡ old ++ node ∷ []) ⊎ ((new ≡ old) × Contains (points_of old) (point_of node))
 
--- why a node isn't added: there are as many as may be, and it is at another point than each; or memory
+-- why a node isn't added: there are as many as may be, and it is at another point than each; or
+-- memory
 pub record IsOver (limit : ℕ) (old : List Node) (node : Node) (made : ℕ) : Type 0 where
   pub full : limit ≤ length old
   pub apart : IsApartFrom old node
@@ -92,7 +101,10 @@ IsAddFault limit old node NoMemory = Unit {0}
 
 -- at a place the step comes next, and releases a VM whose generation is the greatest u64
 abbrev pub EndsAt : List Turn → Node → ℕ → Type 0
-EndsAt turns m place = (turn : Turn) × IsNext turns m.told.items place turn × IsLastGeneration (ghost_state m.state) turn
+EndsAt turns m place =
+    (turn : Turn)
+    × IsNext turns m.told.items place turn
+    × IsLastGeneration (ghost_state m.state) turn
 
 abbrev pub IsPlaceFault : List Turn → Node → ℕ → OutcomesFault → Type 0
 IsPlaceFault turns m place (TooMany made) = ⊥
@@ -100,7 +112,8 @@ IsPlaceFault turns m place Generation = EndsAt turns m place
 IsPlaceFault turns m place NoMemory = Unit {0}
 
 module _ (turns : List Turn) (wanted : List (Option (Vec ℕ Global))) where
-  -- a node has a reply for each step, or none yet, and for each something or nothing is wanted; each step is of one of the layout's CPUs; and the replies are wanted
+  -- a node has a reply for each step, or none yet, and for each something or nothing is wanted;
+  -- each step is of one of the layout's CPUs; and the replies are wanted
   pub record IsReady (n : Node) : Type 0 where
     pub count : length n.told.items ≡ length turns
     pub wanted_count : length wanted ≡ length turns
@@ -119,7 +132,11 @@ module _ (turns : List Turn) (wanted : List (Option (Vec ℕ Global))) where
 
   -- the point where the step at a place leads from a node is there, if its replies are wanted
   abbrev pub HasStep : Node → List Node → ℕ → Type 0
-  HasStep m new place = (q : Point) → Makes (layout_of m.state.layout) turns (point_of m) place q → AreWanted wanted q.told → Contains (points_of new) q
+  HasStep m new place =
+      (q : Point)
+      → Makes (layout_of m.state.layout) turns (point_of m) place q
+      → AreWanted wanted q.told
+      → Contains (points_of new) q
 
   -- some nodes are added where steps lead from one node
   abbrev pub IsSpread : Node → List Node → List Node → Type 0
@@ -139,7 +156,8 @@ module _ (turns : List Turn) (wanted : List (Option (Vec ℕ Global))) where
   IsSpreadFault limit m old Generation = (place : ℕ) × EndsAt turns m place
   IsSpreadFault limit m old NoMemory = Unit {0}
 
-  -- why the nodes one step further aren't given: they are more than the limit, all at different points
+  -- why the nodes one step further aren't given: they are more than the limit, all at different
+  -- points
   pub record AreOver (limit : ℕ) (old : List Node) (made : ℕ) : Type 0 where
     pub new : List Node
     pub more : limit < length new
@@ -151,7 +169,8 @@ module _ (turns : List Turn) (wanted : List (Option (Vec ℕ Global))) where
 
   abbrev pub IsLayerFault : ℕ → List Node → OutcomesFault → Type 0
   IsLayerFault limit old (TooMany made) = AreOver limit old made
-  IsLayerFault limit old Generation = (m : Node) × (place : ℕ) × Contains old m × EndsAt turns m place
+  IsLayerFault limit old Generation =
+      (m : Node) × (place : ℕ) × Contains old m × EndsAt turns m place
   IsLayerFault limit old NoMemory = Unit {0}
 
   -- the nodes one step further
@@ -170,7 +189,11 @@ module _ (turns : List Turn) (wanted : List (Option (Vec ℕ Global))) where
     -- the nodes where orders of so many steps lead, of all whose replies are wanted
     pub record IsLayer (count : ℕ) (ns : List Node) : Type 0 where
       pub sound : All (IsReached count) ns
-      pub complete : (order : List ℕ) (p : Point) → length order ≡ count → Leads l turns (first_point s turns) order p → AreWanted wanted p.told → Contains (points_of ns) p
+      pub complete : (order : List ℕ) (p : Point)
+          → length order ≡ count
+          → Leads l turns (first_point s turns) order p
+          → AreWanted wanted p.told
+          → Contains (points_of ns) p
 
 -- an outcome has the replies of a node, with its order
 pub record IsToldBy (n : Node) (o : Outcome) : Type 0 where
@@ -182,13 +205,22 @@ replies_of os = map (λ o. o.replies.items) os
 
 -- the outcome of a node is added, unless its replies are there, or it hasn't all
 pub record IsOutcomeAdded (n : Node) (old new : List Outcome) : Type 0 where
-  pub grows : (new ≡ old) ⊎ ((o : Outcome) × (new ≡ old ++ o ∷ []) × IsToldBy n o × ¬ Contains (replies_of old) o.replies.items)
-  pub has : (replies : List Reply) → n.told.items ≡ map Some replies → Contains (replies_of new) replies
+  pub grows : (new ≡ old)
+      ⊎ ((o : Outcome)
+      × (new ≡ old ++ o ∷ [])
+      × IsToldBy n o
+      × ¬ Contains (replies_of old) o.replies.items)
+  pub has : (replies : List Reply)
+      → n.told.items ≡ map Some replies
+      → Contains (replies_of new) replies
 
 -- the outcomes of nodes, each once
 pub record AreOutcomes (ns : List Node) (os : List Outcome) : Type 0 where
   pub sound : All (λ o. (n : Node) × Contains ns n × IsToldBy n o) os
-  pub complete : All (λ n. (replies : List Reply) → n.told.items ≡ map Some replies → Contains (replies_of os) replies) ns
+  pub complete : All
+      (λ n. (replies : List Reply)
+      → n.told.items ≡ map Some replies
+      → Contains (replies_of os) replies) ns
   pub once : AllPairs (λ a b. a.replies.items ≢ b.replies.items) os
 
 -- the first layer, whatever is wanted

@@ -1,4 +1,5 @@
--- The orders in which steps of CPUs can be made one after another, and what the model replies along each (profile).
+-- The orders in which steps of CPUs can be made one after another, and what the model replies along
+-- each (profile).
 use Rattle.std.specs.Prelude.{◌≡◌, ◌≢◌, ℕ, ◌<◌, List, [], ◌∷◌, All, AllPairs, Contains, length, map, take, Bool, ◌&&◌, Option, Some, None, Vec, slice_get, slice_set, if◌then◌else◌}
 use Rattle.std.specs.Global.{Global}
 use Rattle.page_state.specs.Layouts.{Layout}
@@ -20,15 +21,18 @@ use Rattle.race_outcomes.specs.declared.node.Turn.{Turn}
 abbrev pub is_wanting : Turn → Reply → Bool
 is_wanting turn reply = turn.wants && may_grow turn.step && is_done reply
 
--- its reply is `nomemory`, and nothing but the logs changes; `told` is the model's reply if there is memory
+-- its reply is `nomemory`, and nothing but the logs changes; `told` is the model's reply if there
+-- is memory
 abbrev pub wanting : Reference → Reply × Reference → Reply × Reference
 wanting s told = (Refused WantsMemory, record { contents = s.contents; rooms = told.1.rooms })
 
 -- the model's reply to a step, and the state after it
 unfoldable pub told_to : Layout → Reference → Turn → Reply × Reference
-told_to l s turn = let told = foretell l s turn.cpu turn.step in if is_wanting turn told.0 then wanting s told else told
+told_to l s turn = let told = foretell l s turn.cpu turn.step in
+    if is_wanting turn told.0 then wanting s told else told
 
--- how far an order has come: the model's state, and the reply of each step that is made, by its place in the list of all steps
+-- how far an order has come: the model's state, and the reply of each step that is made, by its
+-- place in the list of all steps
 pub record Point : Type 0 where
   pub state : Reference
   pub told : List (Option Reply)
@@ -40,11 +44,17 @@ none_told turns = map (λ t. None) turns
 abbrev pub first_point : Reference → List Turn → Point
 first_point s turns = record { state = s; told = none_told turns }
 
--- the step at a place can come next: it isn't made, and each step of its CPU that is before it in the list is
-pub record IsNext (turns : List Turn) (told : List (Option Reply)) (place : ℕ) (turn : Turn) : Type 0 where
+-- the step at a place can come next: it isn't made, and each step of its CPU that is before it in
+-- the list is
+pub record IsNext (turns : List Turn) (told : List (Option Reply)) (place : ℕ)
+    (turn : Turn) : Type 0 where
   pub at : slice_get turns place ≡ Some turn
   pub unmade : slice_get told place ≡ Some None
-  pub before : (j : ℕ) (t : Turn) → j < place → slice_get turns j ≡ Some t → t.cpu ≡ turn.cpu → slice_get told j ≢ Some None
+  pub before : (j : ℕ) (t : Turn)
+      → j < place
+      → slice_get turns j ≡ Some t
+      → t.cpu ≡ turn.cpu
+      → slice_get told j ≢ Some None
 
 -- where the model makes it
 abbrev pub point_after : Layout → Point → ℕ → Turn → Point
@@ -61,12 +71,16 @@ pub record Makes (l : Layout) (turns : List Turn) (p : Point) (place : ℕ) (q :
 -- the steps at these places, one after another, lead from one point to another
 abbrev pub Leads : Layout → List Turn → Point → List ℕ → Point → Type 0
 Leads l turns p [] q = q ≡ p
-Leads l turns p (place ∷ more) q = (between : Point) × Makes l turns p place between × Leads l turns between more q
+Leads l turns p (place ∷ more) q =
+    (between : Point) × Makes l turns p place between × Leads l turns between more q
 
--- an order of all steps, by their places, gives each step this reply: it leads from the state to where each is made
-pub record Gives (l : Layout) (s : Reference) (turns : List Turn) (order : List ℕ) (replies : List Reply) : Type 0 where
+-- an order of all steps, by their places, gives each step this reply: it leads from the state to
+-- where each is made
+pub record Gives (l : Layout) (s : Reference) (turns : List Turn) (order : List ℕ)
+    (replies : List Reply) : Type 0 where
   pub end : Reference
-  pub leads : Leads l turns (first_point s turns) order (record { state = end; told = map Some replies })
+  pub leads : Leads l turns (first_point s turns) order
+      (record { state = end; told = map Some replies })
 
 -- some order gives these replies
 abbrev pub IsOutcome : Layout → Reference → List Turn → List Reply → Type 0
@@ -84,20 +98,29 @@ AreWanted (w ∷ ws) [] = Unit {0}
 AreWanted (w ∷ ws) (t ∷ ts) = IsWanted w t × AreWanted ws ts
 
 -- the replies that some order gives, of those that are wanted
-pub record AllOutcomes (l : Layout) (s : Reference) (turns : List Turn) (wanted : List (Option (Vec ℕ Global))) (os : List Outcome) : Type 0 where
-  pub sound : All (λ o. Gives l s turns o.order.items o.replies.items × AreWanted wanted (map Some o.replies.items)) os
-  pub complete : (replies : List Reply) → IsOutcome l s turns replies → AreWanted wanted (map Some replies) → Contains (map (λ o. o.replies.items) os) replies
+pub record AllOutcomes (l : Layout) (s : Reference) (turns : List Turn)
+    (wanted : List (Option (Vec ℕ Global))) (os : List Outcome) : Type 0 where
+  pub sound : All
+      (λ o. Gives l s turns o.order.items o.replies.items
+      × AreWanted wanted (map Some o.replies.items)) os
+  pub complete : (replies : List Reply)
+      → IsOutcome l s turns replies
+      → AreWanted wanted (map Some replies)
+      → Contains (map (λ o. o.replies.items) os) replies
   pub once : AllPairs (λ a b. a.replies.items ≢ b.replies.items) os
 
 -- an order gives replies that are wanted; and no order gives any
-abbrev pub GivesWanted : Layout → Reference → List Turn → List (Option (Vec ℕ Global)) → List ℕ → Type 0
-GivesWanted l s turns wanted order = (replies : List Reply) × Gives l s turns order replies × AreWanted wanted (map Some replies)
+abbrev pub GivesWanted : Layout → Reference → List Turn → List (Option (Vec ℕ Global)) → List ℕ
+    → Type 0
+GivesWanted l s turns wanted order =
+    (replies : List Reply) × Gives l s turns order replies × AreWanted wanted (map Some replies)
 
 abbrev pub NoneWanted : Layout → Reference → List Turn → List (Option (Vec ℕ Global)) → Type 0
 NoneWanted l s turns wanted = (order : List ℕ) → ¬ GivesWanted l s turns wanted order
 
 -- an order that gives wanted replies, or none where no order does
-abbrev pub IsExplained : Layout → Reference → List Turn → List (Option (Vec ℕ Global)) → Option (Vec ℕ Global) → Type 0
+abbrev pub IsExplained : Layout → Reference → List Turn → List (Option (Vec ℕ Global))
+    → Option (Vec ℕ Global) → Type 0
 IsExplained l s turns wanted None = NoneWanted l s turns wanted
 IsExplained l s turns wanted (Some order) = GivesWanted l s turns wanted order.items
 
@@ -116,7 +139,11 @@ IsLastGeneration s turn = ¬ HasNextGeneration (s.contents.cpu turn.cpu).ticket 
 -- why steps in order aren't made: a generation, where the steps before it lead, or memory
 abbrev pub IsStepFault : Layout → Reference → List Turn → OutcomesFault → Type 0
 IsStepFault l s turns (TooMany made) = ⊥
-IsStepFault l s turns Generation = (n : ℕ) × (turn : Turn) × (slice_get turns n ≡ Some turn) × IsLastGeneration (told_along l s (take n turns)).1 turn
+IsStepFault l s turns Generation =
+    (n : ℕ)
+    × (turn : Turn)
+    × (slice_get turns n ≡ Some turn)
+    × IsLastGeneration (told_along l s (take n turns)).1 turn
 IsStepFault l s turns NoMemory = Unit {0}
 
 module _ (l : Layout) (s : Reference) (turns : List Turn) where
@@ -125,9 +152,14 @@ module _ (l : Layout) (s : Reference) (turns : List Turn) where
     pub points : List Point
     pub more : limit < length points
     pub apart : AllPairs (λ p q. p ≢ q) points
-    pub reached : All (λ p. (order : List ℕ) × (length order ≡ made) × Leads l turns (first_point s turns) order p × AreWanted wanted p.told) points
+    pub reached : All
+        (λ p. (order : List ℕ)
+        × (length order ≡ made)
+        × Leads l turns (first_point s turns) order p
+        × AreWanted wanted p.told) points
 
-  -- some order leads to where a step comes next that releases a VM whose generation is the greatest u64
+  -- some order leads to where a step comes next that releases a VM whose generation is the greatest
+  -- u64
   pub record ReachesLastGeneration : Type 0 where
     pub order : List ℕ
     pub point : Point

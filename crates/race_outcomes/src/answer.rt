@@ -17,7 +17,9 @@ use std::alloc::{AllocError, Global};
 /// What the model says of a step where there is memory.
 fn foretold(alloc: Global, state: &Ghost, turn: Turn) -> Result<(Reply, Ghost), OutcomesFault>
     requires { turn.cpu < state.now.layout.config.cpus }
-    ensures told { IfOk result (λ r. (r.0, ghost_state r.1) ≡ foretell (layout_of state.now.layout) (ghost_state state.now) turn.cpu turn.step) }
+    ensures told { IfOk result
+        (λ r. (r.0, ghost_state r.1)
+        ≡ foretell (layout_of state.now.layout) (ghost_state state.now) turn.cpu turn.step) }
     ensures layout { IfOk result (λ r. layout_of r.1.layout ≡ layout_of state.now.layout) }
     ensures fault { IfErr result (IsTurnFault (ghost_state state.now) turn) }
 {
@@ -87,7 +89,9 @@ pub(crate) fn told_to(
     turn: Turn,
 ) -> Result<(Reply, Ghost), OutcomesFault>
     requires { turn.cpu < state.now.layout.config.cpus }
-    ensures told { IfOk result (λ r. (r.0, ghost_state r.1) ≡ told_to_of (layout_of state.now.layout) (ghost_state state.now) turn) }
+    ensures told { IfOk result
+        (λ r. (r.0, ghost_state r.1)
+        ≡ told_to_of (layout_of state.now.layout) (ghost_state state.now) turn) }
     ensures layout { IfOk result (λ r. layout_of r.1.layout ≡ layout_of state.now.layout) }
     ensures fault { IfErr result (IsTurnFault (ghost_state state.now) turn) }
 {

@@ -39,7 +39,9 @@ pub struct Outcome {
 
 /// All replies, where each step has one.
 fn whole(alloc: Global, told: &[Option<Reply>]) -> Result<Option<Vec<Reply>>, AllocError>
-    ensures { IfOk result (λ o. MatchOption o ((rs : List TheReply) → told.now ≢ map Some rs) (λ v. told.now ≡ map Some v.items)) }
+    ensures { IfOk result
+        (λ o. MatchOption o ((rs : List TheReply) → told.now ≢ map Some rs)
+        (λ v. told.now ≡ map Some v.items)) }
 {
     let mut all = Vec::new(alloc);
     for i in 0..told.len() {
@@ -56,7 +58,9 @@ fn whole(alloc: Global, told: &[Option<Reply>]) -> Result<Option<Vec<Reply>>, Al
 
 /// The node where no step is made, alone.
 fn first_nodes(alloc: Global, state: &Ghost, turns: &[Turn]) -> Result<Vec<Node>, AllocError>
-    ensures { IfOk result (λ v. IsFirstLayer turns.now (layout_of state.now.layout) (ghost_state state.now) v.items) }
+    ensures { IfOk result
+        (λ v. IsFirstLayer turns.now (layout_of state.now.layout)
+        (ghost_state state.now) v.items) }
 {
     let first = first_node(alloc, state, turns)?;
     let mut nodes = Vec::new(alloc);
@@ -75,8 +79,12 @@ fn last_layer<P: Progress>(
 ) -> Result<Vec<Node>, OutcomesFault>
     requires cpus { All (λ t. t.cpu < state.now.layout.config.cpus) turns.now }
     requires count { length wanted.now ≡ length turns.now }
-    ensures layer { IfOk result (λ v. IsLayer turns.now wanted.now (layout_of state.now.layout) (ghost_state state.now) (length turns.now) v.items) }
-    ensures fault { IfErr result (IsOutcomesFault (layout_of state.now.layout) (ghost_state state.now) turns.now wanted.now limit) }
+    ensures layer { IfOk result
+        (λ v. IsLayer turns.now wanted.now (layout_of state.now.layout) (ghost_state state.now)
+        (length turns.now) v.items) }
+    ensures fault { IfErr result
+        (IsOutcomesFault (layout_of state.now.layout)
+        (ghost_state state.now) turns.now wanted.now limit) }
 {
     let Ok(mut nodes) = first_nodes(alloc, state, turns) else {
         return Err(OutcomesFault::NoMemory);
@@ -103,7 +111,9 @@ fn has_replies(found: &[Outcome], replies: &[Reply]) -> bool
 
 /// The outcome of a node at which all steps are made.
 fn outcome_of(alloc: Global, node: &Node) -> Result<Option<Outcome>, AllocError>
-    ensures { IfOk result (λ o. MatchOption o ((rs : List TheReply) → node.now.told.items ≢ map Some rs) (IsToldBy node.now)) }
+    ensures { IfOk result
+        (λ o. MatchOption o ((rs : List TheReply) → node.now.told.items ≢ map Some rs)
+        (IsToldBy node.now)) }
 {
     let Some(replies) = whole(alloc, node.told.as_slice())? else {
         return Ok(None);
@@ -151,8 +161,12 @@ pub fn outcomes<P: Progress>(
 ) -> Result<Vec<Outcome>, OutcomesFault>
     requires cpus { All (λ t. t.cpu < state.now.layout.config.cpus) turns.now }
     requires count { length wanted.now ≡ length turns.now }
-    ensures all { IfOk result (λ v. AllOutcomes (layout_of state.now.layout) (ghost_state state.now) turns.now wanted.now v.items) }
-    ensures fault { IfErr result (IsOutcomesFault (layout_of state.now.layout) (ghost_state state.now) turns.now wanted.now limit) }
+    ensures all { IfOk result
+        (λ v. AllOutcomes (layout_of state.now.layout)
+        (ghost_state state.now) turns.now wanted.now v.items) }
+    ensures fault { IfErr result
+        (IsOutcomesFault (layout_of state.now.layout)
+        (ghost_state state.now) turns.now wanted.now limit) }
 {
     let nodes = last_layer(alloc, state, turns, wanted, limit, progress)?;
     let found = distinct(alloc, nodes.as_slice());
@@ -174,8 +188,11 @@ pub fn explained<P: Progress>(
 ) -> Result<Option<Vec<usize>>, OutcomesFault>
     requires cpus { All (λ t. t.cpu < state.now.layout.config.cpus) turns.now }
     requires count { length wanted.now ≡ length turns.now }
-    ensures order { IfOk result (IsExplained (layout_of state.now.layout) (ghost_state state.now) turns.now wanted.now) }
-    ensures fault { IfErr result (IsOutcomesFault (layout_of state.now.layout) (ghost_state state.now) turns.now wanted.now limit) }
+    ensures order { IfOk result
+        (IsExplained (layout_of state.now.layout) (ghost_state state.now) turns.now wanted.now) }
+    ensures fault { IfErr result
+        (IsOutcomesFault (layout_of state.now.layout)
+        (ghost_state state.now) turns.now wanted.now limit) }
 {
     let found = outcomes(alloc, state, turns, wanted, limit, progress)?;
     match first_order(alloc, found.as_slice()) {
@@ -186,7 +203,9 @@ pub fn explained<P: Progress>(
 
 /// The order of the first outcome.
 fn first_order(alloc: Global, found: &[Outcome]) -> Result<Option<Vec<usize>>, AllocError>
-    ensures { IfOk result (λ r. MatchOption r (found.now ≡ []) (λ v. (o : Outcome) × Contains found.now o × (v.items ≡ o.order.items))) }
+    ensures { IfOk result
+        (λ r. MatchOption r (found.now ≡ [])
+        (λ v. (o : Outcome) × Contains found.now o × (v.items ≡ o.order.items))) }
 {
     if found.is_empty() {
         return Ok(None);
@@ -203,7 +222,9 @@ fn one_step(
     replies: &mut Vec<Reply>,
 ) -> Result<Ghost, OutcomesFault>
     requires { turn.cpu < state.layout.config.cpus }
-    ensures told { IfOk result (λ g. TellsMore (layout_of state.layout) (ghost_state state) turn replies.old.items replies.new.items (ghost_state g)) }
+    ensures told { IfOk result
+        (λ g. TellsMore (layout_of state.layout)
+        (ghost_state state) turn replies.old.items replies.new.items (ghost_state g)) }
     ensures layout { IfOk result (λ g. layout_of g.layout ≡ layout_of state.layout) }
     ensures fault { IfErr result (IsTurnFault (ghost_state state) turn) }
 {
@@ -226,7 +247,9 @@ pub fn first_steps(
     turns: &[Turn],
 ) -> Result<(Vec<Reply>, Ghost), OutcomesFault>
     requires cpus { All (λ t. t.cpu < state.layout.config.cpus) turns.now }
-    ensures told { IfOk result (λ r. (r.0.items, ghost_state r.1) ≡ told_along (layout_of state.layout) (ghost_state state) turns.now) }
+    ensures told { IfOk result
+        (λ r. (r.0.items, ghost_state r.1)
+        ≡ told_along (layout_of state.layout) (ghost_state state) turns.now) }
     ensures layout { IfOk result (λ r. layout_of r.1.layout ≡ layout_of state.layout) }
     ensures fault { IfErr result (IsStepFault (layout_of state.layout) (ghost_state state) turns.now) }
 {

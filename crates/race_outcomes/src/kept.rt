@@ -111,7 +111,19 @@ fn state_key(state: &Ghost) -> usize {
 }
 
 impl States {
-    ghost use Rattle.std.specs.Prelude.{◌≡◌, ◌<◌, [], All, IfOk, IfSome, IsTrue, OnOk, Some, length, slice_get};
+    ghost use Rattle.std.specs.Prelude.{
+      ◌≡◌,
+      ◌<◌,
+      [],
+      All,
+      IfOk,
+      IfSome,
+      IsTrue,
+      OnOk,
+      Some,
+      length,
+      slice_get,
+    };
     ghost use Rattle.page_state.specs.LayoutView.{layout_of};
     ghost use Rattle.ghost_spec.specs.States.{ghost_state};
     ghost use Rattle.race_outcomes.specs.Kept.{AreOfLayout};
@@ -133,7 +145,10 @@ impl States {
     /// Whether the state at a place is this one.
     fn is_at(&self, place: usize, state: &Ghost) -> bool
         ensures inside { IsTrue result → place < length self.now.states.items }
-        ensures same { IsTrue result → (g : Shared) → slice_get self.now.states.items place ≡ Some g → ghost_state g ≡ ghost_state state.now }
+        ensures same { IsTrue result
+            → (g : Shared)
+            → slice_get self.now.states.items place ≡ Some g
+            → ghost_state g ≡ ghost_state state.now }
     {
         if place >= self.states.len() {
             return false;
@@ -144,7 +159,10 @@ impl States {
     /// The place of this state, if it is found by its key.
     fn place_of(&self, key: usize, state: &Ghost) -> Option<usize>
         ensures inside { IfSome result (λ i. i < length self.now.states.items) }
-        ensures same { IfSome result (λ i. (g : Shared) → slice_get self.now.states.items i ≡ Some g → ghost_state g ≡ ghost_state state.now) }
+        ensures same { IfSome result
+            (λ i. (g : Shared)
+            → slice_get self.now.states.items i ≡ Some g
+            → ghost_state g ≡ ghost_state state.now) }
     {
         if key >= self.places.len() {
             return None;
@@ -237,7 +255,9 @@ fn make(
     requires cpu { turn.cpu < known.old.state.layout.config.cpus }
     requires known { IsKnown (layout_of known.old.state.layout) turns.now known.old }
     requires layouts { AreOfLayout (layout_of known.old.state.layout) states.old.states.items }
-    ensures leads { IfOk result (λ m. LeadsTo (layout_of known.old.state.layout) (ghost_state known.old.state) turn m.reply m.state) }
+    ensures leads { IfOk result
+        (λ m. LeadsTo (layout_of known.old.state.layout)
+        (ghost_state known.old.state) turn m.reply m.state) }
     ensures state { known.new.state ≡ known.old.state }
     ensures known { OnOk result (IsKnown (layout_of known.old.state.layout) turns.now known.new) }
     ensures layouts { OnOk result (AreOfLayout (layout_of known.old.state.layout) states.new.states.items) }
@@ -279,7 +299,9 @@ pub(crate) fn made_at(
     requires cpu { turn.cpu < known.old.state.layout.config.cpus }
     requires known { IsKnown (layout_of known.old.state.layout) turns.now known.old }
     requires layouts { AreOfLayout (layout_of known.old.state.layout) states.old.states.items }
-    ensures leads { IfOk result (λ m. LeadsTo (layout_of known.old.state.layout) (ghost_state known.old.state) turn m.reply m.state) }
+    ensures leads { IfOk result
+        (λ m. LeadsTo (layout_of known.old.state.layout)
+        (ghost_state known.old.state) turn m.reply m.state) }
     ensures state { known.new.state ≡ known.old.state }
     ensures known { OnOk result (IsKnown (layout_of known.old.state.layout) turns.now known.new) }
     ensures layouts { OnOk result (AreOfLayout (layout_of known.old.state.layout) states.new.states.items) }
@@ -297,7 +319,10 @@ pub(crate) fn made_at(
 /// Whether the known state at a place is this one.
 fn is_known_at(known: &[Known], at: usize, state: &Ghost) -> bool
     ensures inside { IsTrue result → at < length known.now }
-    ensures same { IsTrue result → (k : Known) → slice_get known.now at ≡ Some k → ghost_state k.state ≡ ghost_state state.now }
+    ensures same { IsTrue result
+        → (k : Known)
+        → slice_get known.now at ≡ Some k
+        → ghost_state k.state ≡ ghost_state state.now }
 {
     if at >= known.len() {
         return false;
@@ -313,7 +338,10 @@ pub(crate) fn known_at(
     state: &Shared,
 ) -> Result<usize, AllocError>
     ensures inside { IfOk result (λ i. i < length known.new.items) }
-    ensures same { IfOk result (λ i. (k : Known) → slice_get known.new.items i ≡ Some k → ghost_state k.state ≡ ghost_state state.now) }
+    ensures same { IfOk result
+        (λ i. (k : Known)
+        → slice_get known.new.items i ≡ Some k
+        → ghost_state k.state ≡ ghost_state state.now) }
     ensures known { OnOk result (StayKnown (layout_of state.now.layout) known.old.items known.new.items) }
 {
     if is_known_at(known.as_slice(), at, state.get()) {

@@ -79,9 +79,36 @@ fn no_places(alloc: Global) -> Result<Vec<Vec<usize>>, AllocError>
 }
 
 impl Layer {
-    ghost use Rattle.std.specs.Prelude.{◌≡◌, ◌<◌, ◌++◌, ◌∷◌, [], Contains, IfErr, IfOk, IsTrue, OnOk, Some, false, get_or, length, slice_get, slice_set as set};
+    ghost use Rattle.std.specs.Prelude.{
+      ◌≡◌,
+      ◌<◌,
+      ◌++◌,
+      ◌∷◌,
+      [],
+      Contains,
+      IfErr,
+      IfOk,
+      IsTrue,
+      OnOk,
+      Some,
+      false,
+      get_or,
+      length,
+      slice_get,
+      slice_set as set,
+    };
     ghost use Rattle.race_outcomes.specs.declared.node.Node.{Node as TheNode};
-    ghost use Rattle.race_outcomes.specs.Layers.{AreApart, places_in, IsAddFault, IsAdded, IsApartFrom, IsIndexed, key_of, point_of, points_of};
+    ghost use Rattle.race_outcomes.specs.Layers.{
+      AreApart,
+      places_in,
+      IsAddFault,
+      IsAdded,
+      IsApartFrom,
+      IsIndexed,
+      key_of,
+      point_of,
+      points_of,
+    };
 
     /// No node.
     fn new(alloc: Global) -> Result<Layer, AllocError>
@@ -118,7 +145,10 @@ impl Layer {
     /// Whether the node at a place is at the point of another.
     fn is_at(&self, place: usize, node: &Node) -> bool
         ensures same { IsTrue result → Contains (points_of self.now.nodes.items) (point_of node.now) }
-        ensures apart { result ≡ false → (m : TheNode) → slice_get self.now.nodes.items place ≡ Some m → AreApart m node.now }
+        ensures apart { result ≡ false
+            → (m : TheNode)
+            → slice_get self.now.nodes.items place ≡ Some m
+            → AreApart m node.now }
     {
         if place >= self.nodes.len() {
             return false;
@@ -177,7 +207,10 @@ impl Layer {
     fn add_place(&mut self, key: usize, place: usize) -> Result<(), AllocError>
         requires { key < length self.old.places.items }
         ensures nodes { self.new.nodes ≡ self.old.nodes }
-        ensures places { OnOk result (places_in self.new ≡ set (places_in self.old) key (get_or (places_in self.old) key [] ++ place ∷ [])) }
+        ensures places { OnOk result
+            (places_in self.new
+            ≡ set (places_in self.old) key
+            (get_or (places_in self.old) key [] ++ place ∷ [])) }
         ensures count { length self.new.places.items ≡ length self.old.places.items }
         ensures states { self.new.states ≡ self.old.states }
     {
@@ -201,7 +234,8 @@ fn spread_at(
     requires ready { IsReady turns.now wanted.now node.now }
     requires indexed { IsIndexed layer.old }
     requires at_hand { IsAtHand node.now.state turns.now known.old layer.old.states }
-    ensures spread { OnOk result (IsSpread turns.now wanted.now node.now layer.old.nodes.items layer.new.nodes.items) }
+    ensures spread { OnOk result
+        (IsSpread turns.now wanted.now node.now layer.old.nodes.items layer.new.nodes.items) }
     ensures has { OnOk result (HasStep turns.now wanted.now node.now layer.new.nodes.items place) }
     ensures indexed { OnOk result (IsIndexed layer.new) }
     ensures at_hand { OnOk result (IsAtHand node.now.state turns.now known.new layer.new.states) }
@@ -229,8 +263,10 @@ fn spread(
     requires ready { IsReady turns.now wanted.now node.now }
     requires indexed { IsIndexed layer.old }
     requires at_hand { IsAtHand node.now.state turns.now known.old layer.old.states }
-    ensures spread { OnOk result (IsSpread turns.now wanted.now node.now layer.old.nodes.items layer.new.nodes.items) }
-    ensures has { OnOk result ((place : ℕ) → HasStep turns.now wanted.now node.now layer.new.nodes.items place) }
+    ensures spread { OnOk result
+        (IsSpread turns.now wanted.now node.now layer.old.nodes.items layer.new.nodes.items) }
+    ensures has { OnOk result
+        ((place : ℕ) → HasStep turns.now wanted.now node.now layer.new.nodes.items place) }
     ensures indexed { OnOk result (IsIndexed layer.new) }
     ensures at_hand { OnOk result (IsAtHand node.now.state turns.now known.new layer.new.states) }
     ensures fault { IfErr result (IsSpreadFault turns.now wanted.now limit node.now layer.old.nodes.items) }
@@ -254,10 +290,13 @@ fn spread_known(
     requires ready { IsReady turns.now wanted.now node.now }
     requires indexed { IsIndexed layer.old }
     requires known { AreKnown (layout_of node.now.state.layout) turns.now known.old.items layer.old.states }
-    ensures spread { OnOk result (IsSpread turns.now wanted.now node.now layer.old.nodes.items layer.new.nodes.items) }
-    ensures has { OnOk result ((place : ℕ) → HasStep turns.now wanted.now node.now layer.new.nodes.items place) }
+    ensures spread { OnOk result
+        (IsSpread turns.now wanted.now node.now layer.old.nodes.items layer.new.nodes.items) }
+    ensures has { OnOk result
+        ((place : ℕ) → HasStep turns.now wanted.now node.now layer.new.nodes.items place) }
     ensures indexed { OnOk result (IsIndexed layer.new) }
-    ensures known { OnOk result (AreKnown (layout_of node.now.state.layout) turns.now known.new.items layer.new.states) }
+    ensures known { OnOk result
+        (AreKnown (layout_of node.now.state.layout) turns.now known.new.items layer.new.states) }
     ensures fault { IfErr result (IsSpreadFault turns.now wanted.now limit node.now layer.old.nodes.items) }
 {
     let Ok(at) = known_at(alloc, known, node.at, &node.state) else {

@@ -40,7 +40,12 @@ pub(crate) struct Node {
 fn is_made_before(turns: &[Turn], told: &[Option<Reply>], place: usize, cpu: u64) -> bool
     requires inside { place < length turns.now }
     requires count { length told.now ≡ length turns.now }
-    ensures { IsTrue result ↔ ((j : ℕ) (t : Turn) → j < place → slice_get turns.now j ≡ Some t → t.cpu ≡ cpu → slice_get told.now j ≢ Some None) }
+    ensures { IsTrue result
+        ↔ ((j : ℕ) (t : Turn)
+        → j < place
+        → slice_get turns.now j ≡ Some t
+        → t.cpu ≡ cpu
+        → slice_get told.now j ≢ Some None) }
 {
     for j in 0..place {
         if turns[j].cpu == cpu && told[j].is_none() {

@@ -27,7 +27,9 @@ fn has_same_rooms(a: &GhostRooms, b: &GhostRooms) -> bool
 /// Whether two states are the same. Where the layouts differ, it may say no of the same states.
 pub(crate) fn is_same_state(a: &Ghost, b: &Ghost) -> bool
     ensures same { IsTrue result → ghost_state a.now ≡ ghost_state b.now }
-    ensures apart { result ≡ false → layout_of a.now.layout ≡ layout_of b.now.layout → ghost_state a.now ≢ ghost_state b.now }
+    ensures apart { result ≡ false
+        → layout_of a.now.layout ≡ layout_of b.now.layout
+        → ghost_state a.now ≢ ghost_state b.now }
 {
     if a.lists().layout.config.log != b.lists().layout.config.log {
         return false;

@@ -33,7 +33,17 @@ host_abort_table = (refl, refl, refl, refl)
 
 pub host_abort_refused : HostAbortRefused
 unfolding computing
-host_abort_refused = (refuses refl, refuses refl, refuses refl, refuses refl, refuses refl, refuses refl, refuses refl, refuses refl, refuses refl)
+host_abort_refused = (
+  refuses refl,
+  refuses refl,
+  refuses refl,
+  refuses refl,
+  refuses refl,
+  refuses refl,
+  refuses refl,
+  refuses refl,
+  refuses refl,
+)
 
 pub host_translate_made : HostTranslateMade
 unfolding computing

@@ -22,23 +22,52 @@ use Rattle.reference_model.proofs.conditions.Tests.{tested}
 
 -- changes by the parts that a step names
 
-of-shared : (slot : Option ℕ) (h : Changes) → h.slot ≡ KeepSlots → h.guest ≡ None → h.part ≡ KeepGuest → OnlyUses shared slot h
-of-shared slot h a b c = record { vms = λ e. a; host = λ e. cc; hyp = λ e. cc; moved = λ e. cc; guest = λ e. b; part = λ e. c }
+of-shared : (slot : Option ℕ) (h : Changes)
+    → h.slot ≡ KeepSlots
+    → h.guest ≡ None
+    → h.part ≡ KeepGuest
+    → OnlyUses shared slot h
+of-shared slot h a b c =
+    record { vms = λ e. a; host = λ e. cc; hyp = λ e. cc; moved = λ e. cc; guest = λ e. b; part = λ e. c }
 
 of-both : (v : ℕ) (h : Changes) → h.slot ≡ KeepSlots → OnlyUses shared_and_guest (Some v) h
 of-both v h a = record { vms = λ e. a; host = λ e. cc; hyp = λ e. cc; moved = λ e. cc; guest = λ e. cc; part = λ e. cc }
 
-of-guest : (v : ℕ) (h : Changes) → h.slot ≡ KeepSlots → h.host ≡ None → h.hyp ≡ None → touched h ≡ None → OnlyUses guest (Some v) h
-of-guest v h a b c d = record { vms = λ e. a; host = λ e. b; hyp = λ e. c; moved = λ e. d; guest = λ e. cc; part = λ e. cc }
+of-guest : (v : ℕ) (h : Changes)
+    → h.slot ≡ KeepSlots
+    → h.host ≡ None
+    → h.hyp ≡ None
+    → touched h ≡ None
+    → OnlyUses guest (Some v) h
+of-guest v h a b c d =
+    record { vms = λ e. a; host = λ e. b; hyp = λ e. c; moved = λ e. d; guest = λ e. cc; part = λ e. cc }
 
-of-vms : (n : Names) (slot : Option ℕ) (h : Changes) → uses_vms n ≡ true → h.host ≡ None → h.hyp ≡ None → touched h ≡ None → h.guest ≡ None → h.part ≡ KeepGuest → OnlyUses n slot h
-of-vms n slot h u a b c d e = record { vms = λ w. let bad : true ≡ false = sym u ∙ w in cc; host = λ w. a; hyp = λ w. b; moved = λ w. c; guest = λ w. d; part = λ w. e }
+of-vms : (n : Names) (slot : Option ℕ) (h : Changes)
+    → uses_vms n ≡ true
+    → h.host ≡ None
+    → h.hyp ≡ None
+    → touched h ≡ None
+    → h.guest ≡ None
+    → h.part ≡ KeepGuest
+    → OnlyUses n slot h
+of-vms n slot h u a b c d e =
+    record {
+      vms = λ w. let bad : true ≡ false = sym u ∙ w in
+          cc;
+      host = λ w. a;
+      hyp = λ w. b;
+      moved = λ w. c;
+      guest = λ w. d;
+      part = λ w. e;
+    }
 
 -- a step that lacks its slot decides nothing
 pub lacking : {P : Type 0} (r : Rule) → first_test r true ≡ None → P
 lacking r h = let bad : true ≡ false = (tested r true h).lacks_none in cc
 
-each : (l : Layout) (cpu : ℕ) (slot : Option ℕ) (step : Step) (x : Used) → first_test (rule l cpu slot step x) (lacks_slot (names step) slot) ≡ None → OnlyUses (names step) slot (rule l cpu slot step x).changes
+each : (l : Layout) (cpu : ℕ) (slot : Option ℕ) (step : Step) (x : Used)
+    → first_test (rule l cpu slot step x) (lacks_slot (names step) slot) ≡ None
+    → OnlyUses (names step) slot (rule l cpu slot step x).changes
 unfolding rule
 each l cpu slot (ShareHyp f) x h = of-shared slot _ refl refl refl
 each l cpu slot (UnshareHyp f) x h = of-shared slot _ refl refl refl
@@ -52,9 +81,13 @@ each l cpu slot (Fund f n) x h = of-shared slot _ refl refl refl
 each l cpu slot Unfund x h = of-shared slot _ refl refl refl
 each l cpu slot (VmReserve kind vcpus) x h = of-vms _ slot _ refl refl refl refl refl refl
 each l cpu slot VmOpen x h = of-vms _ slot _ refl refl refl refl refl refl
-each l cpu slot (VcpuLoad vm i) x h = of-vms _ slot _ (and-left (is_good_vm vm) (nat_lt i 8) (tested (vcpu_load vm i (reads l cpu slot x)) false h).valid) refl refl refl refl refl
+each l cpu slot (VcpuLoad vm i) x h =
+    of-vms _ slot _
+    (and-left (is_good_vm vm) (nat_lt i 8) (tested (vcpu_load vm i (reads l cpu slot x)) false h).valid) refl refl
+    refl refl refl
 each l cpu slot VcpuPut x h = of-vms _ slot _ refl refl refl refl refl refl
-each l cpu slot (Teardown vm) x h = of-vms _ slot _ (tested (teardown vm (reads l cpu slot x)) false h).valid refl refl refl refl refl
+each l cpu slot (Teardown vm) x h =
+    of-vms _ slot _ (tested (teardown vm (reads l cpu slot x)) false h).valid refl refl refl refl refl
 each l cpu slot VmRelease x h = of-vms _ slot _ refl refl refl refl refl refl
 each l cpu (Some v) (GuestRelax g p) x h = of-guest v _ refl refl refl refl
 each l cpu (Some v) (GuestTranslate vm g) x h = of-guest v _ refl refl refl refl

@@ -24,15 +24,34 @@ other-number h = ap number_of h
 
 pub host_alone_row : HostAloneRow
 host_alone_row =
-    let six : 6 ≡ 5 → ⊥ = λ (e : 6 ≡ 5). absurd (omega (arith, e)) in
-    (inl refl, inr refl, neither (λ h. cc) (λ h. cc), neither (λ h. cc) (λ h. other-frame h six), inl refl, inr refl, neither (λ h. cc) (λ h. other-frame h six), neither (λ h. cc) (λ h. cc), neither (λ h. cc) (λ h. cc))
+    let six : 6 ≡ 5 → ⊥ = λ (e : 6 ≡ 5). absurd (omega (arith, e)) in (
+      inl refl,
+      inr refl,
+      neither (λ h. cc) (λ h. cc),
+      neither (λ h. cc) (λ h. other-frame h six),
+      inl refl,
+      inr refl,
+      neither (λ h. cc) (λ h. other-frame h six),
+      neither (λ h. cc) (λ h. cc),
+      neither (λ h. cc) (λ h. cc),
+    )
 
 pub host_shared_row : HostSharedRow
 host_shared_row =
     let two : 2 ≡ 1 → ⊥ = λ (e : 2 ≡ 1). absurd (omega (arith, e)) in
     let nine : 9 ≡ 5 → ⊥ = λ (e : 9 ≡ 5). absurd (omega (arith, e)) in
-    let four : 2 ≡ 2 + 2 → ⊥ = λ (e : 2 ≡ 2 + 2). absurd (omega (arith, e)) in
-    (refl, (λ h. cc), refl, (λ h. two (other-number h)), refl, (λ h. other-frame h nine), refl, (λ h. four (other-number h)), refl, (λ h. cc))
+    let four : 2 ≡ 2 + 2 → ⊥ = λ (e : 2 ≡ 2 + 2). absurd (omega (arith, e)) in (
+      refl,
+      (λ h. cc),
+      refl,
+      (λ h. two (other-number h)),
+      refl,
+      (λ h. other-frame h nine),
+      refl,
+      (λ h. four (other-number h)),
+      refl,
+      (λ h. cc),
+    )
 
 pub hyp_row : HypRow
 hyp_row = refl

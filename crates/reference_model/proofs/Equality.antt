@@ -28,11 +28,13 @@ stages_test a b = refl
 
 pub loads_tell : Tells loads.ghosts.eq
 loads_tell x y =
-    Decides-like (loads.ghosts.eq x y) (λ p i. record { vm = p.0 i; vcpu = p.1 i }) (λ e. ((λ i. (e i).vm), (λ i. (e i).vcpu)))
+    Decides-like (loads.ghosts.eq x y) (λ p i. record { vm = p.0 i; vcpu = p.1 i })
+    (λ e. ((λ i. (e i).vm), (λ i. (e i).vcpu)))
     (both_tell vms.ghosts.eq numbers.ghosts.eq vms_tell numbers_tell x.vm y.vm x.vcpu y.vcpu)
 
 pub tickets_tell : Tells tickets.ghosts.eq
 tickets_tell x y =
     let rest = more kinds.ghosts.eq kinds_tell _ (one stages.ghosts.eq stages_tell) in
-    Decides-like (tickets.ghosts.eq x y) (λ p i. record { vm = p.0 i; kind = (p.1 i).0; stage = (p.1 i).1.0 }) (λ e. ((λ i. (e i).vm), (λ i. ((e i).kind, ((e i).stage, tt)))))
+    Decides-like (tickets.ghosts.eq x y) (λ p i. record { vm = p.0 i; kind = (p.1 i).0; stage = (p.1 i).1.0 })
+    (λ e. ((λ i. (e i).vm), (λ i. ((e i).kind, ((e i).stage, tt)))))
     (both_tell vms.ghosts.eq _ vms_tell rest x.vm y.vm (x.kind, (x.stage, tt)) (y.kind, (y.stage, tt)))

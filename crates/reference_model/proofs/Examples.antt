@@ -1,4 +1,5 @@
--- The worked rows, computed. That a block of 262,144 pages on which nothing is mapped is one word isn't searched, but follows from the map.
+-- The worked rows, computed. That a block of 262,144 pages on which nothing is mapped is one word isn't searched, but
+-- follows from the map.
 use Rattle.std.proofs.Common.{◌≡◌, ℕ, zero, suc, ◌^◌, ◌≤◌, Bool, true, false, cond, refl, ap, sym, ◌∙◌, arith, List, [], ◌∷◌, length, All, AllPairs}
 use Rattle.std.specs.Prelude.{◌+◌, not, is_some, filter}
 use Rattle.std.proofs.lemmas.Bool.Decides.{nat_tests}
@@ -22,11 +23,17 @@ use Rattle.reference_model.proofs.Foretold.{computing}
 
 -- where nothing is mapped, no block needs a table
 one-word : (m : Map) (b : Block) → ((p : ℕ) → m p ≡ Unmapped) → is_one_word m b ≡ true
-one-word m b none = (one_word_means m b).1 (ap (fits_word b.0) (none (first_page b)), λ i less. none (first_page b + i) ∙ sym (ap (λ (e : Entry). advance e i) (none (first_page b))))
+one-word m b none =
+    (one_word_means m b).1 (
+      ap (fits_word b.0) (none (first_page b)),
+      λ i less. none (first_page b + i)
+          ∙ sym (ap (λ (e : Entry). advance e i) (none (first_page b))),
+    )
 
 no-block : (test : Block → Bool) (bs : List Block) → ((b : Block) → test b ≡ false) → length (filter test bs) ≡ 0
 no-block test [] none = refl
-no-block test (b ∷ bs) none = ap (λ (t : Bool). length (cond t (b ∷ filter test bs) (filter test bs))) (none b) ∙ no-block test bs none
+no-block test (b ∷ bs) none =
+    ap (λ (t : Bool). length (cond t (b ∷ filter test bs) (filter test bs))) (none b) ∙ no-block test bs none
 
 left-out : (has : Bool) {one : Bool} → one ≡ true → (elim has [ true ↦ false | false ↦ not one ]) ≡ false
 left-out true e = refl
@@ -34,7 +41,14 @@ left-out false e = ap not e
 
 need-none : need_of 0x401ff 2 Unmapped ≡ 0
 unfolding needs
-need-none = no-block (λ b. elim (is_some ((root_tree 2 0).table b)) [ true ↦ false | false ↦ not (is_one_word (update empty_map 0x401ff 2 Unmapped) b) ]) (edit_blocks 2 (put 0x401ff 2 Unmapped)) (λ b. left-out (is_some ((root_tree 2 0).table b)) (one-word (update empty_map 0x401ff 2 Unmapped) b (λ p. by_test (is_within 0x401ff 2 p) (λ t. rw t refl) (λ t. rw t refl))))
+need-none =
+    no-block
+    (λ b. elim (is_some ((root_tree 2 0).table b))
+    [ true ↦ false | false ↦ not (is_one_word (update empty_map 0x401ff 2 Unmapped) b) ])
+    (edit_blocks 2 (put 0x401ff 2 Unmapped))
+    (λ b. left-out (is_some ((root_tree 2 0).table b))
+    (one-word (update empty_map 0x401ff 2 Unmapped) b
+    (λ p. by_test (is_within 0x401ff 2 p) (λ t. rw t refl) (λ t. rw t refl))))
 
 needs-three : need_of 0x401ff 2 (leaf RWX 0x401ff Owned) ≡ 3
 unfolding computing
@@ -94,7 +108,21 @@ accepted-memory = record {
 pub can_boot_row : CanBootRow
 unfolding needs is_one_word is_empty blocks_on
 can_boot_row = (
-  record { accepted = record { memory = accepted-memory; config = record { some_cpus = omega arith; cpus = omega arith; some_calls = omega arith; calls = omega arith; known = refl }; depth = refl }; enough = omega arith },
+  record {
+    accepted = record {
+      memory = accepted-memory;
+      config =
+          record {
+            some_cpus = omega arith;
+            cpus = omega arith;
+            some_calls = omega arith;
+            calls = omega arith;
+            known = refl;
+          };
+      depth = refl;
+    };
+    enough = omega arith;
+  },
   λ h. let few : 6 ≤ 5 = h.enough in omega arith,
 )
 

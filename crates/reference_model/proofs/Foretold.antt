@@ -19,11 +19,15 @@ use Rattle.reference_model.proofs.Steps.{refusal_keeps, step_exists}
 
 -- where this stands on a line of unfolding, a foretold step computes
 unfoldable pub computing : Unit {0}
-unfolding with_told used_of put_back rooms_of put_rooms stored is_full is_short refusal shared_after guest_after changed own_row with_rows fails made answer predict foretell rule abort_edit row_of edited needs freed returned is_one_word is_empty blocks_on booted
+unfolding with_told used_of put_back rooms_of put_rooms stored is_full is_short refusal shared_after guest_after
+    changed own_row with_rows fails made answer predict foretell rule abort_edit row_of edited needs freed returned
+    is_one_word is_empty blocks_on booted
 computing = tt
 
 -- a step whose reply is a refusal leaves all that there is
-pub refuses : {l : Layout} {s : Reference} {cpu : ℕ} {step : Step} {why : Refusal} → (foretell l s cpu step).0 ≡ Refused why → Refuses l s cpu step why
+pub refuses : {l : Layout} {s : Reference} {cpu : ℕ} {step : Step} {why : Refusal}
+    → (foretell l s cpu step).0 ≡ Refused why
+    → Refuses l s cpu step why
 refuses {l} {s} {cpu} {step} {why} h =
     let e = step_exists l s cpu step in
     record { reply = h; left = refusal_keeps l s (foretell l s cpu step).1 e.0 why e.4 (e.3 ∙ h) }

@@ -24,7 +24,12 @@ count_below-none (suc n) test h = rw (count_below, h n) (omega (arith, count_bel
 
 pub count_blocks-none : (top d : ℕ) (test : Block → Bool) → ((b : Block) → test b ≡ false) → count_blocks top d test ≡ 0
 count_blocks-none top zero test h = refl
-count_blocks-none top (suc d) test h = omega (arith, count_below-none (block_pages (top - suc d)) (λ i. test (suc d, i)) (λ i. h (suc d, i)), count_blocks-none top d test h)
+count_blocks-none top (suc d) test h =
+    omega (
+      arith,
+      count_below-none (block_pages (top - suc d)) (λ i. test (suc d, i)) (λ i. h (suc d, i)),
+      count_blocks-none top d test h,
+    )
 
 -- a number of which the test holds, where some are counted
 pub count_below-some : (n : ℕ) (test : ℕ → Bool) → 0 < count_below n test → (i : ℕ) × (test i ≡ true)
@@ -36,15 +41,21 @@ count_below-some (suc n) test h = elim (both (test n)) [
 
 pub count_blocks-some : (top d : ℕ) (test : Block → Bool) → 0 < count_blocks top d test → (b : Block) × (test b ≡ true)
 count_blocks-some top zero test h = absurd (omega arith)
-count_blocks-some top (suc d) test h = elim (both (nat_lt 0 (count_below (block_pages (top - suc d)) (λ i. test (suc d, i))))) [
-  | inl t ↦ let found = count_below-some (block_pages (top - suc d)) (λ i. test (suc d, i)) (grind (arith, nat_tests)) in ((suc d, found.0), found.1)
-  | inr f ↦ count_blocks-some top d test (grind (arith, nat_tests))
-]
+count_blocks-some top (suc d) test h =
+    elim (both (nat_lt 0 (count_below (block_pages (top - suc d)) (λ i. test (suc d, i))))) [
+      | inl t ↦ let found =
+          count_below-some (block_pages (top - suc d)) (λ i. test (suc d, i)) (grind (arith, nat_tests)) in
+          ((suc d, found.0), found.1)
+      | inr f ↦ count_blocks-some top d test (grind (arith, nat_tests))
+    ]
 
 -- a tree without a table has no table frame
-pub is_table_frame-none : (l : Layout) (t : Tree) (f : ℕ) → ((b : Block) → t.table b ≡ None) → is_table_frame l t f ≡ false
+pub is_table_frame-none : (l : Layout) (t : Tree) (f : ℕ)
+    → ((b : Block) → t.table b ≡ None)
+    → is_table_frame l t f ≡ false
 is_table_frame-none l t f h =
-    let none : count_blocks (l.depth + 1) (l.depth + 1) (λ b. is_frame f (t.table b)) ≡ 0 = count_blocks-none (l.depth + 1) (l.depth + 1) (λ b. is_frame f (t.table b)) (λ b. ap (is_frame f) (h b)) in
+    let none : count_blocks (l.depth + 1) (l.depth + 1) (λ b. is_frame f (t.table b)) ≡ 0 =
+    count_blocks-none (l.depth + 1) (l.depth + 1) (λ b. is_frame f (t.table b)) (λ b. ap (is_frame f) (h b)) in
     ap (nat_lt 0) none
 
 is_frame-same : (f : ℕ) (o : Option ℕ) → is_frame f o ≡ true → o ≡ Some f
@@ -52,9 +63,12 @@ is_frame-same f None h = cc
 is_frame-same f (Some g) h = ap Some (eq-same g f h)
 
 -- a table frame has its block
-pub is_table_frame-block : (l : Layout) (t : Tree) (f : ℕ) → is_table_frame l t f ≡ true → (b : Block) × (t.table b ≡ Some f)
+pub is_table_frame-block : (l : Layout) (t : Tree) (f : ℕ)
+    → is_table_frame l t f ≡ true
+    → (b : Block) × (t.table b ≡ Some f)
 is_table_frame-block l t f h =
-    let found = count_blocks-some (l.depth + 1) (l.depth + 1) (λ b. is_frame f (t.table b)) (grind (arith, nat_tests)) in
+    let found =
+    count_blocks-some (l.depth + 1) (l.depth + 1) (λ b. is_frame f (t.table b)) (grind (arith, nat_tests)) in
     (found.0, is_frame-same f (t.table found.0) found.1)
 
 -- a free frame is in its pool
@@ -84,7 +98,9 @@ drop-frames (suc k) first (suc n) =
     let b : suc n - suc k ≡ n - k = omega arith in
     rw (a, b) (drop-frames k (first + 1) n)
 
-pub frame-at : (first n k d : ℕ) → k < length (frames_from first n) → (slice_index_or (frames_from first n) k d ≡ first + k) × (k < n)
+pub frame-at : (first n k d : ℕ)
+    → k < length (frames_from first n)
+    → (slice_index_or (frames_from first n) k d ≡ first + k) × (k < n)
 frame-at first zero k d h = absurd (omega arith)
 frame-at first (suc n) zero d h = (omega arith, omega arith)
 frame-at first (suc n) (suc k) d h =
@@ -109,7 +125,9 @@ nth [] k = (0, 0)
 nth (b ∷ bs) zero = b
 nth (b ∷ bs) (suc k) = nth bs k
 
-pub placed-frames : (bs : List Block) (first n : ℕ) (old : Block → Option ℕ) (b : Block) (f : ℕ) → placed bs (frames_from first n) old b ≡ Some f → (old b ≡ Some f) ⊎ ((first ≤ f) × (f < first + length bs) × (b ≡ nth bs (f - first)))
+pub placed-frames : (bs : List Block) (first n : ℕ) (old : Block → Option ℕ) (b : Block) (f : ℕ)
+    → placed bs (frames_from first n) old b ≡ Some f
+    → (old b ≡ Some f) ⊎ ((first ≤ f) × (f < first + length bs) × (b ≡ nth bs (f - first)))
 placed-frames [] first n old b f h = inl h
 placed-frames (a ∷ bs) first zero old b f h = inl h
 placed-frames (a ∷ bs) first (suc n) old b f h = elim (both (block_eq a b)) [
@@ -130,14 +148,18 @@ placed-frames (a ∷ bs) first (suc n) old b f h = elim (both (block_eq a b)) [
       ]
 ]
 
-pub cleared-old : (bs : List Block) (old : Block → Option ℕ) (b : Block) (f : ℕ) → cleared bs old b ≡ Some f → old b ≡ Some f
+pub cleared-old : (bs : List Block) (old : Block → Option ℕ) (b : Block) (f : ℕ)
+    → cleared bs old b ≡ Some f
+    → old b ≡ Some f
 cleared-old [] old b f h = h
 cleared-old (a ∷ bs) old b f h = elim (both (block_eq a b)) [
   | inl e ↦ let no_table : None ≡ Some f = rw e at h in cc
   | inr e ↦ cleared-old bs old b f (rw e at h)
 ]
 
-root-table : (depth root : ℕ) (b : Block) (f : ℕ) → (if b.0 == depth + 1 && b.1 == 0 then Some root else None) ≡ Some f → (f ≡ root) × (b ≡ (depth + 1, 0))
+root-table : (depth root : ℕ) (b : Block) (f : ℕ)
+    → (if b.0 == depth + 1 && b.1 == 0 then Some root else None) ≡ Some f
+    → (f ≡ root) × (b ≡ (depth + 1, 0))
 root-table depth root b f h = elim (both (b.0 == depth + 1 && b.1 == 0)) [
   | inl e ↦
       let at = and-both (b.0 == depth + 1) (b.1 == 0) e in
@@ -147,8 +169,13 @@ root-table depth root b f h = elim (both (b.0 == depth + 1 && b.1 == 0)) [
 ]
 
 -- the tables of a tree whose root alone stood before a change, where the new ones get consecutive frames
-pub tables-of : (d root : ℕ) (e : Edit) (first n : ℕ) (fs : Pool) (b : Block) (f : ℕ) → fs ≡ frames_from first n → (edited d (root_tree d root) e fs).table b ≡ Some f
-    → ((f ≡ root) × (b ≡ (d + 1, 0))) ⊎ ((first ≤ f) × (f < first + need d (root_tree d root) e) × (b ≡ nth (needs d (root_tree d root) e) (f - first)))
+pub tables-of : (d root : ℕ) (e : Edit) (first n : ℕ) (fs : Pool) (b : Block) (f : ℕ)
+    → fs ≡ frames_from first n
+    → (edited d (root_tree d root) e fs).table b ≡ Some f
+    → ((f ≡ root) × (b ≡ (d + 1, 0)))
+    ⊎ ((first ≤ f)
+    × (f < first + need d (root_tree d root) e)
+    × (b ≡ nth (needs d (root_tree d root) e) (f - first)))
 unfolding edited
 tables-of d root e first n fs b f same h =
     let old = (root_tree d root).table in

@@ -13,7 +13,19 @@ share_guest_near = (refl, refl, refl, refl, refl, refl, refl, refl, refl, refl)
 
 pub share_guest_refused : ShareGuestRefused
 unfolding computing
-share_guest_refused = (refuses refl, refuses refl, refuses refl, refuses refl, refuses refl, refuses refl, refuses refl, refuses refl, refuses refl, refuses refl, refuses refl)
+share_guest_refused = (
+  refuses refl,
+  refuses refl,
+  refuses refl,
+  refuses refl,
+  refuses refl,
+  refuses refl,
+  refuses refl,
+  refuses refl,
+  refuses refl,
+  refuses refl,
+  refuses refl,
+)
 
 pub unshare_guest_made : UnshareGuestMade
 unfolding computing
@@ -21,7 +33,17 @@ unshare_guest_made = (refl, refl, refl, refl, refl, refl, refl, refl)
 
 pub unshare_guest_refused : UnshareGuestRefused
 unfolding computing
-unshare_guest_refused = (refuses refl, refuses refl, refuses refl, refuses refl, refuses refl, refuses refl, refuses refl, refuses refl, refuses refl)
+unshare_guest_refused = (
+  refuses refl,
+  refuses refl,
+  refuses refl,
+  refuses refl,
+  refuses refl,
+  refuses refl,
+  refuses refl,
+  refuses refl,
+  refuses refl,
+)
 
 pub donate_guest_made : DonateGuestMade
 unfolding computing

@@ -9,7 +9,18 @@ fund_made = (refl, refl, refl, refl, refl, refl, refl)
 
 pub fund_refused : FundRefused
 unfolding computing
-fund_refused = (refuses refl, refuses refl, refuses refl, refuses refl, refuses refl, refuses refl, refuses refl, refuses refl, refuses refl, refuses refl)
+fund_refused = (
+  refuses refl,
+  refuses refl,
+  refuses refl,
+  refuses refl,
+  refuses refl,
+  refuses refl,
+  refuses refl,
+  refuses refl,
+  refuses refl,
+  refuses refl,
+)
 
 pub unfund_made : UnfundMade
 unfolding computing

@@ -1,4 +1,5 @@
--- The rows of LargeRows. The emptiness of a block of 262,144 pages isn't searched, but follows from the update that lies behind it, and that of such a guest's map from the map.
+-- The rows of LargeRows. The emptiness of a block of 262,144 pages isn't searched, but follows from the update that
+-- lies behind it, and that of such a guest's map from the map.
 use Rattle.reference_model.specs.model.Rule.{reads}
 use Rattle.std.proofs.Common.{◌≡◌, ℕ, ◌+◌, refl, ap, ◌∙◌, arith, inl}
 use Rattle.std.specs.Prelude.{Bool, true, false, not, ◌||◌, List, [], ◌∷◌, length, Option, Some, None, if◌then◌else◌, ◌&&◌, ◌==◌}
@@ -29,10 +30,14 @@ use Rattle.reference_model.proofs.Foretold.{computing, refuses}
 use Rattle.page_state.proofs.Updates.{update_outside}
 
 large-empty : is_empty behind (2, 1) ≡ true
-large-empty = (empty_means behind (2, 1)).1 (λ i less. update_outside empty_map 0x80000 64 (annotation 1) (0x40000 + i) (inl (omega arith)))
+large-empty =
+    (empty_means behind (2, 1)).1
+    (λ i less. update_outside empty_map 0x80000 64 (annotation 1) (0x40000 + i) (inl (omega arith)))
 
 small-empty : is_empty behind (1, 0x289) ≡ true
-small-empty = (empty_means behind (1, 0x289)).1 (λ i less. update_outside empty_map 0x80000 64 (annotation 1) (0x51200 + i) (inl (omega arith)))
+small-empty =
+    (empty_means behind (1, 0x289)).1
+    (λ i less. update_outside empty_map 0x80000 64 (annotation 1) (0x51200 + i) (inl (omega arith)))
 
 pub host_abort_largest : HostAbortLargest
 unfolding abort_edit
@@ -58,24 +63,47 @@ module _ (s : Reference) where
 
   foretold_by : Option Refusal → Reply × Reference
   foretold_by o =
-      let a : Reply × Used = elim o [ Some why ↦ (Refused why, x) | None ↦ (Done (rule (small 1) 6 slot FinishGuest x).changes.value, made (small 1) 6 slot FinishGuest x) ] in
-      let r : Reply × Used × UsedRooms = if is_full (names FinishGuest) slot rooms then (Refused LogFull, x, rooms) else (a.0, a.1, stored rooms) in
-      (r.0, record { contents = put_back (names FinishGuest) slot 6 s.contents r.1; rooms = put_rooms (names FinishGuest) slot 6 s.rooms r.2 })
+      let a : Reply × Used =
+      elim o [
+        | Some why ↦ (Refused why, x)
+        | None ↦ (
+          Done (rule (small 1) 6 slot FinishGuest x).changes.value,
+          made (small 1) 6 slot FinishGuest x,
+        )
+      ] in
+      let r : Reply × Used × UsedRooms =
+      if is_full (names FinishGuest) slot rooms then (Refused LogFull, x, rooms) else (a.0, a.1, stored rooms) in (
+        r.0,
+        record {
+          contents = put_back (names FinishGuest) slot 6 s.contents r.1;
+          rooms = put_rooms (names FinishGuest) slot 6 s.rooms r.2;
+        },
+      )
 
   refusal_by : Bool → Option Refusal
-  refusal_by allowed = refusal 1 (record (finish_guest (reads (small 1) 6 slot x)) { allowed = record (finish_guest (reads (small 1) 6 slot x)).allowed { passes = allowed } }) (lacks_slot (names FinishGuest) slot) x
+  refusal_by allowed =
+      refusal 1
+      (record (finish_guest (reads (small 1) 6 slot x))
+      { allowed = record (finish_guest (reads (small 1) 6 slot x)).allowed { passes = allowed } })
+      (lacks_slot (names FinishGuest) slot) x
 
   by_fail : foretell (small 1) s 6 FinishGuest ≡ foretold_by (fails (small 1) 6 slot FinishGuest x)
   unfolding foretell predict answer foretold_by
   by_fail = refl
 
-  by_perm : fails (small 1) 6 slot FinishGuest x ≡ refusal_by (all_below (pages_below 1) (λ g. is_unmapped (entry g)) && length x.guest.free == 0)
+  by_perm : fails (small 1) 6 slot FinishGuest x
+      ≡ refusal_by (all_below (pages_below 1) (λ g. is_unmapped (entry g)) && length x.guest.free == 0)
   unfolding fails rule refusal_by
   by_perm = refl
 
-  foretold : ((g : ℕ) → entry g ≡ Unmapped) → x.guest.free ≡ [] → (o : Option Refusal) → refusal_by true ≡ o → foretell (small 1) s 6 FinishGuest ≡ foretold_by o
+  foretold : ((g : ℕ) → entry g ≡ Unmapped)
+      → x.guest.free ≡ []
+      → (o : Option Refusal)
+      → refusal_by true ≡ o
+      → foretell (small 1) s 6 FinishGuest ≡ foretold_by o
   foretold none free o h =
-      let empty : all_below (pages_below 1) (λ g. is_unmapped (entry g)) ≡ true = all_from-by 0 (pages_below 1) (λ g. is_unmapped (entry g)) (λ i low high. ap is_unmapped (none i)) in
+      let empty : all_below (pages_below 1) (λ g. is_unmapped (entry g)) ≡ true =
+      all_from-by 0 (pages_below 1) (λ g. is_unmapped (entry g)) (λ i low high. ap is_unmapped (none i)) in
       let passes = ap (λ b. b && length x.guest.free == 0) empty ∙ ap (λ (fs : List ℕ). length fs == 0) free in
       by_fail ∙ ap foretold_by (by_perm ∙ ap refusal_by passes ∙ h)
 

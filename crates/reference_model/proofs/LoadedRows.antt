@@ -5,7 +5,19 @@ use Rattle.reference_model.proofs.Foretold.{computing, refuses}
 
 pub donate_guest_refused : DonateGuestRefused
 unfolding computing
-donate_guest_refused = (refuses refl, refuses refl, refuses refl, refuses refl, refuses refl, refuses refl, refuses refl, refuses refl, refuses refl, refuses refl, refuses refl)
+donate_guest_refused = (
+  refuses refl,
+  refuses refl,
+  refuses refl,
+  refuses refl,
+  refuses refl,
+  refuses refl,
+  refuses refl,
+  refuses refl,
+  refuses refl,
+  refuses refl,
+  refuses refl,
+)
 
 pub guest_share_host_made : GuestShareHostMade
 unfolding computing

@@ -6,9 +6,57 @@ use Rattle.reference_model.proofs.Foretold.{computing}
 pub numbers_made : NumbersMade
 unfolding computing
 numbers_made = (
-  record { after = _; left = _; next = refl; on = record { slot = refl; number = refl; answers = inr (record { room = refl; rooms = refl; answered = inl (record { passes = refl; reply_is = refl; next = refl }) }) } },
-  record { after = _; left = _; next = refl; on = record { slot = refl; number = refl; answers = inr (record { room = refl; rooms = refl; answered = inr (inl (record { why = _; fail = refl; reply_is = refl; next = refl })) }) } },
-  record { after = _; left = _; next = refl; on = record { slot = refl; number = refl; answers = inr (record { room = refl; rooms = refl; answered = inl (record { passes = refl; reply_is = refl; next = refl }) }) } },
+  record {
+    after = _;
+    left = _;
+    next = refl;
+    on =
+        record {
+          slot = refl;
+          number = refl;
+          answers =
+              inr
+              (record {
+                room = refl;
+                rooms = refl;
+                answered = inl (record { passes = refl; reply_is = refl; next = refl });
+              });
+        };
+  },
+  record {
+    after = _;
+    left = _;
+    next = refl;
+    on =
+        record {
+          slot = refl;
+          number = refl;
+          answers =
+              inr
+              (record {
+                room = refl;
+                rooms = refl;
+                answered = inr (inl (record { why = _; fail = refl; reply_is = refl; next = refl }));
+              });
+        };
+  },
+  record {
+    after = _;
+    left = _;
+    next = refl;
+    on =
+        record {
+          slot = refl;
+          number = refl;
+          answers =
+              inr
+              (record {
+                room = refl;
+                rooms = refl;
+                answered = inl (record { passes = refl; reply_is = refl; next = refl });
+              });
+        };
+  },
 )
 
 pub numbers_only : NumbersOnly

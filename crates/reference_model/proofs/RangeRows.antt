@@ -25,7 +25,19 @@ range_across = (refl, refl, refl, refl, refl, refl, refl, refl, refl)
 
 pub range_refused : RangeRefused
 unfolding computing
-range_refused = (refuses refl, refuses refl, refuses refl, refuses refl, refuses refl, refuses refl, refuses refl, refuses refl, refuses refl, refuses refl, refl)
+range_refused = (
+  refuses refl,
+  refuses refl,
+  refuses refl,
+  refuses refl,
+  refuses refl,
+  refuses refl,
+  refuses refl,
+  refuses refl,
+  refuses refl,
+  refuses refl,
+  refl,
+)
 
 pub range_shared : RangeShared
 unfolding computing

@@ -99,7 +99,9 @@ module _ {P : Type 0} (h : ∥ P ∥₁) where
     part = part_from l g c.part (λ p. (f p).part);
   }
 
-  touched_from : (l : Layout) (cpu : ℕ) (slot : Option ℕ) (c : Changes) → (P → TouchedFits l cpu slot c) → TouchedFits l cpu slot c
+  touched_from : (l : Layout) (cpu : ℕ) (slot : Option ℕ) (c : Changes)
+      → (P → TouchedFits l cpu slot c)
+      → TouchedFits l cpu slot c
   touched_from l cpu slot c f = record {
     whole = λ g t. ∥∥₁_elim h (hlevel props) (λ p. (f p).whole g t);
     small = λ r e. ∥∥₁_elim h le_prop (λ p. (f p).small r e);
@@ -107,7 +109,8 @@ module _ {P : Type 0} (h : ∥ P ∥₁) where
   }
 
 -- a step of a state that a run leaves
-module _ (l : Layout) (cpu : ℕ) (slot : Option ℕ) (step : Step) (x : Used) (known : cpu < l.config.cpus) (named : slot ≡ guest_slot x.cpu step) where
+module _ (l : Layout) (cpu : ℕ) (slot : Option ℕ) (step : Step) (x : Used) (known : cpu < l.config.cpus)
+    (named : slot ≡ guest_slot x.cpu step) where
   used_cpu : (s : Contents) → guest_slot (used_of (names step) slot cpu s).cpu step ≡ guest_slot (s.cpu cpu) step
   unfolding used_of
   used_cpu s = refl
@@ -116,11 +119,14 @@ module _ (l : Layout) (cpu : ℕ) (slot : Option ℕ) (step : Step) (x : Used) (
   relies_at r =
       let s = r.state.contents in
       let legal = run_legal l r.log r.state r.ready r.run in
-      let named_at : slot ≡ guest_slot (s.cpu cpu) step = named ∙ ap (λ (u : Used). guest_slot u.cpu step) r.used ∙ used_cpu s in
+      let named_at : slot ≡ guest_slot (s.cpu cpu) step =
+      named ∙ ap (λ (u : Used). guest_slot u.cpu step) r.used ∙ used_cpu s in
       subst (CanRely l cpu slot step) (sym r.used) (record {
         slot_low = λ v e. slot-low l s legal cpu v step (sym named_at ∙ e);
         fit = λ h e. changes_fit l s cpu slot step h r.ready.accepted legal known named_at e;
-        parts = λ h e. part_changes_fit l r.state cpu slot step h r.ready.accepted legal (run_bounded l r.log r.state r.ready r.run) known named_at e;
+        parts =
+            λ h e. part_changes_fit l r.state cpu slot step h r.ready.accepted legal
+            (run_bounded l r.log r.state r.ready r.run) known named_at e;
         touched = λ h e. touched_whole l s cpu slot step h r.ready.accepted legal known named_at e;
         rows = rows_told l s cpu slot step (ready-usable l r.ready) known legal named_at;
       })
@@ -140,4 +146,5 @@ reached_relies l cpu slot step x known named = relies l cpu slot step x known na
 pub relying_answers : RelyingAnswers
 relying_answers l cpu slot step x wants h reply y can k out =
     let t = told-ok (rule_of l cpu slot step x) (lacks_slot (names step) slot) h k in
-    carried-by l cpu slot step wants reply x y t.0 can.rows (subst (λ c. CarriesOut l cpu slot step wants c x reply y) (sym t.1) out)
+    carried-by l cpu slot step wants reply x y t.0 can.rows
+    (subst (λ c. CarriesOut l cpu slot step wants c x reply y) (sym t.1) out)

@@ -20,7 +20,9 @@ use Rattle.reference_model.specs.model.Step.{is_full, stored, Steps}
 use Rattle.page_state.proofs.Common.{both, or-neither, eq-same}
 use Rattle.reference_model.proofs.Ends.{filter-true, filter-false}
 
-fall : (b : Bool) (n : ℕ) → (b && (if b then n else 0) == 0) ≡ false → (if b then (if b then n else 0) - 1 else n) + one b ≡ n
+fall : (b : Bool) (n : ℕ)
+    → (b && (if b then n else 0) == 0) ≡ false
+    → (if b then (if b then n else 0) - 1 else n) + one b ≡ n
 fall true n h = go n h
   where
     go : (n : ℕ) → (n == 0) ≡ false → n - 1 + 1 ≡ n
@@ -34,7 +36,9 @@ fall-one true m n e h = go m h ∙ e refl
     go n h = grind (arith, nat_tests)
 fall-one false m n e h = omega arith
 
-fall-slot : (rooms : ℕ → ℕ) (slot : Option ℕ) (v : ℕ) → (is_some slot && room_at rooms slot == 0) ≡ false → put_room rooms slot (room_at rooms slot - 1) v + one (is_slot slot v) ≡ rooms v
+fall-slot : (rooms : ℕ → ℕ) (slot : Option ℕ) (v : ℕ)
+    → (is_some slot && room_at rooms slot == 0) ≡ false
+    → put_room rooms slot (room_at rooms slot - 1) v + one (is_slot slot v) ≡ rooms v
 fall-slot rooms None v h = omega arith
 fall-slot rooms (Some u) v h = fall-one (v == u) (rooms u) (rooms v) (λ e. ap rooms (sym (eq-same v u e))) h
 
@@ -50,7 +54,9 @@ turned m n = elim (both (m == n)) [
     no-go : (m n : ℕ) → (m == n) ≡ false → (n == m) ≡ false
     no-go m n h = grind (arith, nat_tests)
 
-stored-falls : (c : Call) (r : Rooms) → is_full (names c.step) c.slot (rooms_of (names c.step) c.slot c.cpu r) ≡ false → RoomsFall c r (put_rooms (names c.step) c.slot c.cpu r (stored (rooms_of (names c.step) c.slot c.cpu r)))
+stored-falls : (c : Call) (r : Rooms)
+    → is_full (names c.step) c.slot (rooms_of (names c.step) c.slot c.cpu r) ≡ false
+    → RoomsFall c r (put_rooms (names c.step) c.slot c.cpu r (stored (rooms_of (names c.step) c.slot c.cpu r)))
 unfolding is_full stored rooms_of put_rooms
 stored-falls c r h =
     let n = names c.step in
@@ -64,30 +70,47 @@ stored-falls c r h =
       vms = fall (uses_vms (names c.step)) r.vms d.1;
       shared = fall (uses_shared (names c.step) c.slot) r.shared b.1;
       guest = λ v. fall-slot r.guest c.slot v a.1;
-      cpu = λ k. ap (λ b. (if k == c.cpu then r.cpu c.cpu - 1 else r.cpu k) + one b) (turned c.cpu k) ∙ fall-one (k == c.cpu) (r.cpu c.cpu) (r.cpu k) (λ e. ap r.cpu (sym (eq-same k c.cpu e))) d.0;
+      cpu =
+          λ k. ap (λ b. (if k == c.cpu then r.cpu c.cpu - 1 else r.cpu k) + one b) (turned c.cpu k)
+          ∙ fall-one (k == c.cpu) (r.cpu c.cpu) (r.cpu k) (λ e. ap r.cpu (sym (eq-same k c.cpu e))) d.0;
     }
 
 pub stored_falls : StoredFalls
 stored_falls l s t c h n = elim (h.on.answers) [
   | inl p ↦ absurd (n p.reply)
-  | inr p ↦ subst (λ r. RoomsFall c s.rooms r) (sym (ap (λ (u : Reference). u.rooms) h.next ∙ ap (put_rooms (names c.step) c.slot c.cpu s.rooms) p.rooms)) (stored-falls c s.rooms p.room)
+  | inr p ↦ subst (λ r. RoomsFall c s.rooms r)
+      (sym (ap (λ (u : Reference). u.rooms) h.next ∙ ap (put_rooms (names c.step) c.slot c.cpu s.rooms) p.rooms))
+      (stored-falls c s.rooms p.room)
 ]
 
 stored-not-full : (reply : Reply) → IsStored reply → reply ≢ Refused LogFull
 stored-not-full reply h e = let bad : ⊥ = subst IsStored e h in bad
 
 -- one log over a run
-told : (room : Rooms → ℕ) (test : Call → Bool) → ((c : Call) (r q : Rooms) → RoomsFall c r q → room q + one (test c) ≡ room r) → (l : Layout) (cs : List Call) (s t : Reference) → Runs (Steps l) s cs t → All (λ c. IsStored c.reply) cs → room t.rooms + length (filter test cs) ≡ room s.rooms
-told room test one-call l [] s t run all = ap (λ n. n + 0) (ap (λ (u : Reference). room u.rooms) (sym run)) ∙ omega arith
+told : (room : Rooms → ℕ) (test : Call → Bool)
+    → ((c : Call) (r q : Rooms) → RoomsFall c r q → room q + one (test c) ≡ room r)
+    → (l : Layout) (cs : List Call) (s t : Reference)
+    → Runs (Steps l) s cs t
+    → All (λ c. IsStored c.reply) cs
+    → room t.rooms + length (filter test cs) ≡ room s.rooms
+told room test one-call l [] s t run all =
+    ap (λ n. n + 0) (ap (λ (u : Reference). room u.rooms) (sym run)) ∙ omega arith
 told room test one-call l (c ∷ cs) s t run all =
-    let more : room t.rooms + length (filter test cs) ≡ room run.0.rooms = told room test one-call l cs run.0 t run.2 (λ k d less. all (suc k) d (omega arith)) in
-    let first : room run.0.rooms + one (test c) ≡ room s.rooms = one-call c s.rooms run.0.rooms (stored_falls l s run.0 c run.1 (stored-not-full c.reply (all 0 c (omega arith)))) in
+    let more : room t.rooms + length (filter test cs) ≡ room run.0.rooms =
+    told room test one-call l cs run.0 t run.2 (λ k d less. all (suc k) d (omega arith)) in
+    let first : room run.0.rooms + one (test c) ≡ room s.rooms =
+    one-call c s.rooms run.0.rooms
+    (stored_falls l s run.0 c run.1 (stored-not-full c.reply (all 0 c (omega arith)))) in
     let size : length (filter test (c ∷ cs)) ≡ one (test c) + length (filter test cs) = size-of (test c) refl in
     omega arith
   where
     size-of : (b : Bool) → test c ≡ b → length (filter test (c ∷ cs)) ≡ one b + length (filter test cs)
-    size-of true e = let same : length (filter test (c ∷ cs)) ≡ length (c ∷ filter test cs) = ap length (filter-true test c cs e) in same ∙ omega arith
-    size-of false e = let same : length (filter test (c ∷ cs)) ≡ length (filter test cs) = ap length (filter-false test c cs e) in omega arith
+    size-of true e = let same : length (filter test (c ∷ cs)) ≡ length (c ∷ filter test cs) =
+        ap length (filter-true test c cs e) in
+        same ∙ omega arith
+    size-of false e = let same : length (filter test (c ∷ cs)) ≡ length (filter test cs) =
+        ap length (filter-false test c cs e) in
+        omega arith
 
 pub run_rooms : RunRooms
 run_rooms l cs t run all = record {

@@ -17,7 +17,19 @@ share_hyp_enough = (refl, refl)
 
 pub share_hyp_refused : ShareHypRefused
 unfolding computing
-share_hyp_refused = (refuses refl, refuses refl, refuses refl, refuses refl, refuses refl, refuses refl, refuses refl, refuses refl, refuses refl, refuses refl, refuses refl)
+share_hyp_refused = (
+  refuses refl,
+  refuses refl,
+  refuses refl,
+  refuses refl,
+  refuses refl,
+  refuses refl,
+  refuses refl,
+  refuses refl,
+  refuses refl,
+  refuses refl,
+  refuses refl,
+)
 
 pub unshare_hyp_made : UnshareHypMade
 unfolding computing
@@ -29,7 +41,8 @@ unshare_hyp_removes = (refl, refl, refl, refl, refl)
 
 pub unshare_hyp_refused : UnshareHypRefused
 unfolding computing
-unshare_hyp_refused = (refuses refl, refuses refl, refuses refl, refuses refl, refuses refl, refuses refl, refuses refl, refuses refl)
+unshare_hyp_refused =
+    (refuses refl, refuses refl, refuses refl, refuses refl, refuses refl, refuses refl, refuses refl, refuses refl)
 
 pub donate_hyp_made : DonateHypMade
 unfolding computing
@@ -41,7 +54,17 @@ donate_hyp_block = (refl, refl, refl, refl)
 
 pub donate_hyp_refused : DonateHypRefused
 unfolding computing
-donate_hyp_refused = (refuses refl, refuses refl, refuses refl, refuses refl, refuses refl, refuses refl, refuses refl, refuses refl, refuses refl)
+donate_hyp_refused = (
+  refuses refl,
+  refuses refl,
+  refuses refl,
+  refuses refl,
+  refuses refl,
+  refuses refl,
+  refuses refl,
+  refuses refl,
+  refuses refl,
+)
 
 pub hyp_donate_host_made : HypDonateHostMade
 unfolding computing
@@ -57,4 +80,14 @@ hyp_donate_host_removes = (refl, refl, refl, refl)
 
 pub hyp_donate_host_refused : HypDonateHostRefused
 unfolding computing
-hyp_donate_host_refused = (refuses refl, refuses refl, refuses refl, refuses refl, refuses refl, refuses refl, refuses refl, refuses refl, refuses refl)
+hyp_donate_host_refused = (
+  refuses refl,
+  refuses refl,
+  refuses refl,
+  refuses refl,
+  refuses refl,
+  refuses refl,
+  refuses refl,
+  refuses refl,
+  refuses refl,
+)

@@ -46,11 +46,15 @@ first-same e = ap (λ p. p.0) e
 pub second-same : {A B : Type 0} {p q : A × B} → p ≡ q → p.1 ≡ q.1
 second-same e = ap (λ p. p.1) e
 
-guest_at-same : (g g' : ℕ → Guest) (slot : Option ℕ) → ((v : ℕ) → is_slot slot v ≡ true → g' v ≡ g v) → guest_at g' slot ≡ guest_at g slot
+guest_at-same : (g g' : ℕ → Guest) (slot : Option ℕ)
+    → ((v : ℕ) → is_slot slot v ≡ true → g' v ≡ g v)
+    → guest_at g' slot ≡ guest_at g slot
 guest_at-same g g' None h = refl
 guest_at-same g g' (Some v) h = h v (eq-self v)
 
-room_at-same : (g g' : ℕ → ℕ) (slot : Option ℕ) → ((v : ℕ) → is_slot slot v ≡ true → g' v ≡ g v) → room_at g' slot ≡ room_at g slot
+room_at-same : (g g' : ℕ → ℕ) (slot : Option ℕ)
+    → ((v : ℕ) → is_slot slot v ≡ true → g' v ≡ g v)
+    → room_at g' slot ≡ room_at g slot
 room_at-same g g' None h = refl
 room_at-same g g' (Some v) h = h v (eq-self v)
 
@@ -59,7 +63,8 @@ pub used-same : (c : Call) (s t : Reference) → Agree c s t → used_by c t ≡
 unfolding used_of make_used
 used-same c s t h = same4 make_used
     (if-same (uses_vms (names c.step)) t.contents.vms s.contents.vms no_vms (λ e. first-same (h.vms e)))
-    (if-same (uses_shared (names c.step) c.slot) t.contents.shared s.contents.shared no_shared (λ e. first-same (h.shared e)))
+    (if-same (uses_shared (names c.step) c.slot) t.contents.shared s.contents.shared no_shared
+    (λ e. first-same (h.shared e)))
     (guest_at-same s.contents.guest t.contents.guest c.slot (λ v e. first-same (h.guest v e)))
     (first-same h.cpu)
 
@@ -71,15 +76,21 @@ rooms-same c s t h = same4 make_rooms
     (room_at-same s.rooms.guest t.rooms.guest c.slot (λ v e. second-same (h.guest v e)))
     (second-same h.cpu)
 
-put_guest-used : (g g' : ℕ → Guest) (slot : Option ℕ) (x : Guest) (v : ℕ) → is_slot slot v ≡ true → put_guest g' slot x v ≡ put_guest g slot x v
+put_guest-used : (g g' : ℕ → Guest) (slot : Option ℕ) (x : Guest) (v : ℕ)
+    → is_slot slot v ≡ true
+    → put_guest g' slot x v ≡ put_guest g slot x v
 put_guest-used g g' None x v h = cc
 put_guest-used g g' (Some u) x v h = if-either (v == u) x (g' v) (g v) h
 
-put_room-used : (g g' : ℕ → ℕ) (slot : Option ℕ) (x v : ℕ) → is_slot slot v ≡ true → put_room g' slot x v ≡ put_room g slot x v
+put_room-used : (g g' : ℕ → ℕ) (slot : Option ℕ) (x v : ℕ)
+    → is_slot slot v ≡ true
+    → put_room g' slot x v ≡ put_room g slot x v
 put_room-used g g' None x v h = cc
 put_room-used g g' (Some u) x v h = if-either (v == u) x (g' v) (g v) h
 
-put_guest-other : (g : ℕ → Guest) (slot : Option ℕ) (x : Guest) (v : ℕ) → is_slot slot v ≡ false → put_guest g slot x v ≡ g v
+put_guest-other : (g : ℕ → Guest) (slot : Option ℕ) (x : Guest) (v : ℕ)
+    → is_slot slot v ≡ false
+    → put_guest g slot x v ≡ g v
 put_guest-other g None x v h = refl
 put_guest-other g (Some u) x v h = if-false (v == u) x (g v) h
 
@@ -88,23 +99,40 @@ put_room-other g None x v h = refl
 put_room-other g (Some u) x v h = if-false (v == u) x (g v) h
 
 -- states in which the same stands in place of what a call uses agree on it
-pub agree-with_used : (c : Call) (s s' : Reference) (x : Used) (r : UsedRooms) → Agree c (with_used c s x r) (with_used c s' x r)
+pub agree-with_used : (c : Call) (s s' : Reference) (x : Used) (r : UsedRooms)
+    → Agree c (with_used c s x r) (with_used c s' x r)
 unfolding put_back put_rooms
 agree-with_used c s s' x r = record {
-  vms = λ h. same2 pair (if-either (uses_vms (names c.step)) x.vms s'.contents.vms s.contents.vms h) (if-either (uses_vms (names c.step)) r.vms s'.rooms.vms s.rooms.vms h);
-  shared = λ h. same2 pair (if-either (uses_shared (names c.step) c.slot) x.shared s'.contents.shared s.contents.shared h) (if-either (uses_shared (names c.step) c.slot) r.shared s'.rooms.shared s.rooms.shared h);
-  guest = λ v h. same2 pair (put_guest-used s.contents.guest s'.contents.guest c.slot x.guest v h) (put_room-used s.rooms.guest s'.rooms.guest c.slot r.guest v h);
-  cpu = same2 pair (if-either (c.cpu == c.cpu) x.cpu (s'.contents.cpu c.cpu) (s.contents.cpu c.cpu) (eq-self c.cpu)) (if-either (c.cpu == c.cpu) r.cpu (s'.rooms.cpu c.cpu) (s.rooms.cpu c.cpu) (eq-self c.cpu));
+  vms =
+      λ h. same2 pair (if-either (uses_vms (names c.step)) x.vms s'.contents.vms s.contents.vms h)
+      (if-either (uses_vms (names c.step)) r.vms s'.rooms.vms s.rooms.vms h);
+  shared =
+      λ h. same2 pair (if-either (uses_shared (names c.step) c.slot) x.shared s'.contents.shared s.contents.shared h)
+      (if-either (uses_shared (names c.step) c.slot) r.shared s'.rooms.shared s.rooms.shared h);
+  guest =
+      λ v h. same2 pair (put_guest-used s.contents.guest s'.contents.guest c.slot x.guest v h)
+      (put_room-used s.rooms.guest s'.rooms.guest c.slot r.guest v h);
+  cpu =
+      same2 pair (if-either (c.cpu == c.cpu) x.cpu (s'.contents.cpu c.cpu) (s.contents.cpu c.cpu) (eq-self c.cpu))
+      (if-either (c.cpu == c.cpu) r.cpu (s'.rooms.cpu c.cpu) (s.rooms.cpu c.cpu) (eq-self c.cpu));
 }
 
 -- all that a call doesn't use stays where something stands in place of what it uses
 pub beside-with_used : (c : Call) (s : Reference) (x : Used) (r : UsedRooms) → AgreeBeside c s (with_used c s x r)
 unfolding put_back put_rooms
 beside-with_used c s x r = record {
-  vms = λ h. same2 pair (if-false (uses_vms (names c.step)) x.vms s.contents.vms h) (if-false (uses_vms (names c.step)) r.vms s.rooms.vms h);
-  shared = λ h. same2 pair (if-false (uses_shared (names c.step) c.slot) x.shared s.contents.shared h) (if-false (uses_shared (names c.step) c.slot) r.shared s.rooms.shared h);
-  guest = λ v h. same2 pair (put_guest-other s.contents.guest c.slot x.guest v h) (put_room-other s.rooms.guest c.slot r.guest v h);
-  cpu = λ cpu h. same2 pair (if-false (cpu == c.cpu) x.cpu (s.contents.cpu cpu) (eq-other cpu c.cpu h)) (if-false (cpu == c.cpu) r.cpu (s.rooms.cpu cpu) (eq-other cpu c.cpu h));
+  vms =
+      λ h. same2 pair (if-false (uses_vms (names c.step)) x.vms s.contents.vms h)
+      (if-false (uses_vms (names c.step)) r.vms s.rooms.vms h);
+  shared =
+      λ h. same2 pair (if-false (uses_shared (names c.step) c.slot) x.shared s.contents.shared h)
+      (if-false (uses_shared (names c.step) c.slot) r.shared s.rooms.shared h);
+  guest =
+      λ v h. same2 pair (put_guest-other s.contents.guest c.slot x.guest v h)
+      (put_room-other s.rooms.guest c.slot r.guest v h);
+  cpu =
+      λ cpu h. same2 pair (if-false (cpu == c.cpu) x.cpu (s.contents.cpu cpu) (eq-other cpu c.cpu h))
+      (if-false (cpu == c.cpu) r.cpu (s.rooms.cpu cpu) (eq-other cpu c.cpu h));
 }
 
 pub step_changes : StepChanges
@@ -112,14 +140,22 @@ step_changes l s t c h = subst (AgreeBeside c s) (sym h.next) (beside-with_used 
 
 pub step_reads : StepReads
 step_reads l s t s' c a h =
-    let there : StepsOn l c (used_by c s') (rooms_by c s) h.after h.left = subst (λ x. StepsOn l c x (rooms_by c s) h.after h.left) (sym (used-same c s s' a)) h.on in
-    let on : StepsOn l c (used_by c s') (rooms_by c s') h.after h.left = subst (λ r. StepsOn l c (used_by c s') r h.after h.left) (sym (rooms-same c s s' a)) there in
-    (with_used c s' h.after h.left, record { after = h.after; left = h.left; on = on; next = refl }, subst (λ u. Agree c u (with_used c s' h.after h.left)) (sym h.next) (agree-with_used c s s' h.after h.left))
+    let there : StepsOn l c (used_by c s') (rooms_by c s) h.after h.left =
+    subst (λ x. StepsOn l c x (rooms_by c s) h.after h.left) (sym (used-same c s s' a)) h.on in
+    let on : StepsOn l c (used_by c s') (rooms_by c s') h.after h.left =
+    subst (λ r. StepsOn l c (used_by c s') r h.after h.left) (sym (rooms-same c s s' a)) there in (
+      with_used c s' h.after h.left,
+      record { after = h.after; left = h.left; on = on; next = refl },
+      subst (λ u. Agree c u (with_used c s' h.after h.left)) (sym h.next) (agree-with_used c s s' h.after h.left),
+    )
 
 -- one answer leads to one state
 
 module _ (l : Layout) (cpu : ℕ) (slot : Option ℕ) (step : Step) where
-  answered-once : (w : Bool) (x : Used) (reply : Reply) (y z : Used) → Answered l cpu slot step w x reply y → Answered l cpu slot step w x reply z → y ≡ z
+  answered-once : (w : Bool) (x : Used) (reply : Reply) (y z : Used)
+      → Answered l cpu slot step w x reply y
+      → Answered l cpu slot step w x reply z
+      → y ≡ z
   answered-once w x reply y z (inl p) (inl q) = p.next ∙ sym q.next
   answered-once w x reply y z (inl p) (inr (inl q)) = let e : None ≡ Some q.why = sym p.passes ∙ q.fail in cc
   answered-once w x reply y z (inl p) (inr (inr q)) = let e = sym p.reply_is ∙ q.reply_is in cc
@@ -131,26 +167,36 @@ module _ (l : Layout) (cpu : ℕ) (slot : Option ℕ) (step : Step) where
   answered-once w x reply y z (inr (inr p)) (inr (inr q)) = p.next ∙ sym q.next
 
   -- the function's answer is one
-  answer-is : (w : Bool) (x : Used) → Answered l cpu slot step w x (answer l cpu slot step x).0 (answer l cpu slot step x).1
+  answer-is : (w : Bool) (x : Used)
+      → Answered l cpu slot step w x (answer l cpu slot step x).0 (answer l cpu slot step x).1
   unfolding answer
   answer-is w x = go (fails l cpu slot step x) refl
     where
-      go : (o : Option Refusal) → fails l cpu slot step x ≡ o → Answered l cpu slot step w x (answer l cpu slot step x).0 (answer l cpu slot step x).1
+      go : (o : Option Refusal)
+          → fails l cpu slot step x ≡ o
+          → Answered l cpu slot step w x (answer l cpu slot step x).0 (answer l cpu slot step x).1
       go (Some why) e = inr (inl (record { why = why; fail = e; reply_is = rw (e, answer); next = rw (e, answer) }))
       go None e = inl (record { passes = e; reply_is = rw (e, answer); next = rw (e, answer) })
 
   -- the reply is the function's, but for want of memory
-  answer-told : (w : Bool) (x : Used) (reply : Reply) (y : Used) → Answered l cpu slot step w x reply y → reply ≢ Refused NoMemory → reply ≡ (answer l cpu slot step x).0
+  answer-told : (w : Bool) (x : Used) (reply : Reply) (y : Used)
+      → Answered l cpu slot step w x reply y
+      → reply ≢ Refused NoMemory
+      → reply ≡ (answer l cpu slot step x).0
   unfolding answer
   answer-told w x reply y (inl p) n = rw (p.passes, answer) p.reply_is
   answer-told w x reply y (inr (inl p)) n = rw (p.fail, answer) p.reply_is
   answer-told w x reply y (inr (inr p)) n = absurd (n p.reply_is)
 
-answers-once : (l : Layout) (c : Call) (x : Used) (r : UsedRooms) (y : Used) (q : UsedRooms) (z : Used) (p : UsedRooms) → FindsFull c x r y q ⊎ IsStoredAnswer l c x r y q → FindsFull c x r z p ⊎ IsStoredAnswer l c x r z p → (y ≡ z) × (q ≡ p)
+answers-once : (l : Layout) (c : Call) (x : Used) (r : UsedRooms) (y : Used) (q : UsedRooms) (z : Used) (p : UsedRooms)
+    → FindsFull c x r y q ⊎ IsStoredAnswer l c x r y q
+    → FindsFull c x r z p ⊎ IsStoredAnswer l c x r z p
+    → (y ≡ z) × (q ≡ p)
 answers-once l c x r y q z p (inl a) (inl b) = (a.next ∙ sym b.next, a.rooms ∙ sym b.rooms)
 answers-once l c x r y q z p (inl a) (inr b) = let e : true ≡ false = sym a.full ∙ b.room in cc
 answers-once l c x r y q z p (inr a) (inl b) = let e : true ≡ false = sym b.full ∙ a.room in cc
-answers-once l c x r y q z p (inr a) (inr b) = (answered-once l c.cpu c.slot c.step true x c.reply y z a.answered b.answered, a.rooms ∙ sym b.rooms)
+answers-once l c x r y q z p (inr a) (inr b) =
+    (answered-once l c.cpu c.slot c.step true x c.reply y z a.answered b.answered, a.rooms ∙ sym b.rooms)
 
 -- one reply leads to one state
 pub step_once : StepOnce
@@ -165,11 +211,15 @@ step_agrees l s t s' t' c a h k =
 
 -- what the function gives by the test of the logs
 
-predict-full : (l : Layout) (cpu : ℕ) (slot : Option ℕ) (step : Step) (x : Used) (r : UsedRooms) → is_full (names step) slot r ≡ true → predict l cpu slot step x r ≡ (Refused LogFull, x, r)
+predict-full : (l : Layout) (cpu : ℕ) (slot : Option ℕ) (step : Step) (x : Used) (r : UsedRooms)
+    → is_full (names step) slot r ≡ true
+    → predict l cpu slot step x r ≡ (Refused LogFull, x, r)
 unfolding predict
 predict-full l cpu slot step x r f = simp f
 
-predict-stored : (l : Layout) (cpu : ℕ) (slot : Option ℕ) (step : Step) (x : Used) (r : UsedRooms) → is_full (names step) slot r ≡ false → predict l cpu slot step x r ≡ ((answer l cpu slot step x).0, (answer l cpu slot step x).1, stored r)
+predict-stored : (l : Layout) (cpu : ℕ) (slot : Option ℕ) (step : Step) (x : Used) (r : UsedRooms)
+    → is_full (names step) slot r ≡ false
+    → predict l cpu slot step x r ≡ ((answer l cpu slot step x).0, (answer l cpu slot step x).1, stored r)
 unfolding predict
 predict-stored l cpu slot step x r f = simp f
 
@@ -182,10 +232,18 @@ predict-is : (l : Layout) (cpu number : ℕ) (slot : Option ℕ) (step : Step) (
     FindsFull c x r a.1 a.2 ⊎ IsStoredAnswer l c x r a.1 a.2
 unfolding call_of
 predict-is l cpu number slot step x r = elim (both (is_full (names step) slot r)) [
-  | inl f ↦ let e = predict-full l cpu slot step x r f in inl (record { full = f; reply = ap (λ p. p.0) e; next = ap (λ p. p.1) e; rooms = ap (λ p. p.2) e })
+  | inl f ↦ let e = predict-full l cpu slot step x r f in
+      inl (record { full = f; reply = ap (λ p. p.0) e; next = ap (λ p. p.1) e; rooms = ap (λ p. p.2) e })
   | inr f ↦
       let e = predict-stored l cpu slot step x r f in
-      inr (record { room = f; answered = subst (λ (p : Reply × Used × UsedRooms). Answered l cpu slot step true x p.0 p.1) (sym e) (answer-is l cpu slot step true x); rooms = ap (λ p. p.2) e })
+      inr
+      (record {
+        room = f;
+        answered =
+            subst (λ (p : Reply × Used × UsedRooms). Answered l cpu slot step true x p.0 p.1) (sym e)
+            (answer-is l cpu slot step true x);
+        rooms = ap (λ p. p.2) e;
+      })
 ]
 
 pub step_exists : StepExists
@@ -197,29 +255,42 @@ step_exists l s cpu step =
     let a = predict l cpu slot step x r in
     let number = l.config.log - s.rooms.cpu cpu + 1 in
     let call : Call = call_of cpu number step a.0 slot in
-    let on : StepsOn l call x r a.1 a.2 = record { slot = refl; number = refl; answers = predict-is l cpu number slot step x r } in
+    let on : StepsOn l call x r a.1 a.2 =
+    record { slot = refl; number = refl; answers = predict-is l cpu number slot step x r } in
     (call, refl, refl, refl, record { after = a.1; left = a.2; on = on; next = refl })
 
 -- a call that isn't refused for want of memory has the reply of the rules
-foretold-reply : (l : Layout) (c : Call) (x : Used) (r : UsedRooms) (y : Used) (q : UsedRooms) → StepsOn l c x r y q → c.reply ≢ Refused NoMemory → c.reply ≡ (predict l c.cpu c.slot c.step x r).0
+foretold-reply : (l : Layout) (c : Call) (x : Used) (r : UsedRooms) (y : Used) (q : UsedRooms)
+    → StepsOn l c x r y q
+    → c.reply ≢ Refused NoMemory
+    → c.reply ≡ (predict l c.cpu c.slot c.step x r).0
 foretold-reply l c x r y q h n = elim (h.answers) [
   | inl p ↦ p.reply ∙ sym (ap (λ p. p.0) (predict-full l c.cpu c.slot c.step x r p.full))
-  | inr p ↦ answer-told l c.cpu c.slot c.step true x c.reply y p.answered n ∙ sym (ap (λ p. p.0) (predict-stored l c.cpu c.slot c.step x r p.room))
+  | inr p ↦ answer-told l c.cpu c.slot c.step true x c.reply y p.answered n
+      ∙ sym (ap (λ p. p.0) (predict-stored l c.cpu c.slot c.step x r p.room))
 ]
 
 -- the reply of the rules by the CPU, the slot and the step
 reply_of : Layout → Reference → ℕ → Option ℕ → Step → Reply
-reply_of l s cpu slot step = (predict l cpu slot step (used_of (names step) slot cpu s.contents) (rooms_of (names step) slot cpu s.rooms)).0
+reply_of l s cpu slot step =
+    (predict l cpu slot step (used_of (names step) slot cpu s.contents) (rooms_of (names step) slot cpu s.rooms)).0
 
 -- the call of a step by its CPU and step alone
 the_call : Layout → Reference → ℕ → Step → Call
-the_call l s cpu step = call_of cpu (l.config.log - s.rooms.cpu cpu + 1) step (reply_of l s cpu (guest_slot (s.contents.cpu cpu) step) step) (guest_slot (s.contents.cpu cpu) step)
+the_call l s cpu step =
+    call_of cpu (l.config.log - s.rooms.cpu cpu + 1) step
+    (reply_of l s cpu (guest_slot (s.contents.cpu cpu) step) step) (guest_slot (s.contents.cpu cpu) step)
 
-the_call-is : (l : Layout) (s t : Reference) (c : Call) → Steps l s c t → c.reply ≢ Refused NoMemory → c ≡ the_call l s c.cpu c.step
+the_call-is : (l : Layout) (s t : Reference) (c : Call)
+    → Steps l s c t
+    → c.reply ≢ Refused NoMemory
+    → c ≡ the_call l s c.cpu c.step
 unfolding used_of rooms_of call_of the_call reply_of
 the_call-is l s t c h n =
     let e : c.slot ≡ guest_slot (s.contents.cpu c.cpu) c.step = h.on.slot in
-    let reply : c.reply ≡ reply_of l s c.cpu (guest_slot (s.contents.cpu c.cpu) c.step) c.step = foretold-reply l c (used_by c s) (rooms_by c s) h.after h.left h.on n ∙ ap (λ o. reply_of l s c.cpu o c.step) e in
+    let reply : c.reply ≡ reply_of l s c.cpu (guest_slot (s.contents.cpu c.cpu) c.step) c.step =
+    foretold-reply l c (used_by c s) (rooms_by c s) h.after h.left h.on n
+    ∙ ap (λ o. reply_of l s c.cpu o c.step) e in
     same3 (λ number reply slot. call_of c.cpu number c.step reply slot) h.on.number reply e
 
 pub reply_once : ReplyOnce
@@ -266,7 +337,10 @@ rooms-self c s = same4 all_of
     (fun_ext (put_at-same (λ (k : ℕ). k) s.rooms.cpu c.cpu (s.rooms.cpu c.cpu) refl))
 
 -- what a refused call leaves
-refused-after : (l : Layout) (c : Call) (x : Used) (r : UsedRooms) (y : Used) (q : UsedRooms) (why : Refusal) → FindsFull c x r y q ⊎ IsStoredAnswer l c x r y q → c.reply ≡ Refused why → y ≡ x
+refused-after : (l : Layout) (c : Call) (x : Used) (r : UsedRooms) (y : Used) (q : UsedRooms) (why : Refusal)
+    → FindsFull c x r y q ⊎ IsStoredAnswer l c x r y q
+    → c.reply ≡ Refused why
+    → y ≡ x
 refused-after l c x r y q why (inl p) e = p.next
 refused-after l c x r y q why (inr p) e = elim (p.answered) [
   | inl m ↦ (let no_value = sym m.reply_is ∙ e in cc)
@@ -274,9 +348,16 @@ refused-after l c x r y q why (inr p) e = elim (p.answered) [
 ]
 
 pub refusal_keeps : RefusalKeeps
-refusal_keeps l s t c why h e = ap (λ (u : Reference). u.contents) h.next ∙ ap (put_back (names c.step) c.slot c.cpu s.contents) (refused-after l c (used_by c s) (rooms_by c s) h.after h.left why h.on.answers e) ∙ used-self c s
+refusal_keeps l s t c why h e =
+    ap (λ (u : Reference). u.contents) h.next
+    ∙ ap (put_back (names c.step) c.slot c.cpu s.contents)
+    (refused-after l c (used_by c s) (rooms_by c s) h.after h.left why h.on.answers e)
+    ∙ used-self c s
 
-test-room : (b : Bool) (why : Refusal) (rest : Option Refusal) → why ≢ LogFull → rest ≢ Some LogFull → (if b then Some why else rest) ≢ Some LogFull
+test-room : (b : Bool) (why : Refusal) (rest : Option Refusal)
+    → why ≢ LogFull
+    → rest ≢ Some LogFull
+    → (if b then Some why else rest) ≢ Some LogFull
 test-room true why rest p q = λ h. let e : why ≡ LogFull = cc in p e
 test-room false why rest p q = q
 
@@ -287,16 +368,28 @@ either-room None rest p q = q
 -- no failing test is answered as a full log is
 refusal-room : (depth : ℕ) (r : Rule) (lacks : Bool) (x : Used) → refusal depth r lacks x ≢ Some LogFull
 unfolding refusal
-refusal-room depth r lacks x = either-room (first_test r lacks) (if is_short depth r.changes x then Some NoPool else None)
-    (test-room (not r.valid.passes) Invalid _ (λ h. cc) (test-room (lacks || not r.has_vm.passes) NoVm _ (λ h. cc) (test-room (not r.ready.passes) Busy _ (λ h. cc) (test-room (not r.allowed.passes) Perm None (λ h. cc) (λ h. cc)))))
+refusal-room depth r lacks x =
+    either-room (first_test r lacks) (if is_short depth r.changes x then Some NoPool else None)
+    (test-room (not r.valid.passes) Invalid _ (λ h. cc)
+    (test-room (lacks || not r.has_vm.passes) NoVm _ (λ h. cc)
+    (test-room (not r.ready.passes) Busy _ (λ h. cc)
+    (test-room (not r.allowed.passes) Perm None (λ h. cc) (λ h. cc)))))
     (test-room (is_short depth r.changes x) NoPool None (λ h. cc) (λ h. cc))
 
 -- an answer isn't LogFull
-pub answered-room : (l : Layout) (cpu : ℕ) (slot : Option ℕ) (step : Step) (w : Bool) (x : Used) (reply : Reply) (y : Used) → Answered l cpu slot step w x reply y → reply ≢ Refused LogFull
+pub answered-room : (l : Layout) (cpu : ℕ) (slot : Option ℕ) (step : Step) (w : Bool) (x : Used) (reply : Reply)
+    (y : Used)
+    → Answered l cpu slot step w x reply y
+    → reply ≢ Refused LogFull
 unfolding fails
 answered-room l cpu slot step w x reply y (inl p) e = let no_value = sym p.reply_is ∙ e in cc
-answered-room l cpu slot step w x reply y (inr (inl p)) e = let same : Refused p.why ≡ Refused LogFull = sym p.reply_is ∙ e in let one : p.why ≡ LogFull = cc in refusal-room l.depth _ _ x (p.fail ∙ ap Some one)
-answered-room l cpu slot step w x reply y (inr (inr p)) e = let same : Refused NoMemory ≡ Refused LogFull = sym p.reply_is ∙ e in cc
+answered-room l cpu slot step w x reply y (inr (inl p)) e = let same : Refused p.why ≡ Refused LogFull =
+    sym p.reply_is ∙ e in
+    let one : p.why ≡ LogFull = cc in
+    refusal-room l.depth _ _ x (p.fail ∙ ap Some one)
+answered-room l cpu slot step w x reply y (inr (inr p)) e = let same : Refused NoMemory ≡ Refused LogFull =
+    sym p.reply_is ∙ e in
+    cc
 
 pub log_full_keeps : LogFullKeeps
 log_full_keeps l s t c h e = elim (h.on.answers) [

@@ -29,7 +29,19 @@ vcpu_load_made = (refl, (refl, refl), refl, refl, refl, refl)
 
 pub vcpu_load_refused : VcpuLoadRefused
 unfolding computing
-vcpu_load_refused = (refuses refl, refuses refl, refuses refl, refuses refl, refuses refl, refuses refl, refuses refl, refuses refl, refuses refl, refuses refl, refuses refl)
+vcpu_load_refused = (
+  refuses refl,
+  refuses refl,
+  refuses refl,
+  refuses refl,
+  refuses refl,
+  refuses refl,
+  refuses refl,
+  refuses refl,
+  refuses refl,
+  refuses refl,
+  refuses refl,
+)
 
 pub vcpu_put_made : VcpuPutMade
 unfolding computing
@@ -45,7 +57,17 @@ teardown_made = (refl, (refl, refl), refl, refl, refl, refl, refl, refl)
 
 pub teardown_refused : TeardownRefused
 unfolding computing
-teardown_refused = (refuses refl, refuses refl, refuses refl, refuses refl, refuses refl, refuses refl, refuses refl, refuses refl, refuses refl)
+teardown_refused = (
+  refuses refl,
+  refuses refl,
+  refuses refl,
+  refuses refl,
+  refuses refl,
+  refuses refl,
+  refuses refl,
+  refuses refl,
+  refuses refl,
+)
 
 pub vm_release_made : VmReleaseMade
 unfolding computing

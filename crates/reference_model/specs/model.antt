@@ -1,4 +1,5 @@
--- What the model is: the state, the rules, the step, boot, runs and histories, and what code's contracts cite of them.
+-- What the model is: the state, the rules, the step, boot, runs and histories, and what code's
+-- contracts cite of them.
 pub mod State
 pub mod Changes
 pub mod Parts

@@ -36,13 +36,16 @@ of_each P Greater a b c pa pb pc = pc
 put_flat : (k : List ℕ) (d : Data) → depth d ≡ 0 → (all : Members) → AreFlat all → AreFlat (put k d all)
 put_flat k d low no_members flat = (low, tt)
 put_flat k d low (member l e more) flat =
-    of_each AreFlat (slice_cmp nat_cmp k l) (member k d (member l e more)) (member l d more) (member l e (put k d more)) (low, flat) (low, flat.1) (flat.0, put_flat k d low more flat.1)
+    of_each AreFlat (slice_cmp nat_cmp k l) (member k d (member l e more)) (member l d more)
+    (member l e (put k d more)) (low, flat) (low, flat.1) (flat.0, put_flat k d low more flat.1)
 
 if_some : {X : Type 0} (b : Bool) (o : Option X) (x : X) → (if b then o else None) ≡ Some x → o ≡ Some x
 if_some true o x h = h
 if_some false o x h = cc
 
-map_some : {X Y : Type 0} (f : X → Y) (o : Option X) (y : Y) → option_map f o ≡ Some y → (x : X) × (o ≡ Some x) × (f x ≡ y)
+map_some : {X Y : Type 0} (f : X → Y) (o : Option X) (y : Y)
+    → option_map f o ≡ Some y
+    → (x : X) × (o ≡ Some x) × (f x ≡ y)
 map_some f None y h = cc
 map_some f (Some x) y h = (x, refl, some_is h)
 
@@ -50,18 +53,25 @@ text_flat : (text : List ℕ) (d : Data) → text_data text ≡ Some d → depth
 text_flat text d h = subst (λ x. depth x ≡ 0) (some_is (if_some (is_utf8 text) (Some (string text)) d h)) refl
 
 datum_flat : (kind : Kind) (text : List ℕ) (d : Data) → datum kind text ≡ Some d → depth d ≡ 0
-datum_flat Number text d h = subst (λ x. depth x ≡ 0) (map_some (λ value. number (unsigned value)) (decimal_of text) d h).2 refl
+datum_flat Number text d h =
+    subst (λ x. depth x ≡ 0) (map_some (λ value. number (unsigned value)) (decimal_of text) d h).2 refl
 datum_flat Hexadecimal text d h = text_flat text d h
 datum_flat Word text d h = text_flat text d h
 datum_flat (OneOf words) text d h = text_flat text d h
 datum_flat Text text d h = text_flat text d h
 
-filled_flat : (fields : List Field) (text : List ℕ) (set all : Members) → AreFlat set → filled fields text set ≡ Some all → AreFlat all
+filled_flat : (fields : List Field) (text : List ℕ) (set all : Members)
+    → AreFlat set
+    → filled fields text set ≡ Some all
+    → AreFlat all
 filled_flat [] [] set all flat h = subst AreFlat (some_is h) flat
 filled_flat [] (byte ∷ text) set all flat h = cc
 filled_flat (field ∷ fields) text set all flat h =
-    option_and_then_some _ (cut field.stop.now text) all h (λ parts is_cut next. option_and_then_some _ (data_of field.kind parts.0) all next (λ value is_value rest.
-    let low = datum_flat field.kind parts.0 value (if_some (has_kind field.kind parts.0) (datum field.kind parts.0) value is_value) in
+    option_and_then_some _ (cut field.stop.now text) all h
+    (λ parts is_cut next. option_and_then_some _ (data_of field.kind parts.0) all next (λ value is_value rest.
+    let low =
+    datum_flat field.kind parts.0 value
+    (if_some (has_kind field.kind parts.0) (datum field.kind parts.0) value is_value) in
     filled_flat fields parts.1 (put field.name.now value set) all (put_flat field.name.now value low set flat) rest))
 
 -- the member `type` alone
@@ -70,19 +80,29 @@ typed kind = (refl, tt)
 
 form_flat : (form : Form) (line : List ℕ) (found : Data) → form_object form line ≡ Some found → depth found ≡ 1
 form_flat form line found h =
-    let made = map_some object (filled form.fields.now (drop (length form.start.now) line) (put (codes "type") (string form.kind.now) no_members)) found (if_some _ _ found h) in
-    subst (λ x. depth x ≡ 1) made.2 (ap (λ n. suc n) (of_flat made.0 (filled_flat form.fields.now _ _ made.0 (typed form.kind.now) made.1)))
+    let made =
+    map_some object
+    (filled form.fields.now (drop (length form.start.now) line)
+    (put (codes "type") (string form.kind.now) no_members)) found
+    (if_some _ _ found h) in
+    subst (λ x. depth x ≡ 1) made.2
+    (ap (λ n. suc n) (of_flat made.0 (filled_flat form.fields.now _ _ made.0 (typed form.kind.now) made.1)))
 
 bytes_flat : (line : List ℕ) → depth (bytes_object line) ≡ 1
 bytes_flat line =
     let first = put (codes "type") (string (codes "bytes")) no_members in
     let digits = string (encode_lower line) in
-    ap (λ n. suc n) (of_flat (put (codes "hexadecimal") digits first) (put_flat (codes "hexadecimal") digits refl first (typed (codes "bytes"))))
+    ap (λ n. suc n)
+    (of_flat (put (codes "hexadecimal") digits first)
+    (put_flat (codes "hexadecimal") digits refl first (typed (codes "bytes"))))
 
 pub object_flat : (forms : List Form) (line : List ℕ) → depth (object_of forms line) ≡ 1
 object_flat [] line = bytes_flat line
 object_flat (form ∷ forms) line = go (form_object form line) refl (object_flat forms line)
   where
-    go : (o : Option Data) → form_object form line ≡ o → depth (object_of forms line) ≡ 1 → depth (unwrap_or o (object_of forms line)) ≡ 1
+    go : (o : Option Data)
+        → form_object form line ≡ o
+        → depth (object_of forms line) ≡ 1
+        → depth (unwrap_or o (object_of forms line)) ≡ 1
     go None is rest = rest
     go (Some found) is rest = form_flat form line found is

@@ -17,6 +17,10 @@ cut_all (byte ∷ stop) bytes none = no_suc (length stop) ((Decides-eqb (length 
 abbrev pub parts_at : List ℕ → List ℕ → Option ℕ → Option (List ℕ × List ℕ)
 parts_at stop bytes found = option_map (λ place. (take place bytes, drop (place + length stop) bytes)) found
 
-pub cut_by : (stop bytes : List ℕ) (found : Option ℕ) → (length stop == 0) ≡ false → FindsNeedle bytes stop 0 found → cut stop bytes ≡ parts_at stop bytes found
+pub cut_by : (stop bytes : List ℕ) (found : Option ℕ)
+    → (length stop == 0) ≡ false
+    → FindsNeedle bytes stop 0 found
+    → cut stop bytes ≡ parts_at stop bytes found
 cut_by [] bytes found some finds = absurd (false≢true (sym some))
-cut_by (byte ∷ stop) bytes found some finds = ap (parts_at (byte ∷ stop) bytes) (sym (FindsNeedle-value bytes (byte ∷ stop) found finds))
+cut_by (byte ∷ stop) bytes found some finds =
+    ap (parts_at (byte ∷ stop) bytes) (sym (FindsNeedle-value bytes (byte ∷ stop) found finds))

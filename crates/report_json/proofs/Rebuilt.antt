@@ -30,19 +30,26 @@ module _ (hay needle : List ℕ) where
       (λ f. first_occurs n (i + 1) k (sym (ap first_of (cond-false _ _ _ f)) ∙ h)) (cases_Bool (occurs_at hay needle i))
 
 -- the parts of a cut and what they were cut at are all bytes
-pub cut_joins : (stop bytes : List ℕ) (parts : List ℕ × List ℕ) → cut stop bytes ≡ Some parts → bytes ≡ parts.0 ++ (stop ++ parts.1)
+pub cut_joins : (stop bytes : List ℕ) (parts : List ℕ × List ℕ)
+    → cut stop bytes ≡ Some parts
+    → bytes ≡ parts.0 ++ (stop ++ parts.1)
 cut_joins [] bytes parts h = subst (λ (p : List ℕ × List ℕ). bytes ≡ p.0 ++ p.1) (some_is h) (sym (append_none bytes))
 cut_joins (byte ∷ more) bytes parts h = go (first_of (matches bytes stop 0)) refl h
   where
     stop : List ℕ
     stop = byte ∷ more
 
-    go : (o : Option ℕ) → first_of (matches bytes (byte ∷ more) 0) ≡ o → option_map (λ place. (take place bytes, drop (place + length (byte ∷ more)) bytes)) o ≡ Some parts
+    go : (o : Option ℕ)
+        → first_of (matches bytes (byte ∷ more) 0) ≡ o
+        → option_map (λ place. (take place bytes, drop (place + length (byte ∷ more)) bytes)) o ≡ Some parts
         → bytes ≡ parts.0 ++ ((byte ∷ more) ++ parts.1)
     go None is h = cc
     go (Some place) is h =
         subst (λ (p : List ℕ × List ℕ). bytes ≡ p.0 ++ ((byte ∷ more) ++ p.1)) (some_is h)
-        (sym (take-append-drop place bytes) ∙ ap (λ rest. take place bytes ++ rest) (OccursAt-split bytes (byte ∷ more) place (OccursAt-true bytes (byte ∷ more) place (first_occurs bytes (byte ∷ more) _ 0 place is))))
+        (sym (take-append-drop place bytes)
+        ∙ ap (λ rest. take place bytes ++ rest)
+        (OccursAt-split bytes (byte ∷ more) place
+        (OccursAt-true bytes (byte ∷ more) place (first_occurs bytes (byte ∷ more) _ 0 place is))))
 
 -- a text that has just these fields
 pub fits : (fields : List Field) (text : List ℕ) (set all : Members) → filled fields text set ≡ Some all
@@ -50,9 +57,14 @@ pub fits : (fields : List Field) (text : List ℕ) (set all : Members) → fille
 fits [] [] set all h = ([], refl, sym (some_is h))
 fits [] (byte ∷ text) set all h = cc
 fits (field ∷ fields) text set all h =
-    option_and_then_some _ (cut field.stop.now text) all h (λ parts is_cut then. option_and_then_some _ (data_of field.kind parts.0) all then (λ value is_value rest.
-    let more = fits fields parts.1 (put field.name.now value set) all rest in
-    (parts.0 ∷ more.0, cut_joins field.stop.now text parts is_cut ∙ ap (λ r. parts.0 ++ (field.stop.now ++ r)) more.1, (value, is_value, more.2))))
+    option_and_then_some _ (cut field.stop.now text) all h
+    (λ parts is_cut then. option_and_then_some _ (data_of field.kind parts.0) all then (λ value is_value rest.
+    let more = fits fields parts.1 (put field.name.now value set) all rest in (
+      parts.0 ∷ more.0,
+      cut_joins field.stop.now text parts is_cut
+          ∙ ap (λ r. parts.0 ++ (field.stop.now ++ r)) more.1,
+      (value, is_value, more.2),
+    )))
 
 pub made : (form : Form) (line : List ℕ) (found : Data) → form_object form line ≡ Some found → IsMade form line found
 made form line found h = go (starts_with nat_eq line form.start.now) refl h
@@ -63,12 +75,27 @@ made form line found h = go (starts_with nat_eq line form.start.now) refl h
     found_in : Option Data
     found_in = option_map object (filled form.fields.now (drop (length form.start.now) line) begun)
 
-    of_all : (o : Option Members) → filled form.fields.now (drop (length form.start.now) line) begun ≡ o → option_map object o ≡ Some found → line ≡ form.start.now ++ drop (length form.start.now) line → IsMade form line found
+    of_all : (o : Option Members)
+        → filled form.fields.now (drop (length form.start.now) line) begun ≡ o
+        → option_map object o ≡ Some found
+        → line ≡ form.start.now ++ drop (length form.start.now) line
+        → IsMade form line found
     of_all None is h starts = cc
     of_all (Some all) is h starts =
         let fit = fits form.fields.now (drop (length form.start.now) line) begun all is in
-        record { texts = fit.0; is_line = starts ∙ ap (λ rest. form.start.now ++ rest) fit.1; all = all; is_object = sym (some_is h); has_values = fit.2 }
+        record {
+          texts = fit.0;
+          is_line = starts
+              ∙ ap (λ rest. form.start.now ++ rest) fit.1;
+          all = all;
+          is_object = sym (some_is h);
+          has_values = fit.2;
+        }
 
-    go : (b : Bool) → starts_with nat_eq line form.start.now ≡ b → (cond b found_in None) ≡ Some found → IsMade form line found
+    go : (b : Bool)
+        → starts_with nat_eq line form.start.now ≡ b
+        → (cond b found_in None) ≡ Some found
+        → IsMade form line found
     go false is h = cc
-    go true is h = of_all _ refl h ((starts_is Decides-eqb line form.start.now (starts_with nat_eq line form.start.now) refl).0 is)
+    go true is h =
+        of_all _ refl h ((starts_is Decides-eqb line form.start.now (starts_with nat_eq line form.start.now) refl).0 is)

@@ -10,4 +10,5 @@ pub text_is : (text : List ℕ) → IsUtf8 text → text_data text ≡ Some (str
 text_is text is = rw (is_utf8-from_IsUtf8 text is) refl
 
 pub text_isnt : (text : List ℕ) → ¬ (IsUtf8 text) → text_data text ≡ None
-text_isnt text isnt = ⊎_elim (λ t. absurd (isnt (IsUtf8-from_is_utf8 text t))) (λ f. rw f refl) (cases_Bool (is_utf8 text))
+text_isnt text isnt =
+    ⊎_elim (λ t. absurd (isnt (IsUtf8-from_is_utf8 text t))) (λ f. rw f refl) (cases_Bool (is_utf8 text))

@@ -14,7 +14,9 @@ use Rattle.report_json.specs.declared.forms.Kind.TheVariants.{Number, Hexadecima
 -- the bytes before the first place of a text, and those behind it; all bytes where it is empty
 abbrev pub cut : List ℕ → List ℕ → Option (List ℕ × List ℕ)
 cut [] bytes = Some (bytes, [])
-cut (byte ∷ stop) bytes = option_map (λ place. (take place bytes, drop (place + length (byte ∷ stop)) bytes)) (first_of (matches bytes (byte ∷ stop) 0))
+cut (byte ∷ stop) bytes =
+    option_map (λ place. (take place bytes, drop (place + length (byte ∷ stop)) bytes))
+    (first_of (matches bytes (byte ∷ stop) 0))
 
 -- a number below 2^53 in decimal
 abbrev pub is_exact : List ℕ → Bool
@@ -53,19 +55,26 @@ abbrev pub filled : List Field → List ℕ → Members → Option Members
 filled [] [] set = Some set
 filled [] (byte ∷ text) set = None
 filled (field ∷ fields) text set =
-    option_and_then (λ parts. option_and_then (λ value. filled fields parts.1 (put field.name.now value set)) (data_of field.kind parts.0))
+    option_and_then
+    (λ parts. option_and_then (λ value. filled fields parts.1 (put field.name.now value set))
+    (data_of field.kind parts.0))
     (cut field.stop.now text)
 
 -- the object of a line of a form: its `type`, and the fields behind the form's start
 abbrev pub form_object : Form → List ℕ → Option Data
 form_object form line =
     if starts_with nat_eq line form.start.now
-    then option_map object (filled form.fields.now (drop (length form.start.now) line) (put (codes "type") (string form.kind.now) no_members))
+    then option_map object
+    (filled form.fields.now (drop (length form.start.now) line)
+    (put (codes "type") (string form.kind.now) no_members))
     else None
 
 -- the object of a line that has no form: its bytes
 abbrev pub bytes_object : List ℕ → Data
-bytes_object line = object (put (codes "hexadecimal") (string (encode_lower line)) (put (codes "type") (string (codes "bytes")) no_members))
+bytes_object line =
+    object
+    (put (codes "hexadecimal") (string (encode_lower line))
+    (put (codes "type") (string (codes "bytes")) no_members))
 
 -- the object of a line: that of the first form that it has
 abbrev pub object_of : List Form → List ℕ → Data

@@ -16,7 +16,10 @@ abbrev pub AreValues : List Field → List (List ℕ) → Members → Members �
 AreValues [] [] set all = all ≡ set
 AreValues [] (text ∷ texts) set all = ⊥
 AreValues (field ∷ fields) [] set all = ⊥
-AreValues (field ∷ fields) (text ∷ texts) set all = (value : Data) × (data_of field.kind text ≡ Some value) × AreValues fields texts (put field.name.now value set) all
+AreValues (field ∷ fields) (text ∷ texts) set all =
+    (value : Data)
+    × (data_of field.kind text ≡ Some value)
+    × AreValues fields texts (put field.name.now value set) all
 
 -- texts of a form's fields, of which the line is made, and of which the object has the values
 pub record IsMade (form : Form) (line : List ℕ) (found : Data) : Type 0 where
@@ -24,4 +27,5 @@ pub record IsMade (form : Form) (line : List ℕ) (found : Data) : Type 0 where
   pub is_line : line ≡ form.start.now ++ line_of form.fields.now texts
   pub all : Members
   pub is_object : found ≡ object all
-  pub has_values : AreValues form.fields.now texts (put (codes "type") (string form.kind.now) no_members) all
+  pub has_values : AreValues form.fields.now texts
+      (put (codes "type") (string form.kind.now) no_members) all

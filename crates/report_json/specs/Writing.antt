@@ -19,18 +19,31 @@ pub record AreHeld (bytes held left : List ℕ) (count : ℕ) (old new : Option 
   pub behind : left ≡ held ++ bytes
   pub silent : new ≡ old
 
--- bytes up to the end of a line, at this place, are taken: with what was held they are the line that is told, and nothing is held
-pub record AreTold (forms : List Form) (place : ℕ) (bytes held left : List ℕ) (count : ℕ) (old new : Option (List ℕ)) : Type 0 where
+-- bytes up to the end of a line, at this place, are taken: with what was held they are the line
+-- that is told, and nothing is held
+pub record AreTold (forms : List Form) (place : ℕ) (bytes held left : List ℕ) (count : ℕ)
+    (old new : Option (List ℕ)) : Type 0 where
   pub through : count ≡ place + 1
   pub told : IsTold forms (held ++ take place bytes) old new
   pub nothing : left ≡ []
 
 -- what comes of bytes by the first end of a line in them (0x0a)
-abbrev pub TakesTo : List Form → Option ℕ → List ℕ → List ℕ → List ℕ → ℕ → Option (List ℕ) → Option (List ℕ) → Type 0
+abbrev pub TakesTo : List Form → Option ℕ → List ℕ → List ℕ → List ℕ → ℕ → Option (List ℕ)
+    → Option (List ℕ) → Type 0
 TakesTo forms None bytes held left count old new = AreHeld bytes held left count old new
-TakesTo forms (Some place) bytes held left count old new = AreTold forms place bytes held left count old new
+TakesTo forms (Some place) bytes held left count old new =
+    AreTold forms place bytes held left count old new
 
 -- the writer took so many of the bytes, where `contents` is what the writer behind it has
-abbrev pub Takes : {W : Type 0} → (W → Option (List ℕ)) → List ℕ → JsonLines W → JsonLines W → ℕ → Type 0
+abbrev pub Takes : {W : Type 0}
+    → (W → Option (List ℕ))
+    → List ℕ
+    → JsonLines W
+    → JsonLines W
+    → ℕ
+    → Type 0
 Takes contents bytes old new count =
-    (end : Option ℕ) × IsFirstByte (is_byte 10) bytes end × TakesTo old.forms.now end bytes old.held.items new.held.items count (contents old.writer) (contents new.writer)
+    (end : Option ℕ)
+    × IsFirstByte (is_byte 10) bytes end
+    × TakesTo old.forms.now end bytes old.held.items new.held.items count (contents old.writer)
+    (contents new.writer)

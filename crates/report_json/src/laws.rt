@@ -7,5 +7,7 @@ ghost use Rattle.report_json.specs.declared.forms.Form.{Form};
 
 /// The object of a line of a form has the values of texts that, each with its stop, behind the form's start are the line.
 pub fn rebuilt()
-    ensures { (form : Form) (line : List ℕ) (found : Data) → form_object form line ≡ Some found → IsMade form line found }
+    ensures { (form : Form) (line : List ℕ) (found : Data)
+        → form_object form line ≡ Some found
+        → IsMade form line found }
 {}

@@ -75,7 +75,9 @@ fn filled(
     text: &[u8],
     members: Map<String, Value>,
 ) -> Result<Option<Map<String, Value>>, AllocError>
-    ensures { IfOk result (λ all. option_map (λ map. members_view map.entries) all ≡ filled_by fields.now text.now (members_view members.entries)) }
+    ensures { IfOk result
+        (λ all. option_map (λ map. members_view map.entries) all
+        ≡ filled_by fields.now text.now (members_view members.entries)) }
 {
     match fields {
         [] => if text.is_empty() {

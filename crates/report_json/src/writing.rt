@@ -68,7 +68,9 @@ impl<W: Write> JsonLines<W> {
     fn tell(&mut self) -> io::Result<()>
         ensures forms { self.new.forms.now ≡ self.old.forms.now }
         ensures held { OnOk result (self.new.held.items ≡ []) }
-        ensures told { OnOk result (IsTold self.old.forms.now self.old.held.items (W.contents self.old.writer) (W.contents self.new.writer)) }
+        ensures told { OnOk result
+            (IsTold self.old.forms.now self.old.held.items (W.contents self.old.writer)
+            (W.contents self.new.writer)) }
     {
         let Ok(mut text) = json_of(self.global, self.forms, self.held.as_slice()) else {
             return Err(Error::from(ErrorKind::OutOfMemory));

@@ -12,7 +12,8 @@ IsDifference before after (Some c) = (c.before ≡ before) × (c.after ≡ after
 
 -- both values some pages further on
 abbrev pub advance_change : {V : Type 0} → (V → ℕ → V) → Change V → ℕ → Change V
-advance_change advance c n = record { before = option_advance advance c.before n; after = option_advance advance c.after n }
+advance_change advance c n =
+    record { before = option_advance advance c.before n; after = option_advance advance c.after n }
 
 -- code reaches both values that far
 abbrev pub CanBoth : {V : Type 0} → (V → ℕ → Type 0) → Change V → ℕ → Type 0
@@ -22,6 +23,15 @@ CanBoth can c n = ForSome c.before (λ v. can v n) × ForSome c.after (λ v. can
 abbrev pub AdvancesApart : {V : Type 0} → (V → ℕ → V) → Type 0
 AdvancesApart {V} advance = (v w : V) (n : ℕ) → advance v n ≡ advance w n → v ≡ w
 
--- what changed between the maps of two lists of runs: of each page at which they differ both values, of no other page
-abbrev pub AreChanges : {V : Type 0} → (V → ℕ → V) → List (Run V) → List (Run V) → List (Run (Change V)) → Type 0
-AreChanges advance before after found = (p : ℕ) → IsDifference (run_map advance before p) (run_map advance after p) (run_map (advance_change advance) found p)
+-- what changed between the maps of two lists of runs: of each page at which they differ both
+-- values, of no other page
+abbrev pub AreChanges : {V : Type 0}
+    → (V → ℕ → V)
+    → List (Run V)
+    → List (Run V)
+    → List (Run (Change V))
+    → Type 0
+AreChanges advance before after found =
+    (p : ℕ)
+    → IsDifference (run_map advance before p) (run_map advance after p)
+    (run_map (advance_change advance) found p)

@@ -66,8 +66,14 @@ fn until<V: Advance>(runs: &[Run<V>], page: u64) -> u64
     requires low { page < 2 ^ 63 }
     ensures above { page < result }
     ensures below { result ≤ 2 ^ 63 }
-    ensures goes_on { (p : ℕ) → page ≤ p → p < result → run_map V.advance runs.now p ≡ option_advance V.advance (run_map V.advance runs.now page) (p - page) }
-    ensures reach { (n : ℕ) → page + n ≤ result → ForSome (run_map V.advance runs.now page) (λ v. V.CanAdvance v n) }
+    ensures goes_on { (p : ℕ)
+        → page ≤ p
+        → p < result
+        → run_map V.advance runs.now p
+        ≡ option_advance V.advance (run_map V.advance runs.now page) (p - page) }
+    ensures reach { (n : ℕ)
+        → page + n ≤ result
+        → ForSome (run_map V.advance runs.now page) (λ v. V.CanAdvance v n) }
 {
     let place = begun(runs, page);
     if place == 0 {

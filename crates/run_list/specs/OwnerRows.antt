@@ -18,7 +18,8 @@ lent_none (Some l) = ap (λ n. Some (record { owner = l.owner; page = n })) (add
 
 lent_more : (l : Option Lent) (a b : ℕ) → advance_lent (advance_lent l a) b ≡ advance_lent l (a + b)
 lent_more None a b = refl
-lent_more (Some l) a b = ap (λ n. Some (record { owner = l.owner; page = n })) (add_assoc l.page a b)
+lent_more (Some l) a b =
+    ap (λ n. Some (record { owner = l.owner; page = n })) (add_assoc l.page a b)
 
 lent_shorter : (l : Option Lent) (a b : ℕ) → a ≤ b → HasLentBelow l b → HasLentBelow l a
 lent_shorter None a b h k = tt
@@ -28,14 +29,19 @@ lent_rest : (l : Option Lent) (a b : ℕ) → HasLentBelow l (a + b) → HasLent
 lent_rest None a b h = tt
 lent_rest (Some l) a b h = omega arith
 
-lent_joint : (l : Option Lent) (a b : ℕ) → HasLentBelow l a → HasLentBelow (advance_lent l a) b → HasLentBelow l (a + b)
+lent_joint : (l : Option Lent) (a b : ℕ)
+    → HasLentBelow l a
+    → HasLentBelow (advance_lent l a) b
+    → HasLentBelow l (a + b)
 lent_joint None a b h k = tt
 lent_joint (Some l) a b h k = omega arith
 
 pub row_laws : AdvanceLaws advance_row HasPageBelow row_eq
 row_laws = record {
   none = λ r. ap (λ l. record { owner = r.owner; lent = l; usage = r.usage }) (lent_none r.lent);
-  more = λ r a b. ap (λ l. record { owner = r.owner; lent = l; usage = r.usage }) (lent_more r.lent a b);
+  more =
+      λ r a b. ap (λ l. record { owner = r.owner; lent = l; usage = r.usage })
+      (lent_more r.lent a b);
   shorter = λ r. lent_shorter r.lent;
   rest = λ r. lent_rest r.lent;
   joint = λ r. lent_joint r.lent;

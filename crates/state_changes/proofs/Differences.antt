@@ -30,19 +30,30 @@ options_same None (Some t) e = absurd (none_apart t e)
 options_same (Some t) None e = absurd (none_apart t (sym e))
 options_same (Some s) (Some t) e = ap Some (target-same s t e)
 
-of_entries : (x y : Option Target) (d : Option (Change Target)) → IsDifference x y d → IsChange IsEntry (entry_of x) (entry_of y) d
+of_entries : (x y : Option Target) (d : Option (Change Target))
+    → IsDifference x y d
+    → IsChange IsEntry (entry_of x) (entry_of y) d
 of_entries x y None h = ap entry_of h
 of_entries x y (Some c) h = (ap entry_of h.0, ap entry_of h.1, λ e. h.2 (options_same x y e))
 
-pub entry_changes : (b a : List PageRun) (old new : List (Run Target)) (d : Option (Change Target)) (p : ℕ) → old ≡ list_runs b → new ≡ list_runs a
-    → IsDifference (run_map advance_target old p) (run_map advance_target new p) d → IsChange IsEntry (map_of b p) (map_of a p) d
+pub entry_changes : (b a : List PageRun) (old new : List (Run Target)) (d : Option (Change Target)) (p : ℕ)
+    → old ≡ list_runs b
+    → new ≡ list_runs a
+    → IsDifference (run_map advance_target old p) (run_map advance_target new p) d
+    → IsChange IsEntry (map_of b p) (map_of a p) d
 entry_changes b a old new d p e f h =
-    let was : entry_of (run_map advance_target old p) ≡ map_of b p = ap (λ (rs : List (Run Target)). entry_of (run_map advance_target rs p)) e ∙ map_listed b p in
-    let is : entry_of (run_map advance_target new p) ≡ map_of a p = ap (λ (rs : List (Run Target)). entry_of (run_map advance_target rs p)) f ∙ map_listed a p in
+    let was : entry_of (run_map advance_target old p) ≡ map_of b p =
+    ap (λ (rs : List (Run Target)). entry_of (run_map advance_target rs p)) e ∙ map_listed b p in
+    let is : entry_of (run_map advance_target new p) ≡ map_of a p =
+    ap (λ (rs : List (Run Target)). entry_of (run_map advance_target rs p)) f ∙ map_listed a p in
     subst (λ (x : Entry). IsChange IsEntry x (map_of a p) d) was
-    (subst (λ (y : Entry). IsChange IsEntry (entry_of (run_map advance_target old p)) y d) is (of_entries (run_map advance_target old p) (run_map advance_target new p) d h))
+    (subst (λ (y : Entry). IsChange IsEntry (entry_of (run_map advance_target old p)) y d) is
+    (of_entries (run_map advance_target old p) (run_map advance_target new p) d h))
 
-pub row_changes : (x y : Option Row) (d : Option (Change Row)) → is_some x ≡ is_some y → IsDifference x y d → IsChange IsRow (unwrap_or x plain_row) (unwrap_or y plain_row) d
+pub row_changes : (x y : Option Row) (d : Option (Change Row))
+    → is_some x ≡ is_some y
+    → IsDifference x y d
+    → IsChange IsRow (unwrap_or x plain_row) (unwrap_or y plain_row) d
 row_changes x y None s h = ap (λ (o : Option Row). unwrap_or o plain_row) h
 row_changes None None (Some c) s h = absurd (h.2 refl)
 row_changes None (Some r) (Some c) s h = absurd (let f : false ≡ true = s in cc)
@@ -60,9 +71,15 @@ lents_apart None None n e = refl
 lents_apart None (Some y) n e = absurd (let f : ◌≡◌ {A = Option Lent} None (advance_lent (Some y) n) = e in cc)
 lents_apart (Some x) None n e = absurd (let f : ◌≡◌ {A = Option Lent} (advance_lent (Some x) n) None = e in cc)
 lents_apart (Some x) (Some y) n e =
-    let f = some_lent (record { owner = x.owner; page = x.page + n }) (record { owner = y.owner; page = y.page + n }) e in
+    let f =
+    some_lent (record { owner = x.owner; page = x.page + n }) (record { owner = y.owner; page = y.page + n }) e in
     let g : x.page + n ≡ y.page + n = ap (λ (l : Lent). l.page) f in
     ap Some (same_lent x y (ap (λ (l : Lent). l.owner) f) (omega (arith, g)))
 
 pub rows_apart : AdvancesApart advance_row
-rows_apart v w n e = λ i. record { owner = ap (λ (r : Row). r.owner) e i; lent = lents_apart v.lent w.lent n (ap (λ (r : Row). r.lent) e) i; usage = ap (λ (r : Row). r.usage) e i }
+rows_apart v w n e =
+    λ i. record {
+      owner = ap (λ (r : Row). r.owner) e i;
+      lent = lents_apart v.lent w.lent n (ap (λ (r : Row). r.lent) e) i;
+      usage = ap (λ (r : Row). r.usage) e i;
+    }

@@ -10,16 +10,24 @@ adds_then P Q a b c (x, p, e) (y, q, f) = (x ++ y, (x, y, p, q, refl), f ∙ ap 
 pub adds_none : (P : ℕ → List ℕ → Type 0) (a b : List ℕ) → b ≡ a → Adds (Each 0 P) a b
 adds_none P a b e = ([], refl, e ∙ sym (append-nil a))
 
-pub adds_next : (P : ℕ → List ℕ → Type 0) (n : ℕ) (a b c : List ℕ) → Adds (Each n P) a b → Adds (P n) b c → Adds (Each (suc n) P) a c
+pub adds_next : (P : ℕ → List ℕ → Type 0) (n : ℕ) (a b c : List ℕ)
+    → Adds (Each n P) a b
+    → Adds (P n) b c
+    → Adds (Each (suc n) P) a c
 adds_next P n a b c x y = adds_then (Each n P) (P n) a b c x y
 
-pub adds_more : (P : ℕ → List ℕ → Type 0) (n : ℕ) (a b c : List ℕ) → Adds (Each n P) a b → Adds (P n) b c → Adds (Each (n + 1) P) a c
-adds_more P n a b c x y = subst (λ k. Adds (Each k P) a c) (let e : suc n ≡ n + 1 = omega arith in e) (adds_next P n a b c x y)
+pub adds_more : (P : ℕ → List ℕ → Type 0) (n : ℕ) (a b c : List ℕ)
+    → Adds (Each n P) a b
+    → Adds (P n) b c
+    → Adds (Each (n + 1) P) a c
+adds_more P n a b c x y =
+    subst (λ k. Adds (Each k P) a c) (let e : suc n ≡ n + 1 = omega arith in e) (adds_next P n a b c x y)
 
 -- each text at most once
 
 pub then_once : (P Q : List ℕ → Type 0) → IsOnce P → IsOnce Q → IsOnce (Then P Q)
-then_once P Q h k s t (a, b, p, q, e) (c, d, r, u, f) = e ∙ ap (λ x. x ++ b) (h a c p r) ∙ ap (λ x. c ++ x) (k b d q u) ∙ sym f
+then_once P Q h k s t (a, b, p, q, e) (c, d, r, u, f) =
+    e ∙ ap (λ x. x ++ b) (h a c p r) ∙ ap (λ x. c ++ x) (k b d q u) ∙ sym f
 
 pub each_once : (P : ℕ → List ℕ → Type 0) (n : ℕ) → ((v : ℕ) → IsOnce (P v)) → IsOnce (Each n P)
 each_once P zero h s t p q = p ∙ sym q
@@ -35,5 +43,8 @@ module _ {X : Type 0} (name : List ℕ) (text_of : X → List ℕ) (before after
   pub told_same : (old : List ℕ) → before ≡ after → Adds (TellsValue name text_of before after) old old
   told_same old e = ([], inl (e, refl), sym (append-nil old))
 
-  pub told_other : (old new : List ℕ) → (before ≡ after → ⊥) → new ≡ old ++ change_line name (text_of before) (text_of after) → Adds (TellsValue name text_of before after) old new
+  pub told_other : (old new : List ℕ)
+      → (before ≡ after → ⊥)
+      → new ≡ old ++ change_line name (text_of before) (text_of after)
+      → Adds (TellsValue name text_of before after) old new
   told_other old new e is = (change_line name (text_of before) (text_of after), inr (e, refl), is)

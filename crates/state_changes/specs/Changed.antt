@@ -17,29 +17,39 @@ use Rattle.state_changes.specs.Together.{Each, Then}
 
 -- a line: what changed, what it was, and what it is
 abbrev pub change_line : List ℕ → List ℕ → List ℕ → List ℕ
-change_line name before after = codes "    " ++ name ++ codes ": " ++ before ++ codes " -> " ++ after ++ 10 ∷ []
+change_line name before after =
+    codes "    " ++ name ++ codes ": " ++ before ++ codes " -> " ++ after ++ 10 ∷ []
 
 -- a value: no line if it is as before, otherwise one
 abbrev pub TellsValue : {X : Type 0} → List ℕ → (X → List ℕ) → X → X → List ℕ → Type 0
-TellsValue name text_of before after text = ((before ≡ after) × (text ≡ [])) ⊎ ((before ≡ after → ⊥) × (text ≡ change_line name (text_of before) (text_of after)))
+TellsValue name text_of before after text =
+    ((before ≡ after) × (text ≡ []))
+    ⊎ ((before ≡ after → ⊥) × (text ≡ change_line name (text_of before) (text_of after)))
 
 -- the pages from one to another
 abbrev pub pages_name : List ℕ → ℕ → ℕ → List ℕ
-pages_name label first last = if first == last then label ++ codes " " ++ text_of_page first else label ++ codes " " ++ text_of_page first ++ codes ".." ++ text_of_page last
+pages_name label first last =
+    if first == last then label ++ codes " " ++ text_of_page first
+    else label ++ codes " " ++ text_of_page first ++ codes ".." ++ text_of_page last
 
 -- a line for each run of pages: what the first had and has, which goes on along the run
 abbrev pub run_lines : {V : Type 0} → (Option V → List ℕ) → List ℕ → List (Run (Change V)) → List ℕ
 run_lines text_of label [] = []
 run_lines text_of label (r ∷ rs) =
-    change_line (pages_name label r.pages.first.0 (r.pages.first.0 + (r.pages.count - 1))) (text_of r.value.before) (text_of r.value.after) ++ run_lines text_of label rs
+    change_line (pages_name label r.pages.first.0 (r.pages.first.0 + (r.pages.count - 1)))
+    (text_of r.value.before) (text_of r.value.after)
+    ++ run_lines text_of label rs
 
--- the change of a page: none if it is as before, otherwise both values; `is`: what a value in a run represents
+-- the change of a page: none if it is as before, otherwise both values; `is`: what a value in a run
+-- represents
 abbrev pub IsChange : {V X : Type 0} → (X → Option V → Type 0) → X → X → Option (Change V) → Type 0
 IsChange is before after None = before ≡ after
 IsChange is before after (Some c) = is before c.before × is after c.after × (before ≡ after → ⊥)
 
 -- a map: the coarsest runs of just the pages that changed
-pub record TellsMap {V X : Type 0} (advance : V → ℕ → V) (is : X → Option V → Type 0) (text_of : Option V → List ℕ) (label : List ℕ) (before after : ℕ → X) (text : List ℕ) : Type 0 where
+pub record TellsMap {V X : Type 0} (advance : V → ℕ → V) (is : X → Option V → Type 0)
+    (text_of : Option V → List ℕ) (label : List ℕ) (before after : ℕ → X)
+    (text : List ℕ) : Type 0 where
   pub runs : List (Run (Change V))
   pub coarsest : IsCoarsest (advance_change advance) runs
   pub changes : (p : ℕ) → IsChange is (before p) (after p) (run_map (advance_change advance) runs p)
@@ -77,20 +87,25 @@ vcpu_name v i = codes "vm " ++ decimal v ++ codes " vcpu " ++ decimal i
 
 -- a guest: its phase, generation, kind and number of free frames
 abbrev pub TellsGuest : Guest → Guest → ℕ → List ℕ → Type 0
-TellsGuest before after v = TellsValue (guest_name v) text_of_guest_head (guest_head before) (guest_head after)
+TellsGuest before after v =
+    TellsValue (guest_name v) text_of_guest_head (guest_head before) (guest_head after)
 
 -- a VM slot, and the CPU that has each of its vCPUs loaded
 abbrev pub TellsVcpu : Slot → Slot → ℕ → ℕ → List ℕ → Type 0
-TellsVcpu before after v i = TellsValue (vcpu_name v i) text_of_holder (before.loaded i) (after.loaded i)
+TellsVcpu before after v i =
+    TellsValue (vcpu_name v i) text_of_holder (before.loaded i) (after.loaded i)
 
 abbrev pub TellsSlot : Slot → Slot → ℕ → List ℕ → Type 0
-TellsSlot before after v = Then (TellsValue (slot_name v) text_of_slot_head (slot_head before) (slot_head after)) (Each 8 (TellsVcpu before after v))
+TellsSlot before after v =
+    Then (TellsValue (slot_name v) text_of_slot_head (slot_head before) (slot_head after))
+    (Each 8 (TellsVcpu before after v))
 
 -- a CPU's own state
 abbrev pub TellsCpu : Cpu → Cpu → List ℕ → Type 0
 TellsCpu before after =
     Then (TellsValue (codes "loaded") text_of_loaded before.loaded after.loaded)
-    (Then (TellsValue (codes "hand") text_of_hand before.hand after.hand) (TellsValue (codes "ticket") text_of_ticket before.ticket after.ticket))
+    (Then (TellsValue (codes "hand") text_of_hand before.hand after.hand)
+    (TellsValue (codes "ticket") text_of_ticket before.ticket after.ticket))
 
 -- two states
 module _ (before after : Contents) where
@@ -99,14 +114,20 @@ module _ (before after : Contents) where
   TellsMaps =
       Then (TellsEntries (codes "host") before.shared.host.map after.shared.host.map)
       (Then (TellsEntries (codes "hyp") before.shared.hyp.map after.shared.hyp.map)
-      (Then (Each 64 (λ v. TellsEntries (guest_name v) (before.guest v).tree.map (after.guest v).tree.map)) (TellsRows before.shared.row after.shared.row)))
+      (Then
+      (Each 64
+      (λ v. TellsEntries (guest_name v) (before.guest v).tree.map (after.guest v).tree.map))
+      (TellsRows before.shared.row after.shared.row)))
 
   -- all else: the number of free frames, the guests, the VM slots, and the state of a CPU
   abbrev pub TellsRest : ℕ → List ℕ → Type 0
   TellsRest cpu =
-      Then (TellsValue (codes "free shared") decimal (length before.shared.free) (length after.shared.free))
+      Then
+      (TellsValue (codes "free shared") decimal (length before.shared.free)
+      (length after.shared.free))
       (Then (Each 64 (λ v. TellsGuest (before.guest v) (after.guest v) v))
-      (Then (Each 64 (λ v. TellsSlot (before.vms.slot v) (after.vms.slot v) v)) (TellsCpu (before.cpu cpu) (after.cpu cpu))))
+      (Then (Each 64 (λ v. TellsSlot (before.vms.slot v) (after.vms.slot v) v))
+      (TellsCpu (before.cpu cpu) (after.cpu cpu))))
 
   -- all that changed
   abbrev pub TellsAll : ℕ → List ℕ → Type 0

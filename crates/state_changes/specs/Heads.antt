@@ -5,7 +5,9 @@ use Rattle.state_changes.specs.declared.heads.SlotHead.{SlotHead as CodeSlot}
 use Rattle.state_changes.specs.Texts.{GuestHead, SlotHead}
 
 abbrev pub guest_told : CodeGuest → GuestHead
-guest_told h = record { phase = phase_in h.phase; generation = h.generation; kind = h.kind; free = h.free }
+guest_told h =
+    record { phase = phase_in h.phase; generation = h.generation; kind = h.kind; free = h.free }
 
 abbrev pub slot_told : CodeSlot → SlotHead
-slot_told h = record { stand = stand_in h.stand; generation = h.generation; kind = h.kind; vcpus = h.vcpus }
+slot_told h =
+    record { stand = stand_in h.stand; generation = h.generation; kind = h.kind; vcpus = h.vcpus }

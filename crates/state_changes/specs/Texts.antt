@@ -29,7 +29,9 @@ abbrev pub slot_head : Slot → SlotHead
 slot_head s = record { stand = s.stand; generation = s.generation; kind = s.kind; vcpus = s.vcpus }
 
 abbrev pub text_of_slot_head : SlotHead → List ℕ
-text_of_slot_head s = text_of_stand s.stand ++ codes " generation " ++ decimal s.generation ++ codes " " ++ text_of_vm_kind s.kind ++ codes " vcpus " ++ decimal s.vcpus
+text_of_slot_head s =
+    text_of_stand s.stand ++ codes " generation " ++ decimal s.generation ++ codes " "
+    ++ text_of_vm_kind s.kind ++ codes " vcpus " ++ decimal s.vcpus
 
 abbrev pub text_of_slot : Slot → List ℕ
 text_of_slot s = text_of_slot_head (slot_head s)
@@ -47,10 +49,13 @@ pub record GuestHead : Type 0 where
   pub free : ℕ
 
 abbrev pub guest_head : ReferenceGuest → GuestHead
-guest_head g = record { phase = g.phase; generation = g.generation; kind = g.kind; free = length g.free }
+guest_head g =
+    record { phase = g.phase; generation = g.generation; kind = g.kind; free = length g.free }
 
 abbrev pub guest_line : Phase → ℕ → VmKind → ℕ → List ℕ
-guest_line phase generation kind free = text_of_phase phase ++ codes " generation " ++ decimal generation ++ codes " " ++ text_of_vm_kind kind ++ codes " free " ++ decimal free
+guest_line phase generation kind free =
+    text_of_phase phase ++ codes " generation " ++ decimal generation ++ codes " "
+    ++ text_of_vm_kind kind ++ codes " free " ++ decimal free
 
 -- of an Empty one the phase alone
 abbrev pub guest_in_phase : Phase → ℕ → VmKind → ℕ → List ℕ
@@ -92,4 +97,5 @@ text_of_stage Finished = codes "finished"
 -- its ticket: the VM, its kind, and how far it has come
 abbrev pub text_of_ticket : Option CpuTicket → List ℕ
 text_of_ticket None = codes "none"
-text_of_ticket (Some t) = text_of_vm t.vm ++ codes " " ++ text_of_vm_kind t.kind ++ codes " " ++ text_of_stage t.stage
+text_of_ticket (Some t) =
+    text_of_vm t.vm ++ codes " " ++ text_of_vm_kind t.kind ++ codes " " ++ text_of_stage t.stage

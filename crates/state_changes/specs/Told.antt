@@ -21,11 +21,14 @@ slot_of ss v = get_or (map slot_in ss) v (no_slot 1)
 
 -- the map of a tree
 abbrev pub TellsTree : Label → Tree → Tree → List ℕ → Type 0
-TellsTree label before after = TellsEntries (text_of_label label) (map_of before.runs.items) (map_of after.runs.items)
+TellsTree label before after =
+    TellsEntries (text_of_label label) (map_of before.runs.items) (map_of after.runs.items)
 
 -- the maps of all guests, the guests, and the VM slots
 abbrev pub TellsGuestMaps : List GhostGuest → List GhostGuest → List ℕ → Type 0
-TellsGuestMaps before after = Each 64 (λ v. TellsEntries (guest_name v) (guest_of before v).tree.map (guest_of after v).tree.map)
+TellsGuestMaps before after =
+    Each 64
+    (λ v. TellsEntries (guest_name v) (guest_of before v).tree.map (guest_of after v).tree.map)
 
 abbrev pub TellsGuests : List GhostGuest → List GhostGuest → List ℕ → Type 0
 TellsGuests before after = Each 64 (λ v. TellsGuest (guest_of before v) (guest_of after v) v)

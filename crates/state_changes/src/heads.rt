@@ -120,7 +120,10 @@ pub(crate) fn add_guest(
     before: &GhostGuest,
     after: &GhostGuest,
 ) -> Result<(), AllocError>
-    ensures { OnOk result (Adds (TellsGuest (guest_in before.now) (guest_in after.now) slot) text.old.items text.new.items) }
+    ensures { OnOk result
+        (Adds
+        (TellsGuest (guest_in before.now) (guest_in after.now) slot) text.old.items
+        text.new.items) }
 {
     add_guest_head(
         text,
@@ -138,7 +141,10 @@ fn add_guest_head(
     before: GuestHead,
     after: GuestHead,
 ) -> Result<(), AllocError>
-    ensures { OnOk result (Adds (TellsValue (guest_name slot) text_of_guest_head (guest_told before) (guest_told after)) text.old.items text.new.items) }
+    ensures { OnOk result
+        (Adds
+        (TellsValue (guest_name slot) text_of_guest_head (guest_told before)
+        (guest_told after)) text.old.items text.new.items) }
 {
     if before == after {
         return Ok(());
@@ -158,7 +164,10 @@ pub(crate) fn add_slot(
     before: &GhostSlot,
     after: &GhostSlot,
 ) -> Result<(), AllocError>
-    ensures { OnOk result (Adds (TellsSlot (slot_in before.now) (slot_in after.now) slot) text.old.items text.new.items) }
+    ensures { OnOk result
+        (Adds
+        (TellsSlot (slot_in before.now) (slot_in after.now) slot) text.old.items
+        text.new.items) }
 {
     add_slot_head(
         text,
@@ -178,7 +187,10 @@ fn add_slot_head(
     before: SlotHead,
     after: SlotHead,
 ) -> Result<(), AllocError>
-    ensures { OnOk result (Adds (TellsValue (slot_name slot) text_of_slot_head (slot_told before) (slot_told after)) text.old.items text.new.items) }
+    ensures { OnOk result
+        (Adds
+        (TellsValue (slot_name slot) text_of_slot_head (slot_told before)
+        (slot_told after)) text.old.items text.new.items) }
 {
     if before == after {
         return Ok(());
@@ -198,7 +210,10 @@ fn add_vcpus(
     before: &GhostSlot,
     after: &GhostSlot,
 ) -> Result<(), AllocError>
-    ensures { OnOk result (Adds (Each 8 (TellsVcpu (slot_in before.now) (slot_in after.now) slot)) text.old.items text.new.items) }
+    ensures { OnOk result
+        (Adds
+        (Each 8 (TellsVcpu (slot_in before.now) (slot_in after.now) slot)) text.old.items
+        text.new.items) }
 {
     for vcpu in 0..VCPUS {
         let was = holder_of(before, vcpu);
@@ -226,7 +241,10 @@ fn add_holder(
     before: Option<u64>,
     after: Option<u64>,
 ) -> Result<(), AllocError>
-    ensures { OnOk result (Adds (TellsValue (vcpu_name slot vcpu) text_of_holder before after) text.old.items text.new.items) }
+    ensures { OnOk result
+        (Adds
+        (TellsValue (vcpu_name slot vcpu) text_of_holder before after) text.old.items
+        text.new.items) }
 {
     if before == after {
         return Ok(());
@@ -243,7 +261,11 @@ fn add_holders(
     before: Option<u64>,
     after: Option<u64>,
 ) -> Result<(), AllocError>
-    ensures { OnOk result (text.new.items ≡ text.old.items ++ change_line (vcpu_name slot vcpu) (text_of_holder before) (text_of_holder after)) }
+    ensures { OnOk result
+        (text.new.items
+        ≡ text.old.items
+        ++ change_line (vcpu_name slot vcpu) (text_of_holder before)
+        (text_of_holder after)) }
 {
     let name = format!(in global; "vm {slot} vcpu {vcpu}")?;
     let was = told_cpu(global, before)?;

@@ -32,7 +32,10 @@ pub(crate) fn add_count(
     before: &Vec<u64>,
     after: &Vec<u64>,
 ) -> Result<(), AllocError>
-    ensures { OnOk result (Adds (TellsValue (codes "free shared") decimal (length before.now.items) (length after.now.items)) text.old.items text.new.items) }
+    ensures { OnOk result
+        (Adds
+        (TellsValue (codes "free shared") decimal (length before.now.items)
+        (length after.now.items)) text.old.items text.new.items) }
 {
     add_number(text, global, before.len(), after.len())?;
     Ok(())
@@ -45,7 +48,10 @@ fn add_number(
     before: usize,
     after: usize,
 ) -> Result<(), AllocError>
-    ensures { OnOk result (Adds (TellsValue (codes "free shared") decimal before after) text.old.items text.new.items) }
+    ensures { OnOk result
+        (Adds
+        (TellsValue (codes "free shared") decimal before after) text.old.items
+        text.new.items) }
 {
     if before == after {
         return Ok(());

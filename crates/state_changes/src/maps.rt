@@ -119,7 +119,9 @@ fn add_entry_runs(
     runs: &[Run<Change<Target>>],
 ) -> Result<(), AllocError>
     requires { AreInReach (CanBoth HasFrameBelow) runs.now }
-    ensures { OnOk result (text.new.items ≡ text.old.items ++ run_lines text_of_target (text_of_label label) runs.now) }
+    ensures { OnOk result
+        (text.new.items
+        ≡ text.old.items ++ run_lines text_of_target (text_of_label label) runs.now) }
 {
     for run in runs {
         let name = named(global, label, run.pages)?;
@@ -133,7 +135,10 @@ fn add_entry_runs(
 /// The name of the pages of a range.
 fn named(global: Global, label: Label, pages: PageRange) -> Result<String, AllocError>
     requires { pages.first.0 + pages.count ≤ 2 ^ 63 }
-    ensures { IfOk result (λ name. string_bytes name ≡ pages_name (text_of_label label) pages.first.0 (pages.first.0 + (pages.count - 1))) }
+    ensures { IfOk result
+        (λ name. string_bytes name
+        ≡ pages_name (text_of_label label) pages.first.0
+        (pages.first.0 + (pages.count - 1))) }
 {
     let pages = Pages {
         label,
@@ -160,8 +165,13 @@ pub(crate) fn add_rows(
     before: &RunList<Row>,
     after: &RunList<Row>,
 ) -> Result<(), AllocError>
-    requires frames { (f : ℕ) → is_some (run_map advance_row before.now.runs f) ≡ is_some (run_map advance_row after.now.runs f) }
-    ensures { OnOk result (Adds (TellsRows (row_in before.now.runs) (row_in after.now.runs)) text.old.items text.new.items) }
+    requires frames { (f : ℕ)
+        → is_some (run_map advance_row before.now.runs f)
+        ≡ is_some (run_map advance_row after.now.runs f) }
+    ensures { OnOk result
+        (Adds
+        (TellsRows (row_in before.now.runs) (row_in after.now.runs)) text.old.items
+        text.new.items) }
 {
     let found = changes(global, before, after)?;
     add_row_runs(text, global, found.runs())?;
@@ -175,7 +185,8 @@ fn add_row_runs(
     runs: &[Run<Change<Row>>],
 ) -> Result<(), AllocError>
     requires { AreInReach (CanBoth HasPageBelow) runs.now }
-    ensures { OnOk result (text.new.items ≡ text.old.items ++ run_lines text_of_some_row (codes "owner") runs.now) }
+    ensures { OnOk result
+        (text.new.items ≡ text.old.items ++ run_lines text_of_some_row (codes "owner") runs.now) }
 {
     for run in runs {
         let name = named(global, Label::Owner, run.pages)?;

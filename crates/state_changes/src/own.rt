@@ -33,7 +33,10 @@ fn add_loaded(
     before: Option<Loaded>,
     after: Option<Loaded>,
 ) -> Result<(), AllocError>
-    ensures { OnOk result (Adds (TellsValue (codes "loaded") text_of_loaded before after) text.old.items text.new.items) }
+    ensures { OnOk result
+        (Adds
+        (TellsValue (codes "loaded") text_of_loaded before after) text.old.items
+        text.new.items) }
 {
     if before == after {
         return Ok(());
@@ -50,7 +53,9 @@ fn add_hand(
     before: Option<PageRange>,
     after: Option<PageRange>,
 ) -> Result<(), AllocError>
-    ensures { OnOk result (Adds (TellsValue (codes "hand") text_of_hand before after) text.old.items text.new.items) }
+    ensures { OnOk result
+        (Adds
+        (TellsValue (codes "hand") text_of_hand before after) text.old.items text.new.items) }
 {
     if before == after {
         return Ok(());
@@ -67,7 +72,10 @@ fn add_ticket(
     before: Option<Ticket>,
     after: Option<Ticket>,
 ) -> Result<(), AllocError>
-    ensures { OnOk result (Adds (TellsValue (codes "ticket") text_of_ticket before after) text.old.items text.new.items) }
+    ensures { OnOk result
+        (Adds
+        (TellsValue (codes "ticket") text_of_ticket before after) text.old.items
+        text.new.items) }
 {
     if before == after {
         return Ok(());

@@ -32,8 +32,13 @@ pub fn add_changes(
     before: &Ghost,
     after: &Ghost,
 ) -> Result<(), AllocError>
-    requires frames { (f : ℕ) → is_some (run_map advance_row before.now.shared.rows.runs f) ≡ is_some (run_map advance_row after.now.shared.rows.runs f) }
-    ensures { OnOk result (Adds (TellsAll (contents_in before.now) (contents_in after.now) cpu) text.old.items text.new.items) }
+    requires frames { (f : ℕ)
+        → is_some (run_map advance_row before.now.shared.rows.runs f)
+        ≡ is_some (run_map advance_row after.now.shared.rows.runs f) }
+    ensures { OnOk result
+        (Adds
+        (TellsAll (contents_in before.now) (contents_in after.now) cpu) text.old.items
+        text.new.items) }
 {
     let old = before.lists();
     let new = after.lists();
@@ -51,8 +56,13 @@ fn add_maps(
 ) -> Result<(), AllocError>
     requires kept { IsKept before.now }
     requires next { IsKept after.now }
-    requires frames { (f : ℕ) → is_some (run_map advance_row before.now.shared.rows.runs f) ≡ is_some (run_map advance_row after.now.shared.rows.runs f) }
-    ensures { OnOk result (Adds (TellsMaps (contents_in before.now) (contents_in after.now)) text.old.items text.new.items) }
+    requires frames { (f : ℕ)
+        → is_some (run_map advance_row before.now.shared.rows.runs f)
+        ≡ is_some (run_map advance_row after.now.shared.rows.runs f) }
+    ensures { OnOk result
+        (Adds
+        (TellsMaps (contents_in before.now) (contents_in after.now)) text.old.items
+        text.new.items) }
 {
     let old = &before.shared;
     let new = &after.shared;
@@ -74,7 +84,8 @@ fn add_guest_maps(
     requires next { AreKeptGuests after.now.items }
     requires count { length before.now.items ≡ 64 }
     requires as_many { length after.now.items ≡ 64 }
-    ensures { OnOk result (Adds (TellsGuestMaps before.now.items after.now.items) text.old.items text.new.items) }
+    ensures { OnOk result
+        (Adds (TellsGuestMaps before.now.items after.now.items) text.old.items text.new.items) }
 {
     for slot in 0..SLOTS {
         add_entries(
@@ -98,7 +109,10 @@ fn add_rest(
 ) -> Result<(), AllocError>
     requires kept { IsKept before.now }
     requires next { IsKept after.now }
-    ensures { OnOk result (Adds (TellsRest (contents_in before.now) (contents_in after.now) cpu) text.old.items text.new.items) }
+    ensures { OnOk result
+        (Adds
+        (TellsRest (contents_in before.now) (contents_in after.now) cpu) text.old.items
+        text.new.items) }
 {
     add_count(text, global, &before.shared.free, &after.shared.free)?;
     add_guests(text, global, &before.guests, &after.guests)?;
@@ -115,7 +129,10 @@ fn add_own(
     before: &GhostLists,
     after: &GhostLists,
 ) -> Result<(), AllocError>
-    ensures { OnOk result (Adds (TellsCpu ((contents_in before.now).cpu cpu) ((contents_in after.now).cpu cpu)) text.old.items text.new.items) }
+    ensures { OnOk result
+        (Adds
+        (TellsCpu ((contents_in before.now).cpu cpu)
+        ((contents_in after.now).cpu cpu)) text.old.items text.new.items) }
 {
     add_cpu(text, global, cpu_of(before, cpu), cpu_of(after, cpu))?;
     Ok(())
@@ -140,7 +157,8 @@ fn add_guests(
 ) -> Result<(), AllocError>
     requires count { length before.now.items ≡ 64 }
     requires as_many { length after.now.items ≡ 64 }
-    ensures { OnOk result (Adds (TellsGuests before.now.items after.now.items) text.old.items text.new.items) }
+    ensures { OnOk result
+        (Adds (TellsGuests before.now.items after.now.items) text.old.items text.new.items) }
 {
     for slot in 0..SLOTS {
         add_guest(text, global, slot as u64, &before[slot], &after[slot])?;
@@ -157,7 +175,8 @@ fn add_slots(
 ) -> Result<(), AllocError>
     requires count { length before.now.items ≡ 64 }
     requires as_many { length after.now.items ≡ 64 }
-    ensures { OnOk result (Adds (TellsSlots before.now.items after.now.items) text.old.items text.new.items) }
+    ensures { OnOk result
+        (Adds (TellsSlots before.now.items after.now.items) text.old.items text.new.items) }
 {
     for slot in 0..SLOTS {
         add_slot(text, global, slot as u64, &before[slot], &after[slot])?;

@@ -1,5 +1,6 @@
--- What an audit compares, and the first difference in its order: the maps, the owner rows, and then the tables of the host, of the
--- hypervisor and of the guests by slot. Where all agrees, the state is legal, or why it isn't.
+-- What an audit compares, and the first difference in its order: the maps, the owner rows, and then
+-- the tables of the host, of the hypervisor and of the guests by slot. Where all agrees, the state
+-- is legal, or why it isn't.
 use Rattle.std.specs.Prelude.{◌≡◌, ℕ, ◌<◌, true, List, Option, get_or, map}
 use Rattle.page_state.specs.Layouts.{Layout}
 use Rattle.page_state.specs.Trees.{Block}
@@ -34,29 +35,37 @@ pub record IsWell (l : Layout) (kept walked : Contents) : Type 0 where
 
 -- a table of this tree differs, and those of the trees before it don't
 abbrev pub IsFirstTableOf : Contents → Contents → TreeOf → ℕ × ℕ → Option ℕ → Option ℕ → Type 0
-IsFirstTableOf kept walked Host block x y = IsTableTold kept.shared.host.table walked.shared.host.table block x y
-IsFirstTableOf kept walked Hyp block x y = (kept.shared.host.table ≡ walked.shared.host.table) × IsTableTold kept.shared.hyp.table walked.shared.hyp.table block x y
+IsFirstTableOf kept walked Host block x y =
+    IsTableTold kept.shared.host.table walked.shared.host.table block x y
+IsFirstTableOf kept walked Hyp block x y =
+    (kept.shared.host.table ≡ walked.shared.host.table)
+    × IsTableTold kept.shared.hyp.table walked.shared.hyp.table block x y
 IsFirstTableOf kept walked (Guest v) block x y =
-    (kept.shared.host.table ≡ walked.shared.host.table) × (kept.shared.hyp.table ≡ walked.shared.hyp.table)
-    × ((w : ℕ) → w < v → (kept.guest w).tree.table ≡ (walked.guest w).tree.table) × IsTableTold (kept.guest v).tree.table (walked.guest v).tree.table block x y
+    (kept.shared.host.table ≡ walked.shared.host.table)
+    × (kept.shared.hyp.table ≡ walked.shared.hyp.table)
+    × ((w : ℕ) → w < v → (kept.guest w).tree.table ≡ (walked.guest w).tree.table)
+    × IsTableTold (kept.guest v).tree.table (walked.guest v).tree.table block x y
 
 abbrev pub IsFirstTable : Contents → Contents → Finding → Type 0
 IsFirstTable kept walked (Differs d) = ⊥
 IsFirstTable kept walked (Unsound why) = ⊥
 IsFirstTable kept walked (Illegal why) = ⊥
-IsFirstTable kept walked (TableDiffers tree height index x y) = IsFirstTableOf kept walked tree (height, index) x y
+IsFirstTable kept walked (TableDiffers tree height index x y) =
+    IsFirstTableOf kept walked tree (height, index) x y
 
 -- the tables of the guest at a place of a list
 abbrev pub guest_table : List GhostGuest → ℕ → Block → Option ℕ
 guest_table guests v = (get_or (map guest_in guests) v no_guest).tree.table
 
 -- a table of a guest differs, and those of the guests before it don't
-pub record IsGuestTableOf (kept walked : List GhostGuest) (v : ℕ) (block : Block) (x y : Option ℕ) : Type 0 where
+pub record IsGuestTableOf (kept walked : List GhostGuest) (v : ℕ) (block : Block)
+    (x y : Option ℕ) : Type 0 where
   pub before : (w : ℕ) → w < v → guest_table kept w ≡ guest_table walked w
   pub told : IsTableTold (guest_table kept v) (guest_table walked v) block x y
 
 abbrev pub IsGuestTable : List GhostGuest → List GhostGuest → Finding → Type 0
-IsGuestTable kept walked (TableDiffers (Guest v) height index x y) = IsGuestTableOf kept walked v (height, index) x y
+IsGuestTable kept walked (TableDiffers (Guest v) height index x y) =
+    IsGuestTableOf kept walked v (height, index) x y
 IsGuestTable kept walked other = ⊥
 
 -- why a state isn't legal: its maps aren't sound; and where they are, what is told of it
@@ -65,8 +74,10 @@ IsUnlawful l s (Unsound why) = (Legal l s → ⊥) × IsUnsound s why
 IsUnlawful l s (Illegal why) = (Legal l s → ⊥) × IsSound s × IsToldOf true l s why
 IsUnlawful l s other = ⊥
 
--- the first difference: all that comes before it agrees; and why the state isn't legal, where there is no difference
+-- the first difference: all that comes before it agrees; and why the state isn't legal, where there
+-- is no difference
 abbrev pub IsFirstFinding : Layout → Contents → Contents → Finding → Type 0
 IsFirstFinding l kept walked (Differs d) = IsFirstDifference kept walked d
-IsFirstFinding l kept walked (TableDiffers tree height index x y) = AuditAgrees kept walked × IsFirstTableOf kept walked tree (height, index) x y
+IsFirstFinding l kept walked (TableDiffers tree height index x y) =
+    AuditAgrees kept walked × IsFirstTableOf kept walked tree (height, index) x y
 IsFirstFinding l kept walked other = AgreesWith kept walked × IsUnlawful l kept other

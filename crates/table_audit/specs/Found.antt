@@ -14,17 +14,23 @@ use Rattle.ghost_spec.specs.declared.parts.GhostGuest.{GhostGuest}
 use Rattle.ghost_spec.specs.States.{contents_in, guest_in}
 use Rattle.table_audit.specs.declared.walked.Trees.{Trees}
 
--- the trees of a list by their numbers: 0 the host's, 1 the hypervisor's, 2 + v that of the guest in slot v
+-- the trees of a list by their numbers: 0 the host's, 1 the hypervisor's, 2 + v that of the guest
+-- in slot v
 abbrev pub trees_in : List TreeOfLists → ℕ → Tree
 trees_in trees n = get_or (map tree_in_lists trees) n no_tree
 
 -- a guest with another tree
 abbrev pub guest_with : Guest → Tree → Guest
-guest_with g tree = record { phase = g.phase; generation = g.generation; kind = g.kind; tree = tree; free = g.free }
+guest_with g tree =
+    record { phase = g.phase; generation = g.generation; kind = g.kind; tree = tree; free = g.free }
 
 -- the first guests have other trees
 abbrev pub AreTreesOf : List GhostGuest → List TreeOfLists → ℕ → List GhostGuest → Type 0
-AreTreesOf guests trees n made = (v : ℕ) → v < n → get_or (map guest_in made) v no_guest ≡ guest_with (get_or (map guest_in guests) v no_guest) (trees_in trees (2 + v))
+AreTreesOf guests trees n made =
+    (v : ℕ)
+    → v < n
+    → get_or (map guest_in made) v no_guest
+    ≡ guest_with (get_or (map guest_in guests) v no_guest) (trees_in trees (2 + v))
 
 -- all parts with other trees
 abbrev pub with_trees : Contents → (ℕ → Tree) → Contents
@@ -41,7 +47,14 @@ rows_by l s f = elim (is_memory l f) [ true ↦ row_of l s f | false ↦ plain_r
 
 -- with these rows
 abbrev pub with_rows : Contents → (ℕ → Row) → Contents
-with_rows s row = record { vms = s.vms; shared = record { host = s.shared.host; hyp = s.shared.hyp; free = s.shared.free; row = row }; guest = s.guest; cpu = s.cpu }
+with_rows s row =
+    record {
+      vms = s.vms;
+      shared =
+          record { host = s.shared.host; hyp = s.shared.hyp; free = s.shared.free; row = row };
+      guest = s.guest;
+      cpu = s.cpu;
+    }
 
 -- the state found: a kept state with the trees, and the rows that follow from it then
 abbrev pub found : Layout → Contents → (ℕ → Tree) → Contents
@@ -52,7 +65,8 @@ abbrev pub found_with : GhostLists → List TreeOfLists → Contents
 found_with kept trees = found (layout_of kept.layout) (contents_in kept) (trees_in trees)
 
 -- the trees of the host, the hypervisor and the guests are those of a list
-pub record AreTreesFrom (kept : List GhostGuest) (trees : List TreeOfLists) (t : Trees) : Type 0 where
+pub record AreTreesFrom (kept : List GhostGuest) (trees : List TreeOfLists)
+    (t : Trees) : Type 0 where
   pub host : tree_in_lists t.host ≡ trees_in trees 0
   pub hyp : tree_in_lists t.hyp ≡ trees_in trees 1
   pub guests : AreTreesOf kept trees 64 t.guests.items

@@ -9,7 +9,11 @@ use Rattle.table_audit.specs.Audited.{IsFirstFinding, IsWell}
 
 -- where all agrees and is legal nothing is found
 abbrev pub WellElse : Type 0
-WellElse = (l : Layout) (kept walked : Contents) (f : Finding) → IsWell l kept walked → IsFirstFinding l kept walked f → ⊥
+WellElse =
+    (l : Layout) (kept walked : Contents) (f : Finding)
+    → IsWell l kept walked
+    → IsFirstFinding l kept walked f
+    → ⊥
 
 -- two findings are one difference, tables of one tree, places of one kind, or both of sound maps
 abbrev pub AreAlike : Finding → Finding → Type 0
@@ -21,6 +25,11 @@ AreAlike (Unsound (NoShare f at)) (Unsound (NoShare g place)) = Unit {0}
 AreAlike (Illegal why) (Illegal other) = Unit {0}
 AreAlike found other = ⊥
 
--- two first findings are alike: only which block of a tree, which places, or what of a state with sound maps isn't legal, is left open
+-- two first findings are alike: only which block of a tree, which places, or what of a state with
+-- sound maps isn't legal, is left open
 abbrev pub FindingOnce : Type 0
-FindingOnce = (l : Layout) (kept walked : Contents) (f g : Finding) → IsFirstFinding l kept walked f → IsFirstFinding l kept walked g → AreAlike f g
+FindingOnce =
+    (l : Layout) (kept walked : Contents) (f g : Finding)
+    → IsFirstFinding l kept walked f
+    → IsFirstFinding l kept walked g
+    → AreAlike f g

@@ -31,8 +31,14 @@ pub fn audited(alloc: Global, kept: &Ghost, trees: &[Tree]) -> Result<Option<Fin
     requires count { length trees.now ≡ 66 }
     requires trees { All IsKeptTree trees.now }
     requires apart { HasTablesApart kept.now }
-    ensures none { IfOk result (λ o. (o ≡ None) ↔ IsWell (layout_of kept.now.layout) (contents_in kept.now) (found_with kept.now trees.now)) }
-    ensures first { IfOk result (λ o. IfSome o (IsFirstFinding (layout_of kept.now.layout) (contents_in kept.now) (found_with kept.now trees.now))) }
+    ensures none { IfOk result
+        (λ o. (o ≡ None)
+        ↔ IsWell (layout_of kept.now.layout) (contents_in kept.now)
+        (found_with kept.now trees.now)) }
+    ensures first { IfOk result
+        (λ o. IfSome o
+        (IsFirstFinding (layout_of kept.now.layout) (contents_in kept.now)
+        (found_with kept.now trees.now))) }
 {
     let walked = walked_lists(alloc, kept, trees)?;
     let found = compared(alloc, kept.lists(), &walked);
@@ -50,8 +56,14 @@ fn compared(
     requires kept { IsKept kept.now }
     requires apart { HasTablesApart kept.now }
     requires walked { AreMapsKept walked.now }
-    ensures none { IfOk result (λ o. (o ≡ None) ↔ IsWell (layout_of kept.now.layout) (contents_in kept.now) (contents_in walked.now)) }
-    ensures first { IfOk result (λ o. IfSome o (IsFirstFinding (layout_of kept.now.layout) (contents_in kept.now) (contents_in walked.now))) }
+    ensures none { IfOk result
+        (λ o. (o ≡ None)
+        ↔ IsWell (layout_of kept.now.layout) (contents_in kept.now)
+        (contents_in walked.now)) }
+    ensures first { IfOk result
+        (λ o. IfSome o
+        (IsFirstFinding (layout_of kept.now.layout) (contents_in kept.now)
+        (contents_in walked.now))) }
 {
     match difference(kept, walked) {
         Some(found) => Ok(Some(found)),
@@ -65,7 +77,8 @@ fn unlawful(alloc: Global, state: &GhostLists) -> Result<Option<Finding>, AllocE
     requires kept { IsKept state.now }
     requires apart { HasTablesApart state.now }
     ensures none { IfOk result (λ o. (o ≡ None) ↔ Legal (layout_of state.now.layout) (contents_in state.now)) }
-    ensures told { IfOk result (λ o. IfSome o (IsUnlawful (layout_of state.now.layout) (contents_in state.now))) }
+    ensures told { IfOk result
+        (λ o. IfSome o (IsUnlawful (layout_of state.now.layout) (contents_in state.now))) }
 {
     match illegal(alloc, state)? {
         Some(why) => Ok(Some(by_maps_first(state, why))),
@@ -93,7 +106,9 @@ fn difference(kept: &GhostLists, walked: &GhostLists) -> Option<Finding>
     requires kept { AreMapsKept kept.now }
     requires walked { AreMapsKept walked.now }
     ensures none { (result ≡ None) ↔ AgreesWith (contents_in kept.now) (contents_in walked.now) }
-    ensures first { IfSome result (IsFirstFinding (layout_of kept.now.layout) (contents_in kept.now) (contents_in walked.now)) }
+    ensures first { IfSome result
+        (IsFirstFinding (layout_of kept.now.layout) (contents_in kept.now)
+        (contents_in walked.now)) }
 {
     match audit_lists(kept, walked) {
         Some(differs) => Some(Finding::Differs(differs)),
@@ -105,7 +120,8 @@ fn difference(kept: &GhostLists, walked: &GhostLists) -> Option<Finding>
 fn first_table(kept: &GhostLists, walked: &GhostLists) -> Option<Finding>
     requires kept { length kept.now.guests.items ≡ 64 }
     requires walked { length walked.now.guests.items ≡ 64 }
-    ensures { MatchOption result (TablesAgree (contents_in kept.now) (contents_in walked.now)) (IsFirstTable (contents_in kept.now) (contents_in walked.now)) }
+    ensures { MatchOption result (TablesAgree (contents_in kept.now) (contents_in walked.now))
+        (IsFirstTable (contents_in kept.now) (contents_in walked.now)) }
 {
     if let Some(host) = in_tables(
         TreeOf::Host,
@@ -128,7 +144,8 @@ fn first_table(kept: &GhostLists, walked: &GhostLists) -> Option<Finding>
 fn first_guest_table(kept: &[GhostGuest], walked: &[GhostGuest]) -> Option<Finding>
     requires kept { length kept.now ≡ 64 }
     requires walked { length walked.now ≡ 64 }
-    ensures { MatchOption result ((v : ℕ) → guest_table kept.now v ≡ guest_table walked.now v) (IsGuestTable kept.now walked.now) }
+    ensures { MatchOption result ((v : ℕ) → guest_table kept.now v ≡ guest_table walked.now v)
+        (IsGuestTable kept.now walked.now) }
 {
     for v in 0..64usize {
         if let Some(guest) = in_tables(

@@ -24,7 +24,8 @@ fn apart_among(tables: &[Table], a: &[Table], b: &[Table]) -> Option<Block>
 
 /// The first block at which two lists have tables of different frames, or one has a table alone.
 fn first_block_apart(kept: &[Table], walked: &[Table]) -> Option<Block>
-    ensures { MatchOption result (table_of kept.now ≡ table_of walked.now) (IsTableApart kept.now walked.now) }
+    ensures { MatchOption result (table_of kept.now ≡ table_of walked.now)
+        (IsTableApart kept.now walked.now) }
 {
     match apart_among(kept, kept, walked) {
         Some(block) => Some(block),
@@ -34,7 +35,8 @@ fn first_block_apart(kept: &[Table], walked: &[Table]) -> Option<Block>
 
 /// The first table that differs.
 pub(crate) fn in_tables(tree: TreeOf, kept: &[Table], walked: &[Table]) -> Option<Finding>
-    ensures { MatchOption result (table_of kept.now ≡ table_of walked.now) (IsTableFinding tree (table_of kept.now) (table_of walked.now)) }
+    ensures { MatchOption result (table_of kept.now ≡ table_of walked.now)
+        (IsTableFinding tree (table_of kept.now) (table_of walked.now)) }
 {
     match first_block_apart(kept, walked) {
         Some(block) => Some(Finding::Table {

@@ -1,4 +1,5 @@
--- Trees whose tables lie in the heap may cross threads, and be looked at by several. A table's slots hold tables, so both facts are shown of tables and slots together.
+-- Trees whose tables lie in the heap may cross threads, and be looked at by several. A table's slots hold tables, so
+-- both facts are shown of tables and slots together.
 use denote.RattleType.{RattleType}
 use denote.Hole.{as_row}
 use denote.Hole.Fix.{Ring, holes}
@@ -52,16 +53,32 @@ child h = Box.the_row (h table) Heap.the_row ghosts
 
 -- one table crosses where what its slots hold does, and one slot where the table that it holds does
 table_sends : Sends ring table
-table_sends = record { send = λ h all. declared_send (Table.the_layer Heap.the_row ghosts h) (frame_send, (as_row_send (row_field (slots h)) (Vec-send (h slot) (all slot)), tt)) }
+table_sends =
+    record {
+      send = λ h all. declared_send (Table.the_layer Heap.the_row ghosts h)
+          (frame_send, (as_row_send (row_field (slots h)) (Vec-send (h slot) (all slot)), tt));
+    }
 
 slot_sends : Sends ring slot
-slot_sends = record { send = λ h all. variants_send (Knot.type-Slot Heap.the_row ghosts (h table)) ((word_send, tt), ((as_row_send (row_field (child h)) (Box-send (h table) (all table)), tt), tt)) }
+slot_sends =
+    record {
+      send = λ h all. variants_send (Knot.type-Slot Heap.the_row ghosts (h table))
+          ((word_send, tt), ((as_row_send (row_field (child h)) (Box-send (h table) (all table)), tt), tt));
+    }
 
 table_syncs : Syncs ring table
-table_syncs = record { sync = λ h all. declared_sync (Table.the_layer Heap.the_row ghosts h) (frame_sync, (as_row_sync (row_field (slots h)) (Vec-sync (h slot) (all slot)), tt)) }
+table_syncs =
+    record {
+      sync = λ h all. declared_sync (Table.the_layer Heap.the_row ghosts h)
+          (frame_sync, (as_row_sync (row_field (slots h)) (Vec-sync (h slot) (all slot)), tt));
+    }
 
 slot_syncs : Syncs ring slot
-slot_syncs = record { sync = λ h all. variants_sync (Knot.type-Slot Heap.the_row ghosts (h table)) ((word_sync, tt), ((as_row_sync (row_field (child h)) (Box-sync (h table) (all table)), tt), tt)) }
+slot_syncs =
+    record {
+      sync = λ h all. variants_sync (Knot.type-Slot Heap.the_row ghosts (h table))
+          ((word_sync, tt), ((as_row_sync (row_field (child h)) (Box-sync (h table) (all table)), tt), tt));
+    }
 
 all_send : (i : Member) → IsSend (holes ring i)
 all_send = fix_send ring (Table.by_members Heap.the_row ghosts (Sends ring) slot_sends table_sends)

@@ -22,7 +22,9 @@ module _ {X : Type 0} where
   joined_same f g zero h = refl
   joined_same f g (suc n) h = rw (joined_same f g n (λ i p. h i (omega arith)), h n (omega arith)) refl
 
-pub filter_map_joined : {X Y : Type 0} (h : X → Option Y) (f : ℕ → List X) (n : ℕ) → filter_map h (gathered f n) ≡ gathered (λ i. filter_map h (f i)) n
+pub filter_map_joined : {X Y : Type 0} (h : X → Option Y) (f : ℕ → List X) (n : ℕ)
+    → filter_map h (gathered f n) ≡ gathered (λ i. filter_map h (f i)) n
 unfolding gathered
 filter_map_joined h f zero = refl
-filter_map_joined h f (suc n) = filter_map-append h (gathered f n) (f n) ∙ ap (λ xs. xs ++ filter_map h (f n)) (filter_map_joined h f n)
+filter_map_joined h f (suc n) =
+    filter_map-append h (gathered f n) (f n) ∙ ap (λ xs. xs ++ filter_map h (f n)) (filter_map_joined h f n)

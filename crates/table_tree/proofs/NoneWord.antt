@@ -11,7 +11,9 @@ use Rattle.descriptor.proofs.Unique.{cond_ind}
 use Rattle.page_state.specs.declared.entry.Entry.TheVariants.{Unmapped}
 use Rattle.page_state.specs.Entries.{entry_of_word}
 
-leaf_maps : (b : Bool) (k : Option Kind) (p : Option Prot) (s : Option State) (f : ℕ) → entry_of_word (leaf_or_malformed b k p s f) ≡ Unmapped → ⊥
+leaf_maps : (b : Bool) (k : Option Kind) (p : Option Prot) (s : Option State) (f : ℕ)
+    → entry_of_word (leaf_or_malformed b k p s f) ≡ Unmapped
+    → ⊥
 leaf_maps true (Some k) (Some p) (Some s) f h = cc
 leaf_maps false k p s f h = cc
 leaf_maps true None p s f h = cc

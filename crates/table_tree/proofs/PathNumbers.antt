@@ -30,27 +30,49 @@ pub top : (a : ℕ) (p : List ℕ) → Small p → number_from a p / block_pages
 unfolding Small
 top a [] h = omega arith
 top a (i ∷ r) h =
-    let e : block_pages (suc (length r)) ≡ block_pages (length r) * 512 = let x = size_step (length r) in omega (arith, x) in
+    let e : block_pages (suc (length r)) ≡ block_pages (length r) * 512 = let x = size_step (length r) in
+    omega (arith, x) in
     let x : number_from (a * 512 + i) r / block_pages (length r) ≡ a * 512 + i = top (a * 512 + i) r h.1 in
-    rw e (sym (div-div-eq-div-mul (number_from (a * 512 + i) r) (block_pages (length r)) 512) ∙ ap (λ n. n / 512) x ∙ omega (arith, h.0))
+    rw e
+    (sym (div-div-eq-div-mul (number_from (a * 512 + i) r) (block_pages (length r)) 512) ∙ ap (λ n. n / 512) x
+    ∙ omega (arith, h.0))
 
-index_is : (n m q a i : ℕ) (r : List ℕ) → m + length r ≡ n → i < 512 → Small r → q / block_pages m ≡ number_from a (i ∷ r) → index_at n q ≡ i
+index_is : (n m q a i : ℕ) (r : List ℕ)
+    → m + length r ≡ n
+    → i < 512
+    → Small r
+    → q / block_pages m ≡ number_from a (i ∷ r)
+    → index_at n q ≡ i
 index_is n m q a i r e h s k =
-    let x : q / block_pages n ≡ a * 512 + i = ap (λ d. q / block_pages d) (sym e) ∙ ap (λ z. q / z) (size_add m (length r)) ∙ sym (div-div-eq-div-mul q (block_pages m) (block_pages (length r))) ∙ ap (λ z. z / block_pages (length r)) k ∙ top (a * 512 + i) r s in
+    let x : q / block_pages n ≡ a * 512 + i =
+    ap (λ d. q / block_pages d) (sym e) ∙ ap (λ z. q / z) (size_add m (length r))
+    ∙ sym (div-div-eq-div-mul q (block_pages m) (block_pages (length r)))
+    ∙ ap (λ z. z / block_pages (length r)) k ∙ top (a * 512 + i) r s in
     rw x (omega (arith, h))
 
-pub leads : (n m q a : ℕ) (p : List ℕ) → m + length p ≡ n + 1 → Small p → q / block_pages m ≡ number_from a p → Leads n q p
+pub leads : (n m q a : ℕ) (p : List ℕ)
+    → m + length p ≡ n + 1
+    → Small p
+    → q / block_pages m ≡ number_from a p
+    → Leads n q p
 unfolding Leads Small
 leads n m q a [] e h k = tt
 leads n m q a (i ∷ []) e h k = (index_is n m q a i [] (omega arith) h.0 h.1 k, tt)
-leads n m q a (i ∷ j ∷ r) e h k = (index_is n m q a i (j ∷ r) (omega arith) h.0 h.1 k, leads (n - 1) m q (a * 512 + i) (j ∷ r) (omega arith) h.1 k)
+leads n m q a (i ∷ j ∷ r) e h k =
+    (index_is n m q a i (j ∷ r) (omega arith) h.0 h.1 k, leads (n - 1) m q (a * 512 + i) (j ∷ r) (omega arith) h.1 k)
 
 -- blocks of one depth that are one have one index in each table above them
 pub index_same : (n m p q : ℕ) → m < n → p / block_pages (m + 1) ≡ q / block_pages (m + 1) → index_at n p ≡ index_at n q
 index_same n m p q l e =
     let x : n ≡ (m + 1) + (n - (m + 1)) = omega arith in
-    let s : block_pages n ≡ block_pages (m + 1) * block_pages (n - (m + 1)) = ap block_pages x ∙ size_add (m + 1) (n - (m + 1)) in
-    rw (s, sym (div-div-eq-div-mul p (block_pages (m + 1)) (block_pages (n - (m + 1)))), sym (div-div-eq-div-mul q (block_pages (m + 1)) (block_pages (n - (m + 1)))), e) refl
+    let s : block_pages n ≡ block_pages (m + 1) * block_pages (n - (m + 1)) =
+    ap block_pages x ∙ size_add (m + 1) (n - (m + 1)) in
+    rw (
+      s,
+      sym (div-div-eq-div-mul p (block_pages (m + 1)) (block_pages (n - (m + 1)))),
+      sym (div-div-eq-div-mul q (block_pages (m + 1)) (block_pages (n - (m + 1)))),
+      e,
+    ) refl
 
 -- a path's number is below the number of blocks
 pub number_small : (p : List ℕ) → Small p → number_from 0 p < block_pages (length p)

@@ -22,12 +22,20 @@ abbrev pub IsGood : ℕ → List ℕ → Type 0
 IsGood n p = (1 ≤ length p) × ((length p ≤ n + 1) × Small p)
 
 module _ {A : Type 0} where
-  child_shape : (n : ℕ) (t : Table A) (i : ℕ) (b : Box (Table A) A) → IsShaped n t → i < 512 → slot_at t i ≡ Child b → (1 ≤ n) × IsShaped (n - 1) b.value
+  child_shape : (n : ℕ) (t : Table A) (i : ℕ) (b : Box (Table A) A)
+      → IsShaped n t
+      → i < 512
+      → slot_at t i ≡ Child b
+      → (1 ≤ n) × IsShaped (n - 1) b.value
   child_shape n t i b h p e = let x = slot_child_is n b (slot_at t i) (shaped_slot n t i h p) e in (x.0, x.1)
 
-  next_child : (t : Table A) (i j : ℕ) (r : List ℕ) (b : Box (Table A) A) → i < 512 → slot_at t i ≡ Child b → word_at t (i ∷ j ∷ r) ≡ word_at b.value (j ∷ r)
+  next_child : (t : Table A) (i j : ℕ) (r : List ℕ) (b : Box (Table A) A)
+      → i < 512
+      → slot_at t i ≡ Child b
+      → word_at t (i ∷ j ∷ r) ≡ word_at b.value (j ∷ r)
   unfolding word_at
-  next_child t i j r b h e = let z : ltb i 512 ≡ true = grind (arith, nat_tests) in rw (z, e) (case_child {R = Option ℕ} _ _ b)
+  next_child t i j r b h e = let z : ltb i 512 ≡ true = grind (arith, nat_tests) in
+      rw (z, e) (case_child {R = Option ℕ} _ _ b)
 
   last_word : (t : Table A) (i : ℕ) → i < 512 → word_at t (i ∷ []) ≡ Some (slot_word (slot_at t i))
   unfolding word_at
@@ -58,15 +66,25 @@ module _ {A : Type 0} where
       (λ l. let x = path_over t (i ∷ j ∷ r) (omega arith) (omega arith) in absurd (cc))
 
   -- a table is found by each page of its block
-  pub table_same : (n m p q : ℕ) (t : Table A) → m ≤ n → p / block_pages (m + 1) ≡ q / block_pages (m + 1) → table_in n t m p ≡ table_in n t m q
+  pub table_same : (n m p q : ℕ) (t : Table A)
+      → m ≤ n
+      → p / block_pages (m + 1) ≡ q / block_pages (m + 1)
+      → table_in n t m p ≡ table_in n t m q
   table_same zero m p q t l e = let z : m ≡ 0 = omega arith in table_top zero m t p z ∙ sym (table_top zero m t q z)
   table_same (suc n) m p q t l e = by_eq m (suc n)
       (λ z. table_top (suc n) m t p z ∙ sym (table_top (suc n) m t q z))
       (λ ne.
       let i = index_same (suc n) m p q (omega arith) e in
       by_slot (slot_at t (index_at (suc n) p))
-      (λ w y. table_below (suc n) m t p ne ∙ stand_word (suc n) w m p (slot_at t (index_at (suc n) p)) y ∙ sym (stand_word (suc n) w m q (slot_at t (index_at (suc n) q)) (ap (λ j. slot_at t j) (sym i) ∙ y)) ∙ sym (table_below (suc n) m t q ne))
-      (λ b y. table_below (suc n) m t p ne ∙ stand_child (suc n) n m p b (slot_at t (index_at (suc n) p)) refl y ∙ table_same n m p q b.value (omega arith) e ∙ sym (stand_child (suc n) n m q b (slot_at t (index_at (suc n) q)) refl (ap (λ j. slot_at t j) (sym i) ∙ y)) ∙ sym (table_below (suc n) m t q ne)))
+      (λ w y. table_below (suc n) m t p ne ∙ stand_word (suc n) w m p (slot_at t (index_at (suc n) p)) y
+      ∙ sym (stand_word (suc n) w m q (slot_at t (index_at (suc n) q)) (ap (λ j. slot_at t j) (sym i) ∙ y))
+      ∙ sym (table_below (suc n) m t q ne))
+      (λ b y. table_below (suc n) m t p ne ∙ stand_child (suc n) n m p b (slot_at t (index_at (suc n) p)) refl y
+      ∙ table_same n m p q b.value (omega arith) e
+      ∙ sym
+      (stand_child (suc n) n m q b (slot_at t (index_at (suc n) q)) refl
+      (ap (λ j. slot_at t j) (sym i) ∙ y))
+      ∙ sym (table_below (suc n) m t q ne)))
 
   -- the word is that of a table on the path
   pub record IsTableWord (n m : ℕ) (t : Table A) (p : List ℕ) (w : ℕ) : Type 0 where
@@ -92,7 +110,11 @@ module _ {A : Type 0} where
   IsRead n m t p None = (q : ℕ) → Leads n q p → table_in n t m q ≡ None
   IsRead n m t p (Some w) = IsWordIn n m t p w
 
-  read_word : (n : ℕ) (t : Table A) (i w : ℕ) → IsShaped n t → i < 512 → slot_at t i ≡ Word w → IsRead n n t (i ∷ []) (Some w)
+  read_word : (n : ℕ) (t : Table A) (i w : ℕ)
+      → IsShaped n t
+      → i < 512
+      → slot_at t i ≡ Word w
+      → IsRead n n t (i ∷ []) (Some w)
   unfolding IsRead Leads
   read_word n t i w h l y = record {
     frame = frame_of t;
@@ -100,11 +122,17 @@ module _ {A : Type 0} where
     is = inr (record {
       formed = slot_word_is n w (slot_at t i) (shaped_slot n t i h l) y;
       gives = λ q x. entry_step n t q ∙ word_gives n q w (slot_at t (index_at n q)) (ap (λ j. slot_at t j) x.0 ∙ y);
-      none = λ q low x u. table_below n low t q (λ z. let u' : low < n = u in omega arith) ∙ stand_word n w low q (slot_at t (index_at n q)) (ap (λ j. slot_at t j) x.0 ∙ y);
+      none =
+          λ q low x u. table_below n low t q (λ z. let u' : low < n = u in omega arith)
+          ∙ stand_word n w low q (slot_at t (index_at n q)) (ap (λ j. slot_at t j) x.0 ∙ y);
     });
   }
 
-  read_table : (n : ℕ) (t : Table A) (i : ℕ) (b : Box (Table A) A) → IsShaped n t → i < 512 → slot_at t i ≡ Child b → IsRead n n t (i ∷ []) (Some (table_word (frame_of b.value)))
+  read_table : (n : ℕ) (t : Table A) (i : ℕ) (b : Box (Table A) A)
+      → IsShaped n t
+      → i < 512
+      → slot_at t i ≡ Child b
+      → IsRead n n t (i ∷ []) (Some (table_word (frame_of b.value)))
   unfolding IsRead Leads
   read_table n t i b h l y =
       let s = child_shape n t i b h l y in
@@ -116,30 +144,59 @@ module _ {A : Type 0} where
           frame = frame_of b.value;
           above = u;
           word = refl;
-          stands = λ q x. table_below n (n - 1) t q (λ z. omega arith) ∙ stand_child n (n - 1) (n - 1) q b (slot_at t (index_at n q)) (omega arith) (ap (λ j. slot_at t j) x.0 ∙ y) ∙ table_top (n - 1) (n - 1) b.value q refl;
+          stands =
+              λ q x. table_below n (n - 1) t q (λ z. omega arith)
+              ∙ stand_child n (n - 1) (n - 1) q b (slot_at t (index_at n q)) (omega arith)
+              (ap (λ j. slot_at t j) x.0 ∙ y)
+              ∙ table_top (n - 1) (n - 1) b.value q refl;
         });
       }
 
   -- what a child has at a path its parent has at the path before which its index stands
-  read_below : (n m : ℕ) (t : Table A) (i j : ℕ) (r : List ℕ) (b : Box (Table A) A) (o : Option ℕ) → 1 ≤ n → m < n → slot_at t i ≡ Child b → IsRead (n - 1) m b.value (j ∷ r) o → IsRead n m t (i ∷ j ∷ r) o
+  read_below : (n m : ℕ) (t : Table A) (i j : ℕ) (r : List ℕ) (b : Box (Table A) A) (o : Option ℕ)
+      → 1 ≤ n
+      → m < n
+      → slot_at t i ≡ Child b
+      → IsRead (n - 1) m b.value (j ∷ r) o
+      → IsRead n m t (i ∷ j ∷ r) o
   unfolding IsRead Leads
-  read_below n m t i j r b None u v y h = λ q x. table_below n m t q (λ z. omega arith) ∙ stand_child n (n - 1) m q b (slot_at t (index_at n q)) (omega arith) (ap (λ k. slot_at t k) x.0 ∙ y) ∙ h q x.1
+  read_below n m t i j r b None u v y h =
+      λ q x. table_below n m t q (λ z. omega arith)
+      ∙ stand_child n (n - 1) m q b (slot_at t (index_at n q)) (omega arith) (ap (λ k. slot_at t k) x.0 ∙ y)
+      ∙ h q x.1
   read_below n m t i j r b (Some w) u v y h =
-      let lift : (q low : ℕ) → index_at n q ≡ i → low ≤ m → table_in n t low q ≡ table_in (n - 1) b.value low q = λ q low x l. table_below n low t q (λ z. let l' : low ≤ m = l in omega arith) ∙ stand_child n (n - 1) low q b (slot_at t (index_at n q)) (omega arith) (ap (λ k. slot_at t k) x ∙ y) in
+      let lift : (q low : ℕ) → index_at n q ≡ i → low ≤ m → table_in n t low q ≡ table_in (n - 1) b.value low q =
+      λ q low x l. table_below n low t q (λ z. let l' : low ≤ m = l in omega arith)
+      ∙ stand_child n (n - 1) low q b (slot_at t (index_at n q)) (omega arith) (ap (λ k. slot_at t k) x ∙ y) in
       record {
         frame = h.frame;
         stands = λ q x. lift q m x.0 (omega arith) ∙ h.stands q x.1;
         is = elim h.is as (λ _. IsTableWord n m t (i ∷ j ∷ r) w ⊎ IsPagesWord n m t (i ∷ j ∷ r) w) [
-          | inl k ↦ inl (record { frame = k.frame; above = k.above; word = k.word; stands = λ q x. lift q (m - 1) x.0 (omega arith) ∙ k.stands q x.1 })
+          | inl k ↦ inl
+              (record {
+                frame = k.frame;
+                above = k.above;
+                word = k.word;
+                stands = λ q x. lift q (m - 1) x.0 (omega arith)
+                    ∙ k.stands q x.1;
+              })
           | inr k ↦ inr (record {
             formed = k.formed;
-            gives = λ q x. entry_step n t q ∙ child_gives n (n - 1) q b (slot_at t (index_at n q)) (omega arith) (ap (λ z. slot_at t z) x.0 ∙ y) ∙ k.gives q x.1;
+            gives =
+                λ q x. entry_step n t q
+                ∙ child_gives n (n - 1) q b (slot_at t (index_at n q)) (omega arith) (ap (λ z. slot_at t z) x.0 ∙ y)
+                ∙ k.gives q x.1;
             none = λ q low x l. lift q low x.0 (let l' : low < m = l in omega arith) ∙ k.none q low x.1 l;
           })
         ];
       }
 
-  pub read : (n m : ℕ) (t : Table A) (p : List ℕ) → IsShaped n t → 1 ≤ length p → m + length p ≡ n + 1 → Small p → IsRead n m t p (word_at t p)
+  pub read : (n m : ℕ) (t : Table A) (p : List ℕ)
+      → IsShaped n t
+      → 1 ≤ length p
+      → m + length p ≡ n + 1
+      → Small p
+      → IsRead n m t p (word_at t p)
   unfolding IsRead Leads Small
   read n m t [] h u e s = absurd (omega arith)
   read n m t (i ∷ []) h u e s =
@@ -149,7 +206,11 @@ module _ {A : Type 0} where
       (λ b y. rw (z, last_word t i s.0, sym (slot_word_child b (slot_at t i) y)) (read_table n t i b h s.0 y))
   read n m t (i ∷ j ∷ r) h u e s =
       by_slot (slot_at t i)
-      (λ w y. rw (sym (path_stop t (i ∷ j ∷ r) (slot_at t i) w (omega arith) s.0 refl y)) (λ q x. table_below n m t q (λ z. omega arith) ∙ stand_word n w m q (slot_at t (index_at n q)) (ap (λ k. slot_at t k) x.0 ∙ y)))
+      (λ w y. rw (sym (path_stop t (i ∷ j ∷ r) (slot_at t i) w (omega arith) s.0 refl y))
+      (λ q x. table_below n m t q (λ z. omega arith)
+      ∙ stand_word n w m q (slot_at t (index_at n q)) (ap (λ k. slot_at t k) x.0 ∙ y)))
       (λ b y.
       let c = child_shape n t i b h s.0 y in
-      rw (next_child t i j r b s.0 y) (read_below n m t i j r b (word_at b.value (j ∷ r)) c.0 (omega arith) y (read (n - 1) m b.value (j ∷ r) c.1 (omega arith) (omega arith) s.1)))
+      rw (next_child t i j r b s.0 y)
+      (read_below n m t i j r b (word_at b.value (j ∷ r)) c.0 (omega arith) y
+      (read (n - 1) m b.value (j ∷ r) c.1 (omega arith) (omega arith) s.1)))

@@ -30,13 +30,15 @@ module _ {A : Type 0} where
   slot_path s [] = Some (slot_word s)
   slot_path s (j ∷ rest) = slot_case (λ _. None) (λ c. word_at c (j ∷ rest)) s
 
-  path_step : (t : Table A) (i : ℕ) (rest : List ℕ) → word_at t (i ∷ rest) ≡ cond (ltb i 512) (slot_path (slot_at t i) rest) None
+  path_step : (t : Table A) (i : ℕ) (rest : List ℕ)
+      → word_at t (i ∷ rest) ≡ cond (ltb i 512) (slot_path (slot_at t i) rest) None
   unfolding word_at slot_path
   path_step t i [] = refl
   path_step t i (j ∷ rest) = refl
 
   pub path_in : (t : Table A) (i : ℕ) (rest : List ℕ) → i < 512 → word_at t (i ∷ rest) ≡ slot_path (slot_at t i) rest
-  path_in t i rest h = let z : ltb i 512 ≡ true = grind (arith, nat_tests) in path_step t i rest ∙ ap (λ b. cond b (slot_path (slot_at t i) rest) None) z
+  path_in t i rest h = let z : ltb i 512 ≡ true = grind (arith, nat_tests) in
+      path_step t i rest ∙ ap (λ b. cond b (slot_path (slot_at t i) rest) None) z
 
   no_path : (t : Table A) → word_at t [] ≡ None
   unfolding word_at
@@ -55,7 +57,8 @@ module _ {A : Type 0} where
   unfolding slot_path
   child_path b = ap Some (sym (slot_word_child b (Child b) refl))
 
-  child_leads : (b : Box (Table A) A) (j : ℕ) (rest : List ℕ) → slot_path (Child b) (j ∷ rest) ≡ word_at b.value (j ∷ rest)
+  child_leads : (b : Box (Table A) A) (j : ℕ) (rest : List ℕ)
+      → slot_path (Child b) (j ∷ rest) ≡ word_at b.value (j ∷ rest)
   unfolding slot_path
   child_leads b j rest = case_child {R = Option ℕ} _ _ b
 
@@ -69,7 +72,10 @@ module _ {A : Type 0} where
     pub words : IsPoked (slot_path s) (slot_path r) p word
     pub same : slot_path s p ≡ Some word → (q : ℕ) → slot_entry d r q ≡ slot_entry d s q
     pub outside : (q : ℕ) → (Leads (d - 1) q p → ⊥) → slot_entry d r q ≡ slot_entry d s q
-    pub within : (slot_path s p ≡ Some word → ⊥) → (q : ℕ) → Leads (d - 1) q p → slot_entry d r q ≡ word_entry (d - length p) q word
+    pub within : (slot_path s p ≡ Some word → ⊥)
+        → (q : ℕ)
+        → Leads (d - 1) q p
+        → slot_entry d r q ≡ word_entry (d - length p) q word
 
   -- a slot that holds the word already
   pub slot_stays : (d : ℕ) (s : Slot A) (word : ℕ) → IsRawSlot d s → slot_word s ≡ word → IsPokedSlot d s s [] word
@@ -93,7 +99,9 @@ module _ {A : Type 0} where
   pub slot_word_over : (d : ℕ) (s : Slot A) (word : ℕ) → (slot_word s ≡ word → ⊥) → IsPokedSlot d s (Word word) [] word
   unfolding Leads
   slot_word_over d s word n =
-      let other : slot_path s [] ≡ Some word → ⊥ = λ x. let y : Some (slot_word s) ≡ Some word = sym (path_here s) ∙ x in n (cc) in
+      let other : slot_path s [] ≡ Some word → ⊥ =
+      λ x. let y : Some (slot_word s) ≡ Some word = sym (path_here s) ∙ x in
+      n (cc) in
       record {
         shape = raw_word d word (Word word) refl;
         words = record {
@@ -104,12 +112,16 @@ module _ {A : Type 0} where
         };
         same = λ x q. absurd (other x);
         outside = λ q x. absurd (x tt);
-        within = λ x q l. let z : d - 0 ≡ d = omega arith in word_gives d q word (Word word) refl ∙ ap (λ k. word_entry k q word) (sym z);
+        within = λ x q l. let z : d - 0 ≡ d = omega arith in
+            word_gives d q word (Word word) refl ∙ ap (λ k. word_entry k q word) (sym z);
       }
 
   -- a child that was poked
-  module _ (d word j : ℕ) (rest : List ℕ) (b c : Box (Table A) A) (one : 1 ≤ d) (h : IsPokedTable (d - 1) b.value c.value (j ∷ rest) word) where
-    same_head : (q : List ℕ) → ((k : ℕ) (r : List ℕ) → q ≡ k ∷ r → word_at c.value q ≡ word_at b.value q) → slot_path (Child c) q ≡ slot_path (Child b) q
+  module _ (d word j : ℕ) (rest : List ℕ) (b c : Box (Table A) A) (one : 1 ≤ d)
+      (h : IsPokedTable (d - 1) b.value c.value (j ∷ rest) word) where
+    same_head : (q : List ℕ)
+        → ((k : ℕ) (r : List ℕ) → q ≡ k ∷ r → word_at c.value q ≡ word_at b.value q)
+        → slot_path (Child c) q ≡ slot_path (Child b) q
     same_head [] e = child_path c ∙ ap (λ f. Some (table_word f)) h.frame ∙ sym (child_path b)
     same_head (k ∷ r) e = child_leads c k r ∙ e k r refl ∙ sym (child_leads b k r)
 
@@ -133,11 +145,14 @@ module _ {A : Type 0} where
       };
       same = λ x q. gives c q ∙ h.same (was x) q ∙ sym (gives b q);
       outside = λ q x. gives c q ∙ h.outside q x ∙ sym (gives b q);
-      within = λ x q l. let z : d - 1 + 1 - length (j ∷ rest) ≡ d - length (j ∷ rest) = omega arith in gives c q ∙ h.within (was_not x) q l ∙ ap (λ k. word_entry k q word) z;
+      within = λ x q l. let z : d - 1 + 1 - length (j ∷ rest) ≡ d - length (j ∷ rest) = omega arith in
+          gives c q ∙ h.within (was_not x) q l ∙ ap (λ k. word_entry k q word) z;
     }
 
   -- a table, of which slot `i` was poked
-  module _ (d i word : ℕ) (p : List ℕ) (t u : Table A) (s : Slot A) (raw : IsRaw d t) (l : i < 512) (e : slots_of u ≡ set (slots_of t) i s) (f : frame_of u ≡ frame_of t) (h : IsPokedSlot d (slot_at t i) s p word) where
+  module _ (d i word : ℕ) (p : List ℕ) (t u : Table A) (s : Slot A) (raw : IsRaw d t) (l : i < 512)
+      (e : slots_of u ≡ set (slots_of t) i s) (f : frame_of u ≡ frame_of t)
+      (h : IsPokedSlot d (slot_at t i) s p word) where
     here : (k : ℕ) → k ≡ i → slot_at u k ≡ s
     here k z = set_here t u i k s e l (raw_wide d t raw) z
 
@@ -148,18 +163,27 @@ module _ {A : Type 0} where
     before_is q = path_in t i q l
 
     other_path : (k : ℕ) (q : List ℕ) → (k ≡ i → ⊥) → word_at u (k ∷ q) ≡ word_at t (k ∷ q)
-    other_path k q n = path_step u k q ∙ ap (λ x. cond (ltb k 512) (slot_path x q) None) (set_others t u i k s e n) ∙ sym (path_step t k q)
+    other_path k q n =
+        path_step u k q ∙ ap (λ x. cond (ltb k 512) (slot_path x q) None) (set_others t u i k s e n)
+        ∙ sym (path_step t k q)
 
-    by_path : (q : List ℕ) → ((r : List ℕ) → q ≡ i ∷ r → slot_path s r ≡ slot_path (slot_at t i) r) → word_at u q ≡ word_at t q
+    by_path : (q : List ℕ)
+        → ((r : List ℕ) → q ≡ i ∷ r → slot_path s r ≡ slot_path (slot_at t i) r)
+        → word_at u q ≡ word_at t q
     by_path [] g = no_path u ∙ sym (no_path t)
     by_path (k ∷ r) g = by_eq k i
-        (λ z. ap (λ x. word_at u (x ∷ r)) z ∙ after_is r ∙ g r (ap (λ x. x ∷ r) z) ∙ sym (before_is r) ∙ sym (ap (λ x. word_at t (x ∷ r)) z))
+        (λ z. ap (λ x. word_at u (x ∷ r)) z ∙ after_is r ∙ g r (ap (λ x. x ∷ r) z) ∙ sym (before_is r)
+        ∙ sym (ap (λ x. word_at t (x ∷ r)) z))
         (λ n. other_path k r n)
 
-    by_page : (q : ℕ) → (index_at d q ≡ i → slot_entry d s q ≡ slot_entry d (slot_at t i) q) → entry_at d u q ≡ entry_at d t q
+    by_page : (q : ℕ)
+        → (index_at d q ≡ i → slot_entry d s q ≡ slot_entry d (slot_at t i) q)
+        → entry_at d u q ≡ entry_at d t q
     by_page q g = by_eq (index_at d q) i
-        (λ z. entry_step d u q ∙ ap (λ x. slot_entry d x q) (here (index_at d q) z) ∙ g z ∙ sym (entry_step d t q ∙ ap (λ k. slot_entry d (slot_at t k) q) z))
-        (λ n. entry_step d u q ∙ ap (λ x. slot_entry d x q) (set_others t u i (index_at d q) s e n) ∙ sym (entry_step d t q))
+        (λ z. entry_step d u q ∙ ap (λ x. slot_entry d x q) (here (index_at d q) z) ∙ g z
+        ∙ sym (entry_step d t q ∙ ap (λ k. slot_entry d (slot_at t k) q) z))
+        (λ n. entry_step d u q ∙ ap (λ x. slot_entry d x q) (set_others t u i (index_at d q) s e n)
+        ∙ sym (entry_step d t q))
 
     held : word_at t (i ∷ p) ≡ Some word → slot_path (slot_at t i) p ≡ Some word
     held x = sym (before_is p) ∙ x
@@ -180,30 +204,63 @@ module _ {A : Type 0} where
       };
       same = λ x q. by_page q (λ z. h.same (held x) q);
       outside = λ q x. by_page q (λ z. h.outside q (λ y. x (z, y)));
-      within = λ x q y. let z : d - length p ≡ d + 1 - length (i ∷ p) = omega arith in entry_step d u q ∙ ap (λ k. slot_entry d k q) (here (index_at d q) y.0) ∙ h.within (held_not x) q y.1 ∙ ap (λ k. word_entry k q word) z;
+      within = λ x q y. let z : d - length p ≡ d + 1 - length (i ∷ p) = omega arith in
+          entry_step d u q ∙ ap (λ k. slot_entry d k q) (here (index_at d q) y.0) ∙ h.within (held_not x) q y.1
+          ∙ ap (λ k. word_entry k q word) z;
     }
 
   -- paths of one index
-  pub poked_same : (d word : ℕ) (p : List ℕ) (t u : Table A) → IsRaw d t → length p ≡ 1 → get_or p 0 0 < 512 → slot_word (slot_at t (get_or p 0 0)) ≡ word → slots_of u ≡ slots_of t → frame_of u ≡ frame_of t → IsPokedTable d t u p word
+  pub poked_same : (d word : ℕ) (p : List ℕ) (t u : Table A)
+      → IsRaw d t
+      → length p ≡ 1
+      → get_or p 0 0 < 512
+      → slot_word (slot_at t (get_or p 0 0)) ≡ word
+      → slots_of u ≡ slots_of t
+      → frame_of u ≡ frame_of t
+      → IsPokedTable d t u p word
   poked_same d word p t u raw one l w e f =
       let i = get_or p 0 0 in
-      let back : slots_of u ≡ set (slots_of t) (get_or p 0 0) (slot_at t (get_or p 0 0)) = e ∙ sym (set-get_or (slots_of t) (get_or p 0 0) (Word 0)) in
-      subst (λ x. IsPokedTable d t u x word) (sym (one_index_path p one)) (table_poked d i word [] t u (slot_at t i) raw l back f (slot_stays d (slot_at t i) word (raw_slot d t i raw l) w))
+      let back : slots_of u ≡ set (slots_of t) (get_or p 0 0) (slot_at t (get_or p 0 0)) =
+      e ∙ sym (set-get_or (slots_of t) (get_or p 0 0) (Word 0)) in
+      subst (λ x. IsPokedTable d t u x word) (sym (one_index_path p one))
+      (table_poked d i word [] t u (slot_at t i) raw l back f
+      (slot_stays d (slot_at t i) word (raw_slot d t i raw l) w))
 
-  pub poked_other : (d word : ℕ) (p : List ℕ) (t u : Table A) → IsRaw d t → length p ≡ 1 → get_or p 0 0 < 512 → (slot_word (slot_at t (get_or p 0 0)) ≡ word → ⊥) → slots_of u ≡ set (slots_of t) (get_or p 0 0) (Word word) → frame_of u ≡ frame_of t → IsPokedTable d t u p word
+  pub poked_other : (d word : ℕ) (p : List ℕ) (t u : Table A)
+      → IsRaw d t
+      → length p ≡ 1
+      → get_or p 0 0 < 512
+      → (slot_word (slot_at t (get_or p 0 0)) ≡ word → ⊥)
+      → slots_of u ≡ set (slots_of t) (get_or p 0 0) (Word word)
+      → frame_of u ≡ frame_of t
+      → IsPokedTable d t u p word
   poked_other d word p t u raw one l n e f =
       let i = get_or p 0 0 in
-      subst (λ x. IsPokedTable d t u x word) (sym (one_index_path p one)) (table_poked d i word [] t u (Word word) raw l e f (slot_word_over d (slot_at t i) word n))
+      subst (λ x. IsPokedTable d t u x word) (sym (one_index_path p one))
+      (table_poked d i word [] t u (Word word) raw l e f (slot_word_over d (slot_at t i) word n))
 
   -- paths of more
-  pub poked_below : (d word : ℕ) (p : List ℕ) (t m u : Table A) (b c : Box (Table A) A) → IsRaw d t → 2 ≤ length p → get_or p 0 0 < 512 → 1 ≤ d → slot_at t (get_or p 0 0) ≡ Child b → slots_of m ≡ set (slots_of t) (get_or p 0 0) (Word 0) → slots_of u ≡ set (slots_of m) (get_or p 0 0) (Child c) → frame_of m ≡ frame_of t → frame_of u ≡ frame_of m
+  pub poked_below : (d word : ℕ) (p : List ℕ) (t m u : Table A) (b c : Box (Table A) A)
+      → IsRaw d t
+      → 2 ≤ length p
+      → get_or p 0 0 < 512
+      → 1 ≤ d
+      → slot_at t (get_or p 0 0) ≡ Child b
+      → slots_of m ≡ set (slots_of t) (get_or p 0 0) (Word 0)
+      → slots_of u ≡ set (slots_of m) (get_or p 0 0) (Child c)
+      → frame_of m ≡ frame_of t
+      → frame_of u ≡ frame_of m
       → IsPokedTable (d - 1) b.value c.value (take (length p - 1) (drop 1 p)) word → IsPokedTable d t u p word
   poked_below d word [] t m u b c raw two l one k em eu fm fu h = absurd (omega arith)
   poked_below d word (i ∷ []) t m u b c raw two l one k em eu fm fu h = absurd (omega arith)
   poked_below d word (i ∷ j ∷ r) t m u b c raw two l one k em eu fm fu h =
-      let e : slots_of u ≡ set (slots_of t) i (Child c) = eu ∙ ap (λ x. set x i (Child c)) em ∙ set_twice (slots_of t) i (Word 0) (Child c) in
-      let g : IsPokedTable (d - 1) b.value c.value (j ∷ r) word = subst (λ x. IsPokedTable (d - 1) b.value c.value x word) (take_all (length (i ∷ j ∷ r) - 1) (j ∷ r) (omega arith)) h in
-      table_poked d i word (j ∷ r) t u (Child c) raw l e (fu ∙ fm) (subst (λ x. IsPokedSlot d x (Child c) (j ∷ r) word) (sym k) (slot_child_poked d word j r b c one g))
+      let e : slots_of u ≡ set (slots_of t) i (Child c) =
+      eu ∙ ap (λ x. set x i (Child c)) em ∙ set_twice (slots_of t) i (Word 0) (Child c) in
+      let g : IsPokedTable (d - 1) b.value c.value (j ∷ r) word =
+      subst (λ x. IsPokedTable (d - 1) b.value c.value x word)
+      (take_all (length (i ∷ j ∷ r) - 1) (j ∷ r) (omega arith)) h in
+      table_poked d i word (j ∷ r) t u (Child c) raw l e (fu ∙ fm)
+      (subst (λ x. IsPokedSlot d x (Child c) (j ∷ r) word) (sym k) (slot_child_poked d word j r b c one g))
 
 value_of : (o : Option ℕ) → IsSome o → (w : ℕ) × (o ≡ Some w)
 value_of None h = absurd (cc)
@@ -222,10 +279,20 @@ module _ {A : Type 0} where
   pub there_first : (d : ℕ) (t : Table A) (p : List ℕ) → IsRaw d t → IsSome (word_at t p) → get_or p 0 0 < 512
   there_first d t p raw h = let x = there_good d t p raw h in first_small p x.0 x.1.1
 
-  pub there_below : (t : Table A) (p : List ℕ) (b : Box (Table A) A) → 2 ≤ length p → get_or p 0 0 < 512 → slot_at t (get_or p 0 0) ≡ Child b → IsSome (word_at t p) → IsSome (word_at b.value (take (length p - 1) (drop 1 p)))
+  pub there_below : (t : Table A) (p : List ℕ) (b : Box (Table A) A)
+      → 2 ≤ length p
+      → get_or p 0 0 < 512
+      → slot_at t (get_or p 0 0) ≡ Child b
+      → IsSome (word_at t p)
+      → IsSome (word_at b.value (take (length p - 1) (drop 1 p)))
   there_below t p b two l k h = rw (path_below t p (slot_at t (get_or p 0 0)) b two l refl k) h
 
-  pub there_stops : (t : Table A) (p : List ℕ) → 2 ≤ length p → get_or p 0 0 < 512 → HoldsWord (slot_at t (get_or p 0 0)) → IsSome (word_at t p) → ⊥
+  pub there_stops : (t : Table A) (p : List ℕ)
+      → 2 ≤ length p
+      → get_or p 0 0 < 512
+      → HoldsWord (slot_at t (get_or p 0 0))
+      → IsSome (word_at t p)
+      → ⊥
   there_stops t p two l k h =
       let x = path_stop t p (slot_at t (get_or p 0 0)) k.0 two l refl k.1 in
       let y = value_of (word_at t p) h in
@@ -236,8 +303,17 @@ module _ {A : Type 0} where
   pub by_word : {P : Type 0} (s : Slot A) (word : ℕ) → (slot_word s ≡ word → P) → ((slot_word s ≡ word → ⊥) → P) → P
   by_word s word f g = by_eq (slot_word s) word f g
 
-  pub there_two : (d : ℕ) (t : Table A) (p : List ℕ) → IsRaw d t → IsSome (word_at t p) → (length p ≡ 1 → ⊥) → 2 ≤ length p
+  pub there_two : (d : ℕ) (t : Table A) (p : List ℕ)
+      → IsRaw d t
+      → IsSome (word_at t p)
+      → (length p ≡ 1 → ⊥)
+      → 2 ≤ length p
   there_two d t p raw h n = let x = (there_good d t p raw h).0 in omega (arith, x, n)
 
-  pub there_child : (d : ℕ) (t : Table A) (p : List ℕ) (b : Box (Table A) A) → IsRaw d t → IsSome (word_at t p) → slot_at t (get_or p 0 0) ≡ Child b → (1 ≤ d) × IsRaw (d - 1) b.value
-  there_child d t p b raw h k = raw_child_is d b (slot_at t (get_or p 0 0)) (raw_slot d t (get_or p 0 0) raw (there_first d t p raw h)) k
+  pub there_child : (d : ℕ) (t : Table A) (p : List ℕ) (b : Box (Table A) A)
+      → IsRaw d t
+      → IsSome (word_at t p)
+      → slot_at t (get_or p 0 0) ≡ Child b
+      → (1 ≤ d) × IsRaw (d - 1) b.value
+  there_child d t p b raw h k =
+      raw_child_is d b (slot_at t (get_or p 0 0)) (raw_slot d t (get_or p 0 0) raw (there_first d t p raw h)) k

@@ -28,31 +28,52 @@ module _ {A : Type 0} where
   unfolding tables_of
   tables_are t = refl
 
-  by_table : {R : Type 0} (t u : Tree A) → t.geometry ≡ u.geometry → t.table ≡ u.table → (of : Geometry → Table A → R) → of t.geometry t.table ≡ of u.geometry u.table
+  by_table : {R : Type 0} (t u : Tree A)
+      → t.geometry ≡ u.geometry
+      → t.table ≡ u.table
+      → (of : Geometry → Table A → R)
+      → of t.geometry t.table ≡ of u.geometry u.table
   by_table t u g h of = ap (λ x. of x t.table) g ∙ ap (λ x. of u.geometry x) h
 
-  same_at : (depth number : ℕ) (t u : Tree A) → t.geometry ≡ u.geometry → t.table ≡ u.table → table_at t depth number ≡ table_at u depth number
+  same_at : (depth number : ℕ) (t u : Tree A)
+      → t.geometry ≡ u.geometry
+      → t.table ≡ u.table
+      → table_at t depth number ≡ table_at u depth number
   unfolding table_at table_under
   same_at zero number t u g h = refl
-  same_at (suc low) number t u g h = by_table t u g h (λ x y. cond (nat_lt (number * block_pages (suc low)) (input_pages x)) (table_in (levels_below x) y low (number * block_pages (suc low))) None)
+  same_at (suc low) number t u g h =
+      by_table t u g h
+      (λ x y. cond (nat_lt (number * block_pages (suc low)) (input_pages x))
+      (table_in (levels_below x) y low (number * block_pages (suc low))) None)
 
   pub same_meaning : (t u : Tree A) → t.geometry ≡ u.geometry → t.table ≡ u.table → meaning t ≡ meaning u
   unfolding meaning map_under
-  same_meaning t u g h = fun_ext (λ page. by_table t u g h (λ x y. cond (nat_lt page (input_pages x)) (entry_at (levels_below x) y page) Unmapped))
+  same_meaning t u g h =
+      fun_ext
+      (λ page. by_table t u g h
+      (λ x y. cond (nat_lt page (input_pages x)) (entry_at (levels_below x) y page) Unmapped))
 
   pub same_tree : (t u : Tree A) → t.geometry ≡ u.geometry → t.table ≡ u.table → tree_of t ≡ tree_of u
   same_tree t u g h = tree-same (same_meaning t u g h) (fun_ext (λ b. same_at b.0 b.1 t u g h))
 
   pub same_uses : (t u : Tree A) → t.geometry ≡ u.geometry → t.table ≡ u.table → (f : ℕ) → uses t f ≡ uses u f
-  same_uses t u g h f = uses_are t f ∙ ap (λ x. uses_in (levels_below x) t.table f) g ∙ ap (λ x. uses_in (levels_below u.geometry) x f) h ∙ sym (uses_are u f)
+  same_uses t u g h f =
+      uses_are t f ∙ ap (λ x. uses_in (levels_below x) t.table f) g ∙ ap (λ x. uses_in (levels_below u.geometry) x f) h
+      ∙ sym (uses_are u f)
 
   pub same_count : (t u : Tree A) → t.geometry ≡ u.geometry → t.table ≡ u.table → tables_of t ≡ tables_of u
-  same_count t u g h = tables_are t ∙ ap (λ x. tables_in (levels_below x) t.table) g ∙ ap (λ x. tables_in (levels_below u.geometry) x) h ∙ sym (tables_are u)
+  same_count t u g h =
+      tables_are t ∙ ap (λ x. tables_in (levels_below x) t.table) g ∙ ap (λ x. tables_in (levels_below u.geometry) x) h
+      ∙ sym (tables_are u)
 
   pub same_spares : (t u : Tree A) → t.spares ≡ u.spares → spares_of t ≡ spares_of u
   unfolding spares_of
   same_spares t u h = ap (λ s. kept_in s) h
 
   -- anything told of the geometry and the reference tree
-  pub by_views : {R : Type 0} (t u : Tree A) → t.geometry ≡ u.geometry → t.table ≡ u.table → (of : Geometry → ReferenceTree → R) → of t.geometry (tree_of t) ≡ of u.geometry (tree_of u)
+  pub by_views : {R : Type 0} (t u : Tree A)
+      → t.geometry ≡ u.geometry
+      → t.table ≡ u.table
+      → (of : Geometry → ReferenceTree → R)
+      → of t.geometry (tree_of t) ≡ of u.geometry (tree_of u)
   by_views t u g h of = ap (λ x. of x (tree_of t)) g ∙ ap (λ x. of u.geometry x) (same_tree t u g h)

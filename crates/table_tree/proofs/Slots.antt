@@ -19,7 +19,10 @@ set_twice [] i a s = refl
 set_twice (x ∷ xs) zero a s = refl
 set_twice (x ∷ xs) (suc i) a s = ap (λ ys. x ∷ ys) (set_twice xs i a s)
 
-pub set_back : {X : Type 0} (xs : List X) (i : ℕ) (a s : X) → i < length xs → s ≡ get_or xs i s → set (set xs i a) i s ≡ xs
+pub set_back : {X : Type 0} (xs : List X) (i : ℕ) (a s : X)
+    → i < length xs
+    → s ≡ get_or xs i s
+    → set (set xs i a) i s ≡ xs
 set_back xs i a s p e = set_twice xs i a s ∙ ap (λ x. set xs i x) e ∙ set-get_or xs i s
 
 pub get_any : {X : Type 0} (xs : List X) (i : ℕ) (a b : X) → i < length xs → get_or xs i a ≡ get_or xs i b
@@ -29,7 +32,14 @@ get_any (x ∷ xs) (suc i) a b p = get_any xs i a b (omega arith)
 
 module _ {A : Type 0} where
   slot_cases : (s : Slot A) → ((w : ℕ) × (s ≡ Word w)) ⊎ ((b : Box (Table A) A) × (s ≡ Child b))
-  slot_cases s = elim (out-Slot A s) as (λ o. roll-Slot A o ≡ s → ((w : ℕ) × (s ≡ Word w)) ⊎ ((b : Box (Table A) A) × (s ≡ Child b))) [ OpenWord w ↦ λ e. inl (w, sym e ∙ rolls-Word {X1 = A} w) | OpenChild b ↦ λ e. inr (b, sym e ∙ rolls-Child b) ] (roll-out-Slot A s)
+  slot_cases s =
+      elim
+      (out-Slot A s) as (λ o. roll-Slot A o ≡ s
+      → ((w : ℕ) × (s ≡ Word w)) ⊎ ((b : Box (Table A) A) × (s ≡ Child b))) [
+        | OpenWord w ↦ λ e. inl (w, sym e ∙ rolls-Word {X1 = A} w)
+        | OpenChild b ↦ λ e. inr (b, sym e ∙ rolls-Child b)
+      ]
+      (roll-out-Slot A s)
 
   -- a slot is a word or a child
   pub by_slot : {P : Type 0} (s : Slot A) → ((w : ℕ) → s ≡ Word w → P) → ((b : Box (Table A) A) → s ≡ Child b → P) → P
@@ -38,10 +48,13 @@ module _ {A : Type 0} where
   pub case_word : {R : Type 0} (here : ℕ → R) (below : Table A → R) (w : ℕ) → slot_case here below (Word w) ≡ here w
   case_word here below w = rw (outs-Word {X1 = A} w, slot_case) refl
 
-  pub case_child : {R : Type 0} (here : ℕ → R) (below : Table A → R) (b : Box (Table A) A) → slot_case here below (Child b) ≡ below b.value
+  pub case_child : {R : Type 0} (here : ℕ → R) (below : Table A → R) (b : Box (Table A) A)
+      → slot_case here below (Child b) ≡ below b.value
   case_child here below b = rw (outs-Child b, slot_case) refl
 
-  pub meets_child : (here : ℕ → Type 0) (below : Table A → Type 0) (b : Box (Table A) A) → MeetsSlot here below (Child b) → below b.value
+  pub meets_child : (here : ℕ → Type 0) (below : Table A → Type 0) (b : Box (Table A) A)
+      → MeetsSlot here below (Child b)
+      → below b.value
   meets_child here below b h = rw (outs-Child b, MeetsSlot) at h
 
   pub meets_word : (here : ℕ → Type 0) (below : Table A → Type 0) (w : ℕ) → MeetsSlot here below (Word w) → here w
@@ -50,23 +63,45 @@ module _ {A : Type 0} where
   pub word_meets : (here : ℕ → Type 0) (below : Table A → Type 0) (w : ℕ) → here w → MeetsSlot here below (Word w)
   word_meets here below w h = rw (outs-Word {X1 = A} w, MeetsSlot) h
 
-  pub child_meets : (here : ℕ → Type 0) (below : Table A → Type 0) (b : Box (Table A) A) → below b.value → MeetsSlot here below (Child b)
+  pub child_meets : (here : ℕ → Type 0) (below : Table A → Type 0) (b : Box (Table A) A)
+      → below b.value
+      → MeetsSlot here below (Child b)
   child_meets here below b h = rw (outs-Child b, MeetsSlot) h
 
-  pub read_slot : (t : Table A) (i n : ℕ) (x : Slot A) → x ≡ get_or t.slots.items i x → i < n → n ≡ 512 → n ≡ length t.slots.items → x ≡ slot_at t i
+  pub read_slot : (t : Table A) (i n : ℕ) (x : Slot A)
+      → x ≡ get_or t.slots.items i x
+      → i < n
+      → n ≡ 512
+      → n ≡ length t.slots.items
+      → x ≡ slot_at t i
   read_slot t i n x e p q r = get_or_read_under t.slots.items i n x _ e p r
 
   -- a word put back where it was taken
-  pub taken_back : (t u v : Table A) (i : ℕ) (s r a : Slot A) → i < 512 → IsWide t → r ≡ slot_at t i → r ≡ s → slots_of u ≡ set (slots_of t) i a → slots_of v ≡ set (slots_of u) i s → slots_of v ≡ slots_of t
+  pub taken_back : (t u v : Table A) (i : ℕ) (s r a : Slot A)
+      → i < 512
+      → IsWide t
+      → r ≡ slot_at t i
+      → r ≡ s
+      → slots_of u ≡ set (slots_of t) i a
+      → slots_of v ≡ set (slots_of u) i s
+      → slots_of v ≡ slots_of t
   taken_back t u v i s r a p w e e' x y =
       let q : i < length (slots_of t) = omega (arith, w) in
       rw (y, x) (set_back (slots_of t) i a s q (sym e' ∙ e ∙ get_any (slots_of t) i (Word 0) s q))
 
   -- a table after a write of one slot
-  pub set_here : (t u : Table A) (i j : ℕ) (s : Slot A) → slots_of u ≡ set (slots_of t) i s → i < 512 → IsWide t → j ≡ i → slot_at u j ≡ s
+  pub set_here : (t u : Table A) (i j : ℕ) (s : Slot A)
+      → slots_of u ≡ set (slots_of t) i s
+      → i < 512
+      → IsWide t
+      → j ≡ i
+      → slot_at u j ≡ s
   set_here t u i j s e p w q = rw e (get_or-set_at (slots_of t) i j s _ q (omega (arith, w)))
 
-  pub set_others : (t u : Table A) (i j : ℕ) (s : Slot A) → slots_of u ≡ set (slots_of t) i s → j ≢ i → slot_at u j ≡ slot_at t j
+  pub set_others : (t u : Table A) (i j : ℕ) (s : Slot A)
+      → slots_of u ≡ set (slots_of t) i s
+      → j ≢ i
+      → slot_at u j ≡ slot_at t j
   set_others t u i j s e q = rw e (get_or-set_other (slots_of t) i j s _ q)
 
   pub set_wide : (t u : Table A) (i : ℕ) (s : Slot A) → slots_of u ≡ set (slots_of t) i s → IsWide t → IsWide u
@@ -93,7 +128,11 @@ module _ {A : Type 0} where
   slot_word_made zero w s e h = rw e (word_meets (IsEntryWord zero) (λ _. ⊥) w h)
   slot_word_made (suc n) w s e h = rw e (word_meets (IsEntryWord (suc n)) (λ c. IsShaped n c) w h)
 
-  pub slot_child_made : (n m : ℕ) (b : Box (Table A) A) (s : Slot A) → n ≡ suc m → s ≡ Child b → IsShaped m b.value → IsSlot n s
+  pub slot_child_made : (n m : ℕ) (b : Box (Table A) A) (s : Slot A)
+      → n ≡ suc m
+      → s ≡ Child b
+      → IsShaped m b.value
+      → IsSlot n s
   unfolding IsSlot
   slot_child_made n m b s k e h = rw (k, e) (child_meets (IsEntryWord (suc m)) (λ c. IsShaped m c) b h)
 
@@ -103,16 +142,26 @@ module _ {A : Type 0} where
   slot_word_is (suc n) w s h e = meets_word (IsEntryWord (suc n)) (λ c. IsShaped n c) w (rw e at h)
 
   -- what a child of a shaped table meets
-  pub slot_child_is : (n : ℕ) (b : Box (Table A) A) (s : Slot A) → IsSlot n s → s ≡ Child b → (1 ≤ n) × IsShaped (n - 1) b.value
+  pub slot_child_is : (n : ℕ) (b : Box (Table A) A) (s : Slot A)
+      → IsSlot n s
+      → s ≡ Child b
+      → (1 ≤ n) × IsShaped (n - 1) b.value
   unfolding IsSlot
   slot_child_is zero b s h e = absurd (meets_child (IsEntryWord zero) (λ _. ⊥) b (rw e at h))
-  slot_child_is (suc n) b s h e = let x = meets_child (IsEntryWord (suc n)) (λ c. IsShaped n c) b (rw e at h) in (omega arith, simp unary_clauses x)
+  slot_child_is (suc n) b s h e = let x = meets_child (IsEntryWord (suc n)) (λ c. IsShaped n c) b (rw e at h) in
+      (omega arith, simp unary_clauses x)
 
   pub child_shaped : (n : ℕ) (b : Box (Table A) A) (s : Slot A) → IsSlot (suc n) s → s ≡ Child b → IsShaped n b.value
   unfolding IsSlot
   child_shaped n b s h e = (meets_child (IsEntryWord (suc n)) (λ c. IsShaped n c) b (rw e at h))
 
-  pub shaped_set : (n : ℕ) (t u : Table A) (i : ℕ) (s : Slot A) → IsShaped n t → i < 512 → slots_of u ≡ set (slots_of t) i s → IsSlot n s → IsShaped n u
+  pub shaped_set : (n : ℕ) (t u : Table A) (i : ℕ) (s : Slot A)
+      → IsShaped n t
+      → i < 512
+      → slots_of u ≡ set (slots_of t) i s
+      → IsSlot n s
+      → IsShaped n u
   shaped_set n t u i s h p e m =
       shaped_made n u (set_wide t u i s e (shaped_wide n t h))
-      (λ j q. by_eq j i (λ z. rw (set_here t u i j s e p (shaped_wide n t h) z) m) (λ z. rw (set_others t u i j s e z) (shaped_slot n t j h q)))
+      (λ j q. by_eq j i (λ z. rw (set_here t u i j s e p (shaped_wide n t h) z) m)
+      (λ z. rw (set_others t u i j s e z) (shaped_slot n t j h q)))

@@ -16,30 +16,50 @@ use Rattle.table_tree.proofs.Sums.{words_tables, words_uses}
 use Rattle.table_tree.proofs.Standing.{words_standing}
 
 module _ {A : Type 0} where
-  pub tight_word : (d : ℕ) (t u : Table A) (i w : ℕ) → IsTight d t → IsWide t → i < 512 → slots_of u ≡ set (slots_of t) i (Word w) → IsTight d u
+  pub tight_word : (d : ℕ) (t u : Table A) (i w : ℕ)
+      → IsTight d t
+      → IsWide t
+      → i < 512
+      → slots_of u ≡ set (slots_of t) i (Word w)
+      → IsTight d u
   unfolding IsTight
   tight_word zero t u i w h s p e = tt
   tight_word (suc d) t u i w h s p e = λ j q. by_eq j i
-      (λ z. rw (set_here t u i j (Word w) e p s z) (word_meets (λ _. Unit {0}) (λ c. (IsOneWord d c → ⊥) × IsTight d c) w tt))
+      (λ z. rw (set_here t u i j (Word w) e p s z)
+      (word_meets (λ _. Unit {0}) (λ c. (IsOneWord d c → ⊥) × IsTight d c) w tt))
       (λ z. rw (set_others t u i j (Word w) e z) (h j q))
 
-  pub tight_attach : (d : ℕ) (t u : Table A) (i : ℕ) (b : Box (Table A) A) → IsTight (suc d) t → IsWide t → i < 512 → slots_of u ≡ set (slots_of t) i (Child b) → (IsOneWord d b.value → ⊥) → IsTight d b.value → IsTight (suc d) u
+  pub tight_attach : (d : ℕ) (t u : Table A) (i : ℕ) (b : Box (Table A) A)
+      → IsTight (suc d) t
+      → IsWide t
+      → i < 512
+      → slots_of u ≡ set (slots_of t) i (Child b)
+      → (IsOneWord d b.value → ⊥)
+      → IsTight d b.value
+      → IsTight (suc d) u
   unfolding IsTight
   tight_attach d t u i b h s p e n m = λ j q. by_eq j i
-      (λ z. rw (set_here t u i j (Child b) e p s z) (child_meets (λ _. Unit {0}) (λ c. (IsOneWord d c → ⊥) × IsTight d c) b (n, m)))
+      (λ z. rw (set_here t u i j (Child b) e p s z)
+      (child_meets (λ _. Unit {0}) (λ c. (IsOneWord d c → ⊥) × IsTight d c) b (n, m)))
       (λ z. rw (set_others t u i j (Child b) e z) (h j q))
 
-  pub tight_child : (d : ℕ) (u : Table A) (i : ℕ) (b : Box (Table A) A) → IsTight (suc d) u → i < 512 → slot_at u i ≡ Child b → (IsOneWord d b.value → ⊥) × IsTight d b.value
+  pub tight_child : (d : ℕ) (u : Table A) (i : ℕ) (b : Box (Table A) A)
+      → IsTight (suc d) u
+      → i < 512
+      → slot_at u i ≡ Child b
+      → (IsOneWord d b.value → ⊥) × IsTight d b.value
   unfolding IsTight
   tight_child d u i b h p e = meets_child (λ _. Unit {0}) (λ c. (IsOneWord d c → ⊥) × IsTight d c) b (rw e at (h i p))
 
   words_tight : (d : ℕ) (t : Table A) → ((i : ℕ) → i < 512 → HoldsWord (slot_at t i)) → IsTight d t
   unfolding IsTight
   words_tight zero t h = tt
-  words_tight (suc d) t h = λ i p. let x = h i p in rw x.1 (word_meets (λ _. Unit {0}) (λ c. (IsOneWord d c → ⊥) × IsTight d c) x.0 tt)
+  words_tight (suc d) t h = λ i p. let x = h i p in
+      rw x.1 (word_meets (λ _. Unit {0}) (λ c. (IsOneWord d c → ⊥) × IsTight d c) x.0 tt)
 
   same_shape : (d : ℕ) (t u : Table A) → slots_of u ≡ slots_of t → IsShaped d t → IsShaped d u
-  same_shape d t u e x = shaped_made d u (rw e (shaped_wide d t x)) (λ i p. rw (ap (λ l. get_or l i (Word 0)) e) (shaped_slot d t i x p))
+  same_shape d t u e x =
+      shaped_made d u (rw e (shaped_wide d t x)) (λ i p. rw (ap (λ l. get_or l i (Word 0)) e) (shaped_slot d t i x p))
 
   same_tight : (d : ℕ) (t u : Table A) → slots_of u ≡ slots_of t → IsTight d t → IsTight d u
   unfolding IsTight
@@ -53,7 +73,9 @@ module _ {A : Type 0} where
         map = λ d q. blank_entries d t h q;
         tables = λ d. words_tables d t w words;
         uses = λ d f. words_uses d t f w words;
-        standing = λ d low q l. words_standing d t low q words ∙ ap (λ b. cond b (Some (frame_of t)) None) (eq-other low d (λ e. let l' : low < d = l in omega arith));
+        standing =
+            λ d low q l. words_standing d t low q words
+            ∙ ap (λ b. cond b (Some (frame_of t)) None) (eq-other low d (λ e. let l' : low < d = l in omega arith));
         shape = λ d. blank_shaped d t w h;
         tight = λ d. words_tight d t words;
       }

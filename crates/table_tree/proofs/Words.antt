@@ -9,7 +9,10 @@ use Rattle.page_state.specs.Entries.{CanAdvance, entry_of_word, word_of_entry}
 use Rattle.table_tree.specs.Meaning.{word_entry}
 use Rattle.table_tree.specs.Shape.{IsWellFormed, IsEntryWord, HasSmallFrame}
 
-pub said_entry : (l : Level) (w : ℕ) (d : Desc) → IsSaid l w d → IsWellFormed (entry_of_word d) → CanBeSaid l (word_of_entry (entry_of_word d))
+pub said_entry : (l : Level) (w : ℕ) (d : Desc)
+    → IsSaid l w d
+    → IsWellFormed (entry_of_word d)
+    → CanBeSaid l (word_of_entry (entry_of_word d))
 said_entry l w malformed_word h e = absurd e
 said_entry l w unmapped_word h e = tt
 said_entry l w (annotated_word o) h e = (h.from_one, h.byte)

@@ -12,7 +12,8 @@ gathered f (suc n) = gathered f n ++ f n
 -- a block and all blocks in it, by page, the greater before those in it
 unfoldable pub blocks_in : ℕ → ℕ → List Block
 blocks_in zero number = []
-blocks_in (suc depth) number = (suc depth, number) ∷ gathered (λ i. blocks_in depth (512 * number + i)) 512
+blocks_in (suc depth) number =
+    (suc depth, number) ∷ gathered (λ i. blocks_in depth (512 * number + i)) 512
 
 -- all blocks at which a table may be, the root's first
 abbrev pub all_blocks : Geometry → List Block

@@ -7,4 +7,5 @@ use Rattle.table_tree.specs.Meaning.{entry_at}
 
 -- a table with `top` levels below it maps nothing on the block of a depth that holds a page
 abbrev pub IsBare : {A : Type 0} → ℕ → Table A → ℕ → ℕ → Type 0
-IsBare top t depth page = (q : ℕ) → q / block_pages depth ≡ page / block_pages depth → entry_at top t q ≡ Unmapped
+IsBare top t depth page =
+    (q : ℕ) → q / block_pages depth ≡ page / block_pages depth → entry_at top t q ≡ Unmapped

@@ -45,14 +45,19 @@ slot_case {A} here below s = elim (out-Slot A s) [ Word w ↦ here w | Child b �
 
 -- what a word of a table gives a page
 abbrev pub word_entry : ℕ → ℕ → ℕ → Entry
-word_entry depth page word = advance (entry_of_word (desc_of (level_at depth) word)) (page % block_pages depth)
+word_entry depth page word =
+    advance (entry_of_word (desc_of (level_at depth) word)) (page % block_pages depth)
 
 -- what a table gives a page
 unfoldable pub entry_at : {A : Type 0} → ℕ → Table A → ℕ → Entry
-entry_at zero t page = slot_case (word_entry zero page) (λ _. Malformed) (slot_at t (index_at zero page))
-entry_at (suc depth) t page = slot_case (word_entry (suc depth) page) (λ c. entry_at depth c page) (slot_at t (index_at (suc depth) page))
+entry_at zero t page =
+    slot_case (word_entry zero page) (λ _. Malformed) (slot_at t (index_at zero page))
+entry_at (suc depth) t page =
+    slot_case (word_entry (suc depth) page) (λ c. entry_at depth c page)
+    (slot_at t (index_at (suc depth) page))
 
--- the word that leads to a table: the 36 bits of its frame's number in bits 47:12 (Arm DDI 0487, D8.3, table descriptor)
+-- the word that leads to a table: the 36 bits of its frame's number in bits 47:12 (Arm DDI 0487,
+-- D8.3, table descriptor)
 abbrev pub table_word : ℕ → ℕ
 table_word frame = frame % 2 ^ 36 * 4096 + 3
 
@@ -64,4 +69,5 @@ slot_word s = slot_case (λ w. w) (λ c. table_word (frame_of c)) s
 unfoldable pub word_at : {A : Type 0} → Table A → List ℕ → Option ℕ
 word_at t [] = None
 word_at t (i ∷ []) = if nat_lt i 512 then Some (slot_word (slot_at t i)) else None
-word_at t (i ∷ j ∷ rest) = if nat_lt i 512 then slot_case (λ _. None) (λ c. word_at c (j ∷ rest)) (slot_at t i) else None
+word_at t (i ∷ j ∷ rest) =
+    if nat_lt i 512 then slot_case (λ _. None) (λ c. word_at c (j ∷ rest)) (slot_at t i) else None

@@ -6,13 +6,14 @@ use Rattle.table_tree.specs.declared.tree.Tree.{Tree}
 use Rattle.table_tree.specs.Meaning.{index_at}
 use Rattle.table_tree.specs.View.{word_of}
 
--- the indices of a page in a number of tables, of which the first has `below` levels below it (Arm DDI 0487, D8.2)
+-- the indices of a page in a number of tables, of which the first has `below` levels below it (Arm
+-- DDI 0487, D8.2)
 abbrev pub path_of : ℕ → ℕ → ℕ → List ℕ
 path_of page below zero = []
 path_of page below (suc more) = index_at below page ∷ path_of page (below - 1) more
 
--- the word on a page's path at a level. None where the page isn't good, the level isn't one of the tree's, the root's being
--- 3 less the levels below it, or no table of the tree has that word
+-- the word on a page's path at a level. None where the page isn't good, the level isn't one of the
+-- tree's, the root's being 3 less the levels below it, or no table of the tree has that word
 unfoldable pub word_on : {A : Type 0} → Tree A → ℕ → ℕ → Option ℕ
 word_on tree page level =
     let depth = levels_below tree.geometry in

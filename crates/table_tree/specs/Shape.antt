@@ -38,7 +38,8 @@ HasSmallFrame other = Unit {0}
 
 -- a word that gives its pages an entry: neither malformed nor a table word
 abbrev pub IsEntryWord : ℕ → ℕ → Type 0
-IsEntryWord depth word = (word < 2 ^ 64) × IsWellFormed (entry_of_word (desc_of (level_at depth) word))
+IsEntryWord depth word =
+    (word < 2 ^ 64) × IsWellFormed (entry_of_word (desc_of (level_at depth) word))
 
 -- what a slot must meet
 abbrev pub MeetsSlot : {A : Type 0} → (ℕ → Type 0) → (Table A → Type 0) → Slot A → Type 0
@@ -46,12 +47,22 @@ MeetsSlot {A} here below s = elim (out-Slot A s) [ Word w ↦ here w | Child b �
 
 -- a table of a tree: 512 slots, words that give entries, and children only above the last level
 unfoldable pub IsShaped : {A : Type 0} → ℕ → Table A → Type 0
-IsShaped zero t = IsWide t × ((i : ℕ) → i < 512 → MeetsSlot (IsEntryWord zero) (λ _. ⊥) (slot_at t i))
-IsShaped (suc depth) t = IsWide t × ((i : ℕ) → i < 512 → MeetsSlot (IsEntryWord (suc depth)) (λ c. IsShaped depth c) (slot_at t i))
+IsShaped zero t =
+    IsWide t × ((i : ℕ) → i < 512 → MeetsSlot (IsEntryWord zero) (λ _. ⊥) (slot_at t i))
+IsShaped (suc depth) t =
+    IsWide t
+    × ((i : ℕ)
+    → i < 512
+    → MeetsSlot (IsEntryWord (suc depth)) (λ c. IsShaped depth c) (slot_at t i))
 
-pub MeetsSlot-prop : {A : Type 0} (here : ℕ → Type 0) (below : Table A → Type 0) → ((w : ℕ) → IsProp (here w)) → ((t : Table A) → IsProp (below t)) → (s : Slot A) → IsProp (MeetsSlot here below s)
+pub MeetsSlot-prop : {A : Type 0} (here : ℕ → Type 0) (below : Table A → Type 0)
+    → ((w : ℕ) → IsProp (here w))
+    → ((t : Table A) → IsProp (below t))
+    → (s : Slot A)
+    → IsProp (MeetsSlot here below s)
 MeetsSlot-prop {A} here below p q s =
-    elim (out-Slot A s) as (λ o. IsProp (elim o [ Word w ↦ here w | Child b ↦ below b.value ])) [ Word w ↦ p w | Child b ↦ q b.value ]
+    elim (out-Slot A s) as (λ o. IsProp (elim o [ Word w ↦ here w | Child b ↦ below b.value ]))
+    [ Word w ↦ p w | Child b ↦ q b.value ]
 
 IsWellFormed-prop : (x : Entry) → IsProp (IsWellFormed x)
 IsWellFormed-prop Malformed = λ a. absurd a
@@ -64,5 +75,15 @@ IsEntryWord-prop n w = ×_prop le_prop (IsWellFormed-prop (entry_of_word (desc_o
 
 pub IsShaped-prop : {A : Type 0} (n : ℕ) (t : Table A) → IsProp (IsShaped n t)
 unfolding IsShaped
-IsShaped-prop zero t = ×_prop (ℕ_set _ _) (Π_prop (λ i. Π_prop (λ _. MeetsSlot-prop (IsEntryWord zero) (λ _. ⊥) (IsEntryWord-prop zero) (λ _ a. absurd a) (slot_at t i))))
-IsShaped-prop (suc n) t = ×_prop (ℕ_set _ _) (Π_prop (λ i. Π_prop (λ _. MeetsSlot-prop (IsEntryWord (suc n)) (λ c. IsShaped n c) (IsEntryWord-prop (suc n)) (λ c. IsShaped-prop n c) (slot_at t i))))
+IsShaped-prop zero t =
+    ×_prop (ℕ_set _ _)
+    (Π_prop
+    (λ i. Π_prop
+    (λ _. MeetsSlot-prop (IsEntryWord zero) (λ _. ⊥) (IsEntryWord-prop zero)
+    (λ _ a. absurd a) (slot_at t i))))
+IsShaped-prop (suc n) t =
+    ×_prop (ℕ_set _ _)
+    (Π_prop
+    (λ i. Π_prop
+    (λ _. MeetsSlot-prop (IsEntryWord (suc n)) (λ c. IsShaped n c)
+    (IsEntryWord-prop (suc n)) (λ c. IsShaped-prop n c) (slot_at t i))))

@@ -15,7 +15,8 @@ IsSlot (suc depth) s = MeetsSlot (IsEntryWord (suc depth)) (λ c. IsShaped depth
 -- what a slot of a table gives a page
 unfoldable pub slot_entry : {A : Type 0} → ℕ → Slot A → ℕ → Entry
 slot_entry zero s page = slot_case (word_entry zero page) (λ _. Malformed) s
-slot_entry (suc depth) s page = slot_case (word_entry (suc depth) page) (λ c. entry_at depth c page) s
+slot_entry (suc depth) s page =
+    slot_case (word_entry (suc depth) page) (λ c. entry_at depth c page) s
 
 -- the number of tables below a slot
 unfoldable pub slot_tables : {A : Type 0} → ℕ → Slot A → ℕ

@@ -24,7 +24,10 @@ uses_in (suc depth) t frame = is_one (frame_of t) frame + sum_below (λ c. uses_
 -- the frame of the table with `low` levels below it on a page's path, if there is one
 unfoldable pub table_in : {A : Type 0} → ℕ → Table A → ℕ → ℕ → Option ℕ
 table_in zero t low page = if low == zero then Some (frame_of t) else None
-table_in (suc depth) t low page = if low == suc depth then Some (frame_of t) else slot_case (λ _. None) (λ c. table_in depth c low page) (slot_at t (index_at (suc depth) page))
+table_in (suc depth) t low page =
+    if low == suc depth then Some (frame_of t)
+    else slot_case (λ _. None) (λ c. table_in depth c low page)
+    (slot_at t (index_at (suc depth) page))
 
 -- no two tables have one frame
 abbrev pub AreDistinct : {A : Type 0} → ℕ → Table A → Type 0
@@ -36,7 +39,8 @@ AreDistinct-prop depth t = Π_prop (λ f. le_prop)
 -- the frames of the tables, the table itself first, then those below its slots, in order
 unfoldable pub all_frames_in : {A : Type 0} → ℕ → Table A → List ℕ
 all_frames_in zero t = frame_of t ∷ []
-all_frames_in (suc depth) t = frame_of t ∷ gathered (λ i. slot_case (λ _. []) (all_frames_in depth) (slot_at t i)) 512
+all_frames_in (suc depth) t =
+    frame_of t ∷ gathered (λ i. slot_case (λ _. []) (all_frames_in depth) (slot_at t i)) 512
 
 -- how often a list of frames has a frame
 abbrev pub frame_times : ℕ → List Frame → ℕ

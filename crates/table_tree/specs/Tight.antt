@@ -16,24 +16,37 @@ use Rattle.table_tree.specs.Shape.{MeetsSlot, MeetsSlot-prop}
 abbrev pub HasEntry : {A : Type 0} → ℕ → Entry → Slot A → Type 0
 HasEntry depth x s = (w : ℕ) × (s ≡ Word w) × (entry_of_word (desc_of (level_at depth) w) ≡ x)
 
--- a word one level up can say what the table says: its words go on with what the first one gives, and that fits a word there
+-- a word one level up can say what the table says: its words go on with what the first one gives,
+-- and that fits a word there
 pub record IsOneWord {A : Type 0} (depth : ℕ) (t : Table A) : Type 0 where
   pub entry : Entry
   pub fits : fits_word (suc depth) entry ≡ true
-  pub parts : (i : ℕ) → i < 512 → HasEntry depth (advance entry (i * block_pages depth)) (slot_at t i)
+  pub parts : (i : ℕ)
+      → i < 512
+      → HasEntry depth (advance entry (i * block_pages depth)) (slot_at t i)
 
 -- a word can say what entries give the block of a depth that holds a page
 pub record IsOneWordAt (depth : ℕ) (m : ℕ → Entry) (page : ℕ) : Type 0 where
   pub entry : Entry
   pub fits : fits_word depth entry ≡ true
-  pub along : (p : ℕ) → p / block_pages depth ≡ page / block_pages depth → m p ≡ advance entry (p % block_pages depth)
+  pub along : (p : ℕ)
+      → p / block_pages depth ≡ page / block_pages depth
+      → m p ≡ advance entry (p % block_pages depth)
 
 -- no word one level up can say what a table below this one says
 unfoldable pub IsTight : {A : Type 0} → ℕ → Table A → Type 0
 IsTight zero t = Unit {0}
-IsTight (suc depth) t = (i : ℕ) → i < 512 → MeetsSlot (λ _. Unit {0}) (λ c. (IsOneWord depth c → ⊥) × IsTight depth c) (slot_at t i)
+IsTight (suc depth) t =
+    (i : ℕ)
+    → i < 512
+    → MeetsSlot (λ _. Unit {0}) (λ c. (IsOneWord depth c → ⊥) × IsTight depth c) (slot_at t i)
 
 pub IsTight-prop : {A : Type 0} (n : ℕ) (t : Table A) → IsProp (IsTight n t)
 unfolding IsTight
 IsTight-prop zero t = Unit-prop
-IsTight-prop (suc n) t = Π_prop (λ i. Π_prop (λ _. MeetsSlot-prop (λ _. Unit {0}) (λ c. (IsOneWord n c → ⊥) × IsTight n c) (λ _. Unit-prop) (λ c. ×_prop (Π_prop (λ _ a. absurd a)) (IsTight-prop n c)) (slot_at t i)))
+IsTight-prop (suc n) t =
+    Π_prop
+    (λ i. Π_prop
+    (λ _. MeetsSlot-prop (λ _. Unit {0}) (λ c. (IsOneWord n c → ⊥) × IsTight n c)
+    (λ _. Unit-prop) (λ c. ×_prop (Π_prop (λ _ a. absurd a)) (IsTight-prop n c))
+    (slot_at t i)))

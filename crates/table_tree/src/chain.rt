@@ -41,7 +41,8 @@ impl<A: Allocator> Chain<A> {
 
     /// Takes the first table.
     pub(crate) fn pop(&mut self) -> Option<Box<Table<A>, A>>
-        ensures frames { MatchOption result (links_of self.old ≡ []) (λ b. links_of self.old ≡ frame_of b.value ∷ links_of self.new) }
+        ensures frames { MatchOption result (links_of self.old ≡ [])
+            (λ b. links_of self.old ≡ frame_of b.value ∷ links_of self.new) }
         ensures none { MatchOption result (links_of self.new ≡ []) (λ b. Unit {0}) }
         ensures wide { IfSome result (λ b. IsWide b.value) }
         ensures blank { IfSome result (λ b. IsBlank b.value) }

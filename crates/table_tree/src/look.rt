@@ -94,9 +94,14 @@ pub(crate) fn frames_in<A: Allocator>(
 ) -> Result<(), AllocError>
     requires depth_in { IsDepth depth }
     requires shape { IsShaped depth table.now }
-    ensures count { OnOk result ((f : ℕ) → frame_times f frames.new.items ≡ frame_times f frames.old.items + uses_in depth table.now f) }
+    ensures count { OnOk result
+        ((f : ℕ)
+        → frame_times f frames.new.items
+        ≡ frame_times f frames.old.items + uses_in depth table.now f) }
     ensures len { OnOk result (length frames.new.items ≡ length frames.old.items + tables_in depth table.now) }
-    ensures frames { OnOk result (map (λ f. f.0) frames.new.items ≡ map (λ f. f.0) frames.old.items ++ all_frames_in depth table.now) }
+    ensures frames { OnOk result
+        (map (λ f. f.0) frames.new.items
+        ≡ map (λ f. f.0) frames.old.items ++ all_frames_in depth table.now) }
 {
     frames.push(table.frame())?;
     if depth == 0 {

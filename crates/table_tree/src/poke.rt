@@ -14,7 +14,8 @@ fn poke_slot<A: Allocator>(table: &mut Table<A>, i: usize, word: u64)
     requires within { i < 512 }
     requires wide { IsWide table.old }
     ensures same { slot_word (slot_at table.old i) ≡ word → slots_of table.new ≡ slots_of table.old }
-    ensures other { (slot_word (slot_at table.old i) ≡ word → ⊥) → slots_of table.new ≡ slice_set (slots_of table.old) i (Slot.Word word) }
+    ensures other { (slot_word (slot_at table.old i) ≡ word → ⊥)
+        → slots_of table.new ≡ slice_set (slots_of table.old) i (Slot.Word word) }
     ensures frame { frame_of table.new ≡ frame_of table.old }
 {
     if word_in_slot(table.read(i)) == word {

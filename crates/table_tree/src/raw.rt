@@ -59,7 +59,9 @@ impl<A: Allocator> RawTree<A> {
         ensures fault { IsOk result ↔ IsSome (raw_word_of self path.now) }
         ensures kept { IfErr result (λ e. e.0 ≡ self) }
         ensures poked { IfOk result (λ t. IsPoked (raw_word_of self) (raw_word_of t) path.now word) }
-        ensures map { IfOk result (λ t. IsPokedMap (block_of self.geometry path.now) (raw_word_of self) (raw_meaning self) (raw_meaning t) path.now word) }
+        ensures map { IfOk result
+            (λ t. IsPokedMap (block_of self.geometry path.now) (raw_word_of self)
+            (raw_meaning self) (raw_meaning t) path.now word) }
         ensures geometry { IfOk result (λ t. t.geometry ≡ self.geometry) }
     {
         if self.word_at(path).is_none() {
@@ -74,7 +76,8 @@ impl<A: Allocator> RawTree<A> {
     pub fn set(&mut self, path: &[u16], word: u64)
         requires there { IsSome (raw_word_of self.old path.now) }
         ensures poked { IsPoked (raw_word_of self.old) (raw_word_of self.new) path.now word }
-        ensures map { IsPokedMap (block_of self.old.geometry path.now) (raw_word_of self.old) (raw_meaning self.old) (raw_meaning self.new) path.now word }
+        ensures map { IsPokedMap (block_of self.old.geometry path.now) (raw_word_of self.old)
+            (raw_meaning self.old) (raw_meaning self.new) path.now word }
         ensures geometry { self.new.geometry ≡ self.old.geometry }
     {
         let depth = self.geometry.depth();
@@ -109,7 +112,9 @@ impl<A: Allocator> Tree<A> {
         ensures none { IsOk result ↔ IsSome (word_at_path self path.now) }
         ensures kept { IfErr result (λ e. e.0 ≡ self) }
         ensures poked { IfOk result (λ t. IsPoked (word_at_path self) (raw_word_of t) path.now word) }
-        ensures map { IfOk result (λ t. IsPokedMap (block_of self.geometry path.now) (word_at_path self) (meaning self) (raw_meaning t) path.now word) }
+        ensures map { IfOk result
+            (λ t. IsPokedMap (block_of self.geometry path.now) (word_at_path self)
+            (meaning self) (raw_meaning t) path.now word) }
         ensures geometry { IfOk result (λ t. t.geometry ≡ self.geometry) }
     {
         match self.word_at(path) {

@@ -40,7 +40,8 @@ impl<A: Allocator> Stock<A> {
     /// Takes the first table.
     #[tactic(auto, unfolding(crate::specs::Stocks::frames_of))]
     pub fn pop(&mut self) -> Option<Box<Table<A>, A>>
-        ensures frames { MatchOption result (frames_of self.old ≡ []) (λ b. frames_of self.old ≡ frame_of b.value ∷ frames_of self.new) }
+        ensures frames { MatchOption result (frames_of self.old ≡ [])
+            (λ b. frames_of self.old ≡ frame_of b.value ∷ frames_of self.new) }
         ensures none { MatchOption result (frames_of self.new ≡ []) (λ b. Unit {0}) }
         ensures wide { IfSome result (λ b. IsWide b.value) }
         ensures blank { IfSome result (λ b. IsBlank b.value) }

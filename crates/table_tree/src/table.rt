@@ -131,7 +131,9 @@ impl<A: Allocator> Table<A> {
         requires within { i < 512 }
         requires wide { IsWide self.old }
         ensures found { MatchOption result (HoldsWord (slot_at self.old i)) (λ b. slot_at self.old i ≡ Slot.Child b) }
-        ensures slots { slots_of self.new ≡ (if is_some result then slice_set (slots_of self.old) i (Slot.Word 0) else slots_of self.old) }
+        ensures slots { slots_of self.new
+            ≡ (if is_some result then slice_set (slots_of self.old) i (Slot.Word 0)
+            else slots_of self.old) }
         ensures frame { frame_of self.new ≡ frame_of self.old }
         ensures tree { IfSome result (λ b. IsAttached i self.new self.old b.value) }
         ensures rest { IsCleared self.old self.new }

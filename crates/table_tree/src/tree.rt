@@ -28,7 +28,15 @@ pub struct Tree<A: Allocator> {
 }
 
 impl<A: Allocator> Tree<A> {
-    ghost use Rattle.table_tree.specs.View.{meaning, word_of as word_at_path, uses, tables_of, root_of, spares_of, tree_of};
+    ghost use Rattle.table_tree.specs.View.{
+      meaning,
+      word_of as word_at_path,
+      uses,
+      tables_of,
+      root_of,
+      spares_of,
+      tree_of,
+    };
     ghost use Rattle.page_state.specs.Blocks.{block_at, is_empty as is_empty_block};
     ghost use Rattle.table_tree.specs.OnPage.{word_on as word_on_page};
     ghost use Rattle.table_tree.specs.AllBlocks.{table_count, table_frames};
@@ -122,7 +130,8 @@ impl<A: Allocator> Tree<A> {
     /// Takes a spare, which gets a frame.
     #[tactic(auto, unfolding(crate::specs::View::spares_of))]
     pub fn take_spare(&mut self, frame: Frame) -> Option<Box<Table<A>, A>>
-        ensures left { MatchOption result (spares_of self.old ≡ 0) (λ b. spares_of self.old ≡ spares_of self.new + 1) }
+        ensures left { MatchOption result (spares_of self.old ≡ 0)
+            (λ b. spares_of self.old ≡ spares_of self.new + 1) }
         ensures frame { IfSome result (λ b. frame_of b.value ≡ frame.0) }
         ensures wide { IfSome result (λ b. IsWide b.value) }
         ensures blank { IfSome result (λ b. IsBlank b.value) }

@@ -47,7 +47,9 @@ abbrev execute_number : Execute → ℕ
 execute_number Nobody = 2
 execute_number x = 0
 
-memory_known : (m : Memory) (n : ℕ) → memory_of TwoKinds n ≡ Some m → (n ≡ kind_bits (kind_of m)) × (other_memory m ≡ None)
+memory_known : (m : Memory) (n : ℕ)
+    → memory_of TwoKinds n ≡ Some m
+    → (n ≡ kind_bits (kind_of m)) × (other_memory m ≡ None)
 memory_known WriteBack n e = (grind (arith, nat_tests), refl)
 memory_known Registers n e = (grind (arith, nat_tests), refl)
 memory_known Uncached n e = absurd (grind (arith, nat_tests))
@@ -80,7 +82,13 @@ flag_set true n e = absurd (grind (arith, nat_tests))
 flag_set false n e = (refl, grind (arith, nat_tests))
 
 -- the rights of accesses and execution that the model has
-rights_known : (a : Access) (x : Execute) → is_unreadable a ≡ false → alone_of x ≡ None → (p : Prot) × (prot_of a x ≡ Some p) × (access_bits p ≡ access_number a) × (2 * execute_never_bit p ≡ execute_number x)
+rights_known : (a : Access) (x : Execute)
+    → is_unreadable a ≡ false
+    → alone_of x ≡ None
+    → (p : Prot)
+    × (prot_of a x ≡ Some p)
+    × (access_bits p ≡ access_number a)
+    × (2 * execute_never_bit p ≡ execute_number x)
 rights_known ReadOnly Nobody h k = (R, refl, refl, refl)
 rights_known ReadOnly Everybody h k = (RX, refl, refl, refl)
 rights_known ReadWrite Nobody h k = (RW, refl, refl, refl)
@@ -93,7 +101,12 @@ pub record Same (l : Level) (w : ℕ) (x : Decoded) : Type 0 where
   pub beyond : beyond_of x ≡ nothing_beyond
 
 -- a leaf of one form is one of the other
-leaf_back : (l : Level) (w : ℕ) (m : Mapping) (p : Prot) (t : State) → IsLeaf model_profile l w m → m.state ≡ Some t → access_bits p ≡ access_number m.access → 2 * execute_never_bit p ≡ execute_number m.execute → word.IsLeaf l w m.frame.0 p (kind_of m.memory) t
+leaf_back : (l : Level) (w : ℕ) (m : Mapping) (p : Prot) (t : State)
+    → IsLeaf model_profile l w m
+    → m.state ≡ Some t
+    → access_bits p ≡ access_number m.access
+    → 2 * execute_never_bit p ≡ execute_number m.execute
+    → word.IsLeaf l w m.frame.0 p (kind_of m.memory) t
 leaf_back l w m p t h st pa px =
     let k = memory_known m.memory (field w 2 4) h.memory_is in
     let a = access_known m.access (field w 6 2) h.access_is in
@@ -109,7 +122,17 @@ leaf_back l w m p t h st pa px =
     let x0 : field w 53 2 ≡ execute_number m.execute = x.1 in
     let px' : 2 * execute_never_bit p ≡ execute_number m.execute = px in
     record {
-      form = record { leaves = h.leaves; valid = h.valid; page = h.page; shareable = share; accessed = f.1; zero_11 = h.zero_11; zero_48 = omega arith; zero_57 = h.zero_57 };
+      form =
+          record {
+            leaves = h.leaves;
+            valid = h.valid;
+            page = h.page;
+            shareable = share;
+            accessed = f.1;
+            zero_11 = h.zero_11;
+            zero_48 = omega arith;
+            zero_57 = h.zero_57;
+          };
       kind_is = k.0;
       access_is = a.1 ∙ sym pa;
       execute_never_is = omega arith;
@@ -131,7 +154,15 @@ table_forth : (l : Level) (w : ℕ) (f : Frame) → word.IsTable l w f.0 → IsT
 table_forth l w f h =
     let m : field w 2 10 ≡ 0 = h.middle in
     let t : field w 48 16 ≡ 0 = h.top in
-    record { upper = h.upper; valid = h.valid; middle = omega arith; plain = (omega arith, omega arith); zero_10 = omega arith; frame_is = sym h.frame_is; top = omega arith }
+    record {
+      upper = h.upper;
+      valid = h.valid;
+      middle = omega arith;
+      plain = (omega arith, omega arith);
+      zero_10 = omega arith;
+      frame_is = sym h.frame_is;
+      top = omega arith;
+    }
 
 -- the access and the execution of the model's rights
 abbrev access_by : Prot → Access
@@ -171,7 +202,18 @@ state_forth Owned n e = rw e refl
 state_forth SharedOwned n e = rw e refl
 state_forth SharedBorrowed n e = rw e refl
 
-leaf_forth : (l : Level) (w : ℕ) (f : Frame) (p : Prot) (k : Kind) (s : State) → word.IsLeaf l w f.0 p k s → IsLeaf model_profile l w (record { frame = f; access = access_by p; execute = execute_by p; memory = memory_by k; state = Some s; guarded = false; aged = false })
+leaf_forth : (l : Level) (w : ℕ) (f : Frame) (p : Prot) (k : Kind) (s : State)
+    → word.IsLeaf l w f.0 p k s
+    → IsLeaf model_profile l w
+    (record {
+      frame = f;
+      access = access_by p;
+      execute = execute_by p;
+      memory = memory_by k;
+      state = Some s;
+      guarded = false;
+      aged = false;
+    })
 leaf_forth l w f p k s h =
     let z : field w 48 6 ≡ 0 = h.form.zero_48 in
     let x : field w 54 1 ≡ execute_never_bit p = h.execute_never_is in
@@ -200,7 +242,19 @@ not_said : (l : Level) (w : ℕ) → ((x : Decoded) → Says model_profile l w x
 not_said l w h desc.Malformed q = q
 not_said l w h desc.Unmapped q = h Unmapped q
 not_said l w h (desc.Annotated o) q = h (Annotated o None) q
-not_said l w h (desc.Leaf f p k s) q = h (Leaf (record { frame = f; access = access_by p; execute = execute_by p; memory = memory_by k; state = Some s; guarded = false; aged = false })) (leaf_forth l w f p k s q)
+not_said l w h (desc.Leaf f p k s) q =
+    h
+    (Leaf
+    (record {
+      frame = f;
+      access = access_by p;
+      execute = execute_by p;
+      memory = memory_by k;
+      state = Some s;
+      guarded = false;
+      aged = false;
+    }))
+    (leaf_forth l w f p k s q)
 not_said l w h (desc.Table f) q = h (Table f) (table_forth l w f q)
 
 same : (l : Level) (w : ℕ) → w < 2 ^ 64 → (x : Decoded) → IsSaid model_profile l w x → Same l w x
@@ -209,7 +263,8 @@ same l w r Malformed h = record {
   beyond = refl;
 }
 same l w r Unmapped h = record { entry = λ s. ap Some (same_as_function l w desc.Unmapped r h); beyond = refl }
-same l w r (Annotated o None) h = record { entry = λ s. ap Some (same_as_function l w (desc.Annotated o) r h); beyond = refl }
+same l w r (Annotated o None) h =
+    record { entry = λ s. ap Some (same_as_function l w (desc.Annotated o) r h); beyond = refl }
 same l w r (Annotated o (Some g)) h = absurd h
 same l w r Poisoned h = absurd h
 same l w r Locked h = absurd h
@@ -223,10 +278,17 @@ same l w r (Leaf m) h =
     let f = flag_set m.aged (field w 10 1) h.aged_is in
     let p = rights_known m.access m.execute a.0 x.0 in
     record {
-      entry = λ s. rw (p.1, t.1) (ap Some (same_as_function l w (desc.Leaf m.frame p.0 (kind_of m.memory) t.0) r (leaf_back l w m p.0 t.0 h t.1 p.2 p.3)));
+      entry =
+          λ s. rw (p.1, t.1)
+          (ap Some
+          (same_as_function l w (desc.Leaf m.frame p.0 (kind_of m.memory) t.0) r
+          (leaf_back l w m p.0 t.0 h t.1 p.2 p.3)));
       beyond = rw (a.0, x.0, k.1, g.0, f.0) refl;
     }
-same l w r (Table f) h = record { entry = λ s. ap Some (same_as_function l w (desc.Table f) r (table_back l w f h)); beyond = refl }
+same l w r (Table f) h =
+    record { entry = λ s. ap Some (same_as_function l w (desc.Table f) r (table_back l w f h)); beyond = refl }
 
 pub law : (l : Level) (w : ℕ) → w < 2 ^ 64 → Same l w (decoded_of model_profile l w)
-law l w r = same l w r (decoded_of model_profile l w) ((exactly model_profile l w (decoded_of model_profile l w) refl (decoded_of model_profile l w)).0 refl)
+law l w r =
+    same l w r (decoded_of model_profile l w)
+    ((exactly model_profile l w (decoded_of model_profile l w) refl (decoded_of model_profile l w)).0 refl)

@@ -42,12 +42,24 @@ abbrev pub entry_of : Decoded → State → Option Desc
 entry_of Malformed s = Some desc.Malformed
 entry_of (Annotated owner None) s = Some (desc.Annotated owner)
 entry_of (Annotated owner (Some guest)) s = None
-entry_of (Leaf m) s = leaf_entry (prot_of m.access m.execute) m.frame (kind_of m.memory) (unwrap_or m.state s)
+entry_of (Leaf m) s =
+    leaf_entry (prot_of m.access m.execute) m.frame (kind_of m.memory) (unwrap_or m.state s)
 entry_of (Table frame) s = Some (desc.Table frame)
 entry_of decoded s = Some desc.Unmapped
 
 abbrev pub nothing_beyond : Beyond
-nothing_beyond = record { guest = None; poisoned = false; locked = false; cleared = None; unreadable = false; alone = None; memory = None; guarded = false; aged = false }
+nothing_beyond =
+    record {
+      guest = None;
+      poisoned = false;
+      locked = false;
+      cleared = None;
+      unreadable = false;
+      alone = None;
+      memory = None;
+      guarded = false;
+      aged = false;
+    }
 
 -- whether reads are refused
 abbrev pub is_unreadable : Access → Bool
@@ -73,5 +85,12 @@ beyond_of (Annotated owner g) = record nothing_beyond { guest = g }
 beyond_of Poisoned = record nothing_beyond { poisoned = true }
 beyond_of Locked = record nothing_beyond { locked = true }
 beyond_of (Cleared m) = record nothing_beyond { cleared = Some m }
-beyond_of (Leaf m) = record nothing_beyond { unreadable = is_unreadable m.access; alone = alone_of m.execute; memory = other_memory m.memory; guarded = m.guarded; aged = m.aged }
+beyond_of (Leaf m) =
+    record nothing_beyond {
+      unreadable = is_unreadable m.access;
+      alone = alone_of m.execute;
+      memory = other_memory m.memory;
+      guarded = m.guarded;
+      aged = m.aged;
+    }
 beyond_of decoded = nothing_beyond

@@ -24,8 +24,9 @@ use Rattle.table_words.specs.declared.word.Guest.{Guest}
 use Rattle.table_words.specs.declared.word.Decoded.{Decoded}
 use Rattle.table_words.specs.declared.word.Decoded.TheVariants.{Malformed, Unmapped, Annotated, Poisoned, Locked, Cleared, Leaf, Table}
 
--- What a word of a level says by a profile, 4 KiB granule (Arm DDI 0487, D8.3, "VMSAv8-64 translation table format
--- descriptors", and D8.4 and D8.5 for permissions and memory attributes; Linux' macros by name).
+-- What a word of a level says by a profile, 4 KiB granule (Arm DDI 0487, D8.3, "VMSAv8-64
+-- translation table format descriptors", and D8.4 and D8.5 for permissions and memory attributes;
+-- Linux' macros by name).
 --
 --   Bits    In a block (levels 1 and 2) or page (level 3) descriptor
 --   0       1: valid
@@ -44,8 +45,8 @@ use Rattle.table_words.specs.declared.word.Decoded.TheVariants.{Malformed, Unmap
 --   63:57   0
 --
 -- A table descriptor (above level 3) has 11 in bits 1:0, the address of the table, zeros elsewhere.
--- A word whose bit 0 is clear is invalid to the hardware, which ignores the rest. It says nothing if it is 0, and
--- else what software wrote into it (InvalidForm). Every other word is malformed.
+-- A word whose bit 0 is clear is invalid to the hardware, which ignores the rest. It says nothing
+-- if it is 0, and else what software wrote into it (InvalidForm). Every other word is malformed.
 
 -- the memory in bits 5:2
 abbrev pub memory_of : MemoryForm → ℕ → Option Memory
@@ -54,9 +55,17 @@ memory_of TwoKinds n = if n == 15 then Some WriteBack else if n == 1 then Some R
 -- AttrIndx in bits 4:2, of MAIR_EL2 as Linux sets it (MT_NORMAL, MT_DEVICE_nGnRE); bit 5, NS, 0
 memory_of Index n = if n == 0 then Some WriteBack else if n == 4 then Some Registers else None
 -- MemAttr without FWB (MT_S2_NORMAL, MT_S2_NORMAL_NC, MT_S2_DEVICE_nGnRE)
-memory_of Combined n = if n == 15 then Some WriteBack else if n == 5 then Some Uncached else if n == 1 then Some Registers else None
+memory_of Combined n =
+    if n == 15 then Some WriteBack
+    else if n == 5 then Some Uncached
+    else if n == 1 then Some Registers
+    else None
 -- MemAttr with FWB (MT_S2_FWB_NORMAL, MT_S2_FWB_NORMAL_NC, MT_S2_FWB_DEVICE_nGnRE)
-memory_of Forced n = if n == 6 then Some WriteBack else if n == 5 then Some Uncached else if n == 1 then Some Registers else None
+memory_of Forced n =
+    if n == 6 then Some WriteBack
+    else if n == 5 then Some Uncached
+    else if n == 1 then Some Registers
+    else None
 -- MemAttr without FWB (MT_S2_AS_S1): the weakest attributes, so that stage 1's stand
 memory_of Passed n = if n == 15 then Some FromStage1 else None
 -- MemAttr with FWB (MT_S2_FWB_AS_S1)
@@ -66,25 +75,47 @@ memory_of PassedForced n = if n == 7 then Some FromStage1 else None
 abbrev pub access_of : AccessForm → ℕ → Option Access
 -- S2AP: bit 6 lets read, bit 7 lets write; the model lets read always
 access_of Readable n = if n == 1 then Some ReadOnly else if n == 3 then Some ReadWrite else None
--- AP[2:1] of a stage 1 with one level of privilege: bit 6 is 1, bit 7 refuses writes (KVM_PTE_LEAF_ATTR_LO_S1_AP_RW, _RO)
+-- AP[2:1] of a stage 1 with one level of privilege: bit 6 is 1, bit 7 refuses writes
+-- (KVM_PTE_LEAF_ATTR_LO_S1_AP_RW, _RO)
 access_of OneLevel n = if n == 1 then Some ReadWrite else if n == 3 then Some ReadOnly else None
--- AP[2:1] of a stage 1 with two: bit 6 lets EL0 in and is 0, bit 7 refuses writes (the same under hVHE)
+-- AP[2:1] of a stage 1 with two: bit 6 lets EL0 in and is 0, bit 7 refuses writes (the same under
+-- hVHE)
 access_of TwoLevels n = if n == 0 then Some ReadWrite else if n == 2 then Some ReadOnly else None
 -- S2AP, each way (KVM_PTE_LEAF_ATTR_LO_S2_S2AP_R, _W)
-access_of Each n = if n == 0 then Some Neither else if n == 1 then Some ReadOnly else if n == 2 then Some WriteOnly else if n == 3 then Some ReadWrite else None
+access_of Each n =
+    if n == 0 then Some Neither
+    else if n == 1 then Some ReadOnly
+    else if n == 2 then Some WriteOnly
+    else if n == 3 then Some ReadWrite
+    else None
 
 -- who may execute, by bits 54:53
 abbrev pub execute_of : ExecuteForm → ℕ → Option Execute
 -- XN, bit 54, refuses all (KVM_PTE_LEAF_ATTR_HI_S1_XN; KVM_PTE_LEAF_ATTR_HI_S2_XN of 6.12)
 execute_of OneBit n = if n == 0 then Some Everybody else if n == 2 then Some Nobody else None
--- UXN, bit 54, refuses EL0, PXN, bit 53, refuses the level above (KVM_PTE_LEAF_ATTR_HI_S1_UXN, _PXN)
-execute_of UxnPxn n = if n == 0 then Some Everybody else if n == 1 then Some UnprivilegedAlone else if n == 2 then Some PrivilegedAlone else if n == 3 then Some Nobody else None
+-- UXN, bit 54, refuses EL0, PXN, bit 53, refuses the level above (KVM_PTE_LEAF_ATTR_HI_S1_UXN,
+-- _PXN)
+execute_of UxnPxn n =
+    if n == 0 then Some Everybody
+    else if n == 1 then Some UnprivilegedAlone
+    else if n == 2 then Some PrivilegedAlone
+    else if n == 3 then Some Nobody
+    else None
 -- XN[1:0] (KVM_PTE_LEAF_ATTR_HI_S2_XN of 7.3, stage2_set_xn_attr)
-execute_of XnPair n = if n == 0 then Some Everybody else if n == 1 then Some UnprivilegedAlone else if n == 2 then Some Nobody else if n == 3 then Some PrivilegedAlone else None
+execute_of XnPair n =
+    if n == 0 then Some Everybody
+    else if n == 1 then Some UnprivilegedAlone
+    else if n == 2 then Some Nobody
+    else if n == 3 then Some PrivilegedAlone
+    else None
 
 -- the state in bits 56:55, where words say one (PKVM_PAGE_STATE_PROT_MASK); else these bits are 0
 abbrev pub state_of : Bool → ℕ → Option (Option State)
-state_of true n = if n == 0 then Some (Some Owned) else if n == 1 then Some (Some SharedOwned) else if n == 2 then Some (Some SharedBorrowed) else None
+state_of true n =
+    if n == 0 then Some (Some Owned)
+    else if n == 1 then Some (Some SharedOwned)
+    else if n == 2 then Some (Some SharedBorrowed)
+    else None
 state_of false n = if n == 0 then Some None else None
 
 -- whether the access flag, bit 10, is clear, where it may be (KVM_PTE_LEAF_ATTR_LO_S2_AF)
@@ -95,7 +126,8 @@ aged_of ages n = if n == 1 then Some false else if ages then Some true else None
 abbrev pub guarded_of : (guards : Bool) → ℕ → Option Bool
 guarded_of guards n = if n == 0 then Some false else if guards then Some true else None
 
--- the frame of the address (KVM_PTE_ADDR_MASK; with LPA2 KVM_PTE_ADDR_MASK_LPA2 and KVM_PTE_ADDR_51_50_LPA2)
+-- the frame of the address (KVM_PTE_ADDR_MASK; with LPA2 KVM_PTE_ADDR_MASK_LPA2 and
+-- KVM_PTE_ADDR_51_50_LPA2)
 abbrev pub frame_of : (lpa2 : Bool) → ℕ → ℕ
 frame_of false word = field word 12 36
 frame_of true word = field word 12 38 + 2 ^ 38 * field word 8 2
@@ -141,8 +173,9 @@ pub record IsHypervisors (word owner : ℕ) : Type 0 where
   pub rest : field word 4 56 ≡ 0
   pub donated : field word 60 4 ≡ 2
 
--- 7.3's annotation that a page is a guest's: owner 2, the VM's handle in bits 19:4, the guest's page in 59:20
--- (PKVM_ID_GUEST, KVM_HOST_DONATION_PTE_EXTRA_MASK, KVM_HOST_PTE_OWNER_GUEST_HANDLE_MASK, _GFN_MASK)
+-- 7.3's annotation that a page is a guest's: owner 2, the VM's handle in bits 19:4, the guest's
+-- page in 59:20 (PKVM_ID_GUEST, KVM_HOST_DONATION_PTE_EXTRA_MASK,
+-- KVM_HOST_PTE_OWNER_GUEST_HANDLE_MASK, _GFN_MASK)
 pub record IsGuests (word owner : ℕ) (guest : Guest) : Type 0 where
   pub owner_two : owner ≡ 2
   pub low : field word 0 4 ≡ 4
@@ -150,8 +183,8 @@ pub record IsGuests (word owner : ℕ) (guest : Guest) : Type 0 where
   pub gfn_is : field word 20 40 ≡ guest.gfn
   pub donated : field word 60 4 ≡ 2
 
--- the word is the annotation of this owner. The byte is in bits 9:2 (KVM_INVALID_PTE_OWNER_MASK; Linux writes 1 alone,
--- KVM_MAX_OWNER_ID).
+-- the word is the annotation of this owner. The byte is in bits 9:2 (KVM_INVALID_PTE_OWNER_MASK;
+-- Linux writes 1 alone, KVM_MAX_OWNER_ID).
 abbrev pub IsAnnotated : InvalidForm → ℕ → ℕ → Option Guest → Type 0
 IsAnnotated OwnerByte word owner None = IsAnnotation word owner
 IsAnnotated OwnerOrLock word owner None = IsAnnotation word owner
@@ -159,13 +192,14 @@ IsAnnotated Donation word owner None = IsHypervisors word owner
 IsAnnotated Donation word owner (Some guest) = IsGuests word owner guest
 IsAnnotated form word owner guest = ⊥
 
--- the word says that its page was taken by force (KVM_GUEST_INVALID_PTE_TYPE_POISONED, 3 in bits 63:60)
+-- the word says that its page was taken by force (KVM_GUEST_INVALID_PTE_TYPE_POISONED, 3 in bits
+-- 63:60)
 abbrev pub IsPoisoned : InvalidForm → ℕ → Type 0
 IsPoisoned Poison word = word ≡ 3 * 2 ^ 60
 IsPoisoned form word = ⊥
 
--- the word says that its entry is being changed (KVM_INVALID_PTE_LOCKED, bit 10; in 7.3 KVM_INVALID_PTE_TYPE_LOCKED, 1
--- in bits 63:60)
+-- the word says that its entry is being changed (KVM_INVALID_PTE_LOCKED, bit 10; in 7.3
+-- KVM_INVALID_PTE_TYPE_LOCKED, 1 in bits 63:60)
 abbrev pub IsLocked : InvalidForm → ℕ → Type 0
 IsLocked OwnerOrLock word = word ≡ 2 ^ 10
 IsLocked Lock word = word ≡ 2 ^ 10
@@ -174,7 +208,8 @@ IsLocked Poison word = word ≡ 2 ^ 60
 IsLocked form word = ⊥
 
 -- the word is the descriptor of this mapping but for bit 0, which was cleared (fixmap_clear_slot)
-pub record IsCleared (profile : Profile) (level : Level) (word : ℕ) (mapping : Mapping) : Type 0 where
+pub record IsCleared (profile : Profile) (level : Level) (word : ℕ)
+    (mapping : Mapping) : Type 0 where
   pub kept : profile.invalid ≡ ClearedLeaf
   pub some : word ≢ 0
   pub invalid : field word 0 1 ≡ 0

@@ -33,28 +33,55 @@ no_word : (o : Option ℕ) (P Q : Type 0) → (IsSome o → ⊥) → P → Match
 no_word None P Q none h = h
 no_word (Some word) P Q none h = absurd (none refl)
 
-module _ (geometry : Geometry) (before : Which → SeenTree) (kept : Beside → Type 0) (poke : Poke) (path told : List ℕ) (which : Which)
-    (leads : path_on geometry poke.page poke.level ≡ Some path) (same : told ≡ path) (named : which ≡ which_of poke.tree) where
-  pub sets : {A : Type 0} (world : RawWorld A) → IsSome ((before which).words told) → IsPokedTree (block_of geometry told) before (raw_trees world.parts) which told poke.word → kept (raw_beside_of world.parts)
+module _ (geometry : Geometry) (before : Which → SeenTree) (kept : Beside → Type 0) (poke : Poke) (path told : List ℕ)
+    (which : Which)
+    (leads : path_on geometry poke.page poke.level ≡ Some path) (same : told ≡ path)
+    (named : which ≡ which_of poke.tree) where
+  pub sets : {A : Type 0} (world : RawWorld A)
+      → IsSome ((before which).words told)
+      → IsPokedTree (block_of geometry told) before (raw_trees world.parts) which told poke.word
+      → kept (raw_beside_of world.parts)
       → Sets geometry before kept poke (Ok world)
   sets world there trees beside =
-      let there' = subst (λ w. IsSome ((before w).words path)) named (subst (λ p. IsSome ((before which).words p)) same there) in
-      let trees' = subst (λ w. IsPokedTree (block_of geometry path) before (raw_trees world.parts) w path poke.word) named (subst (λ p. IsPokedTree (block_of geometry p) before (raw_trees world.parts) which p poke.word) same trees) in
-      matched (path_on geometry poke.page poke.level) path _ _ leads (some_word ((before (which_of poke.tree)).words path) _ _ there' (record { trees = trees'; beside = beside }))
+      let there' =
+      subst (λ w. IsSome ((before w).words path)) named (subst (λ p. IsSome ((before which).words p)) same there) in
+      let trees' =
+      subst (λ w. IsPokedTree (block_of geometry path) before (raw_trees world.parts) w path poke.word) named
+      (subst
+      (λ p. IsPokedTree (block_of geometry p) before (raw_trees world.parts) which p poke.word) same
+      trees) in
+      matched (path_on geometry poke.page poke.level) path _ _ leads
+      (some_word ((before (which_of poke.tree)).words path) _ _ there' (record { trees = trees'; beside = beside }))
 
-  pub sets_nothing : (A : Type 0) → (IsSome ((before which).words told) → ⊥) → Sets {A = A} geometry before kept poke (Err (stops.Fault faults.Path))
+  pub sets_nothing : (A : Type 0)
+      → (IsSome ((before which).words told) → ⊥)
+      → Sets {A = A} geometry before kept poke (Err (stops.Fault faults.Path))
   sets_nothing A none =
-      let none' = subst (λ w. IsSome ((before w).words path) → ⊥) named (subst (λ p. IsSome ((before which).words p) → ⊥) same none) in
-      matched (path_on geometry poke.page poke.level) path _ _ leads (no_word ((before (which_of poke.tree)).words path) _ _ none' refl)
+      let none' =
+      subst (λ w. IsSome ((before w).words path) → ⊥) named
+      (subst (λ p. IsSome ((before which).words p) → ⊥) same none) in
+      matched (path_on geometry poke.page poke.level) path _ _ leads
+      (no_word ((before (which_of poke.tree)).words path) _ _ none' refl)
 
 -- the first poke of a session's world
-pub pokes_first : {A : Type 0} (poke : Poke) (old : Audited A) (answer : Answer) (new : Audited A) (w : World A) (result : Result (RawWorld A) Stop)
-    → old.poked ≡ None → old.session.machine ≡ Some (machine_of w) → Sets w.parts.layout.geometry (parts_trees w.parts) (IsBeside w.parts) poke result
+pub pokes_first : {A : Type 0} (poke : Poke) (old : Audited A) (answer : Answer) (new : Audited A) (w : World A)
+    (result : Result (RawWorld A) Stop)
+    → old.poked ≡ None
+    → old.session.machine ≡ Some (machine_of w)
+    → Sets w.parts.layout.geometry (parts_trees w.parts) (IsBeside w.parts) poke result
     → Comes result (record old.session { machine = None }) answer new → Pokes poke old answer new
 pokes_first poke old answer new w result none there sets comes =
-    nothing old.poked _ _ none (matched old.session.machine (machine_of w) _ (λ m. PokesFirst poke m old answer new) there (inr (w, refl, result, sets, comes)))
+    nothing old.poked _ _ none
+    (matched old.session.machine (machine_of w) _ (λ m. PokesFirst poke m old answer new) there
+    (inr (w, refl, result, sets, comes)))
 
 -- a further poke
-pub pokes_again : {A : Type 0} (poke : Poke) (old : Audited A) (answer : Answer) (new : Audited A) (before : RawWorld A) (result : Result (RawWorld A) Stop) → old.poked ≡ Some before
-    → Sets before.parts.layout.geometry (raw_trees before.parts) (λ beside. beside ≡ raw_beside_of before.parts) poke result → Comes result old.session answer new → Pokes poke old answer new
-pokes_again poke old answer new before result is sets comes = matched old.poked before _ (λ w. PokesAgain poke w old answer new) is (result, sets, comes)
+pub pokes_again : {A : Type 0} (poke : Poke) (old : Audited A) (answer : Answer) (new : Audited A)
+    (before : RawWorld A) (result : Result (RawWorld A) Stop)
+    → old.poked ≡ Some before
+    → Sets before.parts.layout.geometry (raw_trees before.parts)
+    (λ beside. beside ≡ raw_beside_of before.parts) poke result
+    → Comes result old.session answer new
+    → Pokes poke old answer new
+pokes_again poke old answer new before result is sets comes =
+    matched old.poked before _ (λ w. PokesAgain poke w old answer new) is (result, sets, comes)

@@ -37,14 +37,17 @@ use Rattle.world.specs.declared.World.{World}
 use Rattle.world.specs.declared.raw.RawWorld.{RawWorld}
 use Rattle.trace_audit.specs.Paths.{path_on, poke_in, which_of}
 
--- the progress of an audited trace: that of a replayed one, and, once a word was poked, the poked world. There is no machine any more then
+-- the progress of an audited trace: that of a replayed one, and, once a word was poked, the poked
+-- world. There is no machine any more then
 pub record Audited (A : Type 0) : Type 0 where
   pub session : Standing
   pub poked : Option (RawWorld A)
 
--- the lines that end a report of so many step lines: the difference, if there is one, and the numbers of step lines and of differences
+-- the lines that end a report of so many step lines: the difference, if there is one, and the
+-- numbers of step lines and of differences
 abbrev pub found_lines : ℕ → Option Disagreement → List ReportLine
-found_lines steps found = audited_lines found ++ report.End steps (length (audited_lines found)) ∷ []
+found_lines steps found =
+    audited_lines found ++ report.End steps (length (audited_lines found)) ∷ []
 
 module _ {A : Type 0} where
   -- before the first line
@@ -61,65 +64,87 @@ module _ {A : Type 0} where
   allowed a = allowed_where a.poked (is_some a.session.machine) a.session.started
 
   -- a world of these trees of which one word was set: `kept` has the state beside the trees
-  pub record IsPoked (geometry : Geometry) (before : Which → SeenTree) (kept : Beside → Type 0) (poke : Poke) (path : List ℕ) (world : RawWorld A) : Type 0 where
-    pub trees : IsPokedTree (block_of geometry path) before (raw_trees world.parts) (which_of poke.tree) path poke.word
+  pub record IsPoked (geometry : Geometry) (before : Which → SeenTree) (kept : Beside → Type 0)
+      (poke : Poke) (path : List ℕ) (world : RawWorld A) : Type 0 where
+    pub trees : IsPokedTree (block_of geometry path) before (raw_trees world.parts)
+        (which_of poke.tree) path poke.word
     pub beside : kept (raw_beside_of world.parts)
 
   -- what setting a word comes to: the world, and a fault just where the page's path has no word
-  abbrev pub Sets : Geometry → (Which → SeenTree) → (Beside → Type 0) → Poke → Result (RawWorld A) Stop → Type 0
+  abbrev pub Sets : Geometry → (Which → SeenTree) → (Beside → Type 0) → Poke
+      → Result (RawWorld A) Stop → Type 0
   Sets geometry before kept poke result =
       MatchOption (path_on geometry poke.page poke.level) (result ≡ Err (stops.Fault faults.Path))
-      (λ path. MatchOption ((before (which_of poke.tree)).words path) (result ≡ Err (stops.Fault faults.Path)) (λ word. MatchResult result (λ world. IsPoked geometry before kept poke path world) (λ stop. ⊥)))
+      (λ path. MatchOption ((before (which_of poke.tree)).words path)
+      (result ≡ Err (stops.Fault faults.Path))
+      (λ word. MatchResult result (λ world. IsPoked geometry before kept poke path world)
+      (λ stop. ⊥)))
 
   -- and what the line then answers
   abbrev pub Comes : Result (RawWorld A) Stop → Standing → Answer → Audited A → Type 0
   Comes (Err stop) session answer new = answer ≡ Err stop
-  Comes (Ok world) session answer new = (answer ≡ Ok []) × (new ≡ record { session = session; poked = Some world })
+  Comes (Ok world) session answer new =
+      (answer ≡ Ok []) × (new ≡ record { session = session; poked = Some world })
 
-  -- the first poke, of a world of the machine, which is a poked one from then on. Only memory can be wanting before
+  -- the first poke, of a world of the machine, which is a poked one from then on. Only memory can
+  -- be wanting before
   abbrev pub PokesFirst : Poke → Machine → Audited A → Answer → Audited A → Type 0
   PokesFirst poke m old answer new =
-      (answer ≡ Err stops.NoMemory) ⊎ ((w : World A) × (machine_of w ≡ m) × (result : Result (RawWorld A) Stop)
-      × Sets w.parts.layout.geometry (parts_trees w.parts) (IsBeside w.parts) poke result × Comes result (record old.session { machine = None }) answer new)
+      (answer ≡ Err stops.NoMemory)
+      ⊎ ((w : World A) × (machine_of w ≡ m) × (result : Result (RawWorld A) Stop)
+      × Sets w.parts.layout.geometry (parts_trees w.parts) (IsBeside w.parts) poke result
+      × Comes result (record old.session { machine = None }) answer new)
 
   -- a further one
   abbrev pub PokesAgain : Poke → RawWorld A → Audited A → Answer → Audited A → Type 0
   PokesAgain poke before old answer new =
-      (result : Result (RawWorld A) Stop) × Sets before.parts.layout.geometry (raw_trees before.parts) (λ beside. beside ≡ raw_beside_of before.parts) poke result × Comes result old.session answer new
+      (result : Result (RawWorld A) Stop)
+      × Sets before.parts.layout.geometry (raw_trees before.parts)
+      (λ beside. beside ≡ raw_beside_of before.parts) poke result
+      × Comes result old.session answer new
 
   -- a poke, which comes after the boot
   abbrev pub Pokes : Poke → Audited A → Answer → Audited A → Type 0
   Pokes poke old answer new =
       MatchOption old.poked
-      (MatchOption old.session.machine (answer ≡ Err (stops.Fault (faults.Line Place))) (λ m. PokesFirst poke m old answer new))
+      (MatchOption old.session.machine (answer ≡ Err (stops.Fault (faults.Line Place)))
+      (λ m. PokesFirst poke m old answer new))
       (λ before. PokesAgain poke before old answer new)
 
   -- any other line does what it does under `replay`, but that no oracle looks at a step
-  pub record Carries (number : ℕ) (line : Line) (old : Audited A) (answer : Answer) (new : Audited A) : Type 0 where
+  pub record Carries (number : ℕ) (line : Line) (old : Audited A) (answer : Answer)
+      (new : Audited A) : Type 0 where
     pub does : DoesLine agreed number line old.session answer new.session
     pub poked : new.poked ≡ old.poked
 
   abbrev pub Does : ℕ → Line → Audited A → Answer → Audited A → Type 0
-  Does number line old answer new = MatchOption (poke_in line) (Carries number line old answer new) (λ poke. Pokes poke old answer new)
+  Does number line old answer new =
+      MatchOption (poke_in line) (Carries number line old answer new)
+      (λ poke. Pokes poke old answer new)
 
   -- what follows from what a line says
   abbrev pub Follows : ℕ → Result (Option Line) LineFault → Audited A → Answer → Audited A → Type 0
-  Follows number (Err fault) old answer new = (answer ≡ Err (stops.Fault (faults.Line fault))) × (new ≡ old)
+  Follows number (Err fault) old answer new =
+      (answer ≡ Err (stops.Fault (faults.Line fault))) × (new ≡ old)
   Follows number (Ok None) old answer new = (answer ≡ Ok []) × (new ≡ old)
   Follows number (Ok (Some line)) old answer new = Does number line old answer new
 
   -- what the bytes of a line do
   abbrev pub RunsLine : ℕ → List ℕ → Audited A → Answer → Audited A → Type 0
-  RunsLine number bytes old answer new = Follows number (said (allowed old) old.session.told bytes) old answer new
+  RunsLine number bytes old answer new =
+      Follows number (said (allowed old) old.session.told bytes) old answer new
 
-  -- the findings of a poked world: its kept state, what a walk of all its words finds, and the first difference, which is none exactly if both are the same
+  -- the findings of a poked world: its kept state, what a walk of all its words finds, and the
+  -- first difference, which is none exactly if both are the same
   pub record ComparesWalk (parts : RawParts A) (found : Option Disagreement) : Type 0 where
     pub kept : Ghost
     pub walked : Ghost
     pub kept_is : IsRawFound Maplets parts kept
     pub kept_rows : SaysRawRows parts kept
     pub walked_is : IsRawFound Words parts walked
-    pub walked_rows : (f : ℕ) → (contents_in walked).shared.row f ≡ scratch_rows (layout_of parts.layout) (contents_in walked) f
+    pub walked_rows : (f : ℕ)
+        → (contents_in walked).shared.row f
+        ≡ scratch_rows (layout_of parts.layout) (contents_in walked) f
     pub none : (found ≡ None) ↔ AuditAgrees (contents_in kept) (contents_in walked)
     pub first : IfSome found (IsFirstDifference (contents_in kept) (contents_in walked))
 
@@ -132,12 +157,26 @@ module _ {A : Type 0} where
   end_lines a found = found_lines a.session.steps found
 
   abbrev pub Ends : Audited A → List ReportLine → Outcome → Type 0
-  Ends a lines outcome = (found : Option Disagreement) × IsAudited a found × (lines ≡ end_lines a found) × (outcome ≡ outcome_of (length (audited_lines found)))
+  Ends a lines outcome =
+      (found : Option Disagreement)
+      × IsAudited a found
+      × (lines ≡ end_lines a found)
+      × (outcome ≡ outcome_of (length (audited_lines found)))
 
--- what was written is the report of an audit of the trace of these bytes, with the trees' tables where A says
-abbrev pub IsAuditTold : (A : Type 0) → Option (List ℕ) → Option (List ℕ) → Option (List ℕ) → Outcome → Type 0
+-- what was written is the report of an audit of the trace of these bytes, with the trees' tables
+-- where A says
+abbrev pub IsAuditTold : (A : Type 0)
+    → Option (List ℕ)
+    → Option (List ℕ)
+    → Option (List ℕ)
+    → Outcome
+    → Type 0
 IsAuditTold A = reports.IsWritten (RunsLine {A = A}) Ends nothing_audited
 
 -- and a beginning of one
-abbrev pub IsAuditBegun : (A : Type 0) → Option (List ℕ) → Option (List ℕ) → Option (List ℕ) → Type 0
+abbrev pub IsAuditBegun : (A : Type 0)
+    → Option (List ℕ)
+    → Option (List ℕ)
+    → Option (List ℕ)
+    → Type 0
 IsAuditBegun A = reports.IsWriteBegun (RunsLine {A = A}) Ends nothing_audited

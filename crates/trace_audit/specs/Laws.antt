@@ -33,20 +33,28 @@ abbrev pub HasNoPoke : List ℕ → Type 0
 HasNoPoke line = IfSome (asked (words_of line)) (λ a. a.verb ≡ Poke → ⊥)
 
 -- a report that is that of a replay whose oracle finds no disagreement
-pub record IsReplays (trace : List (List ℕ)) (lines : List ReportLine) (outcome : Outcome) : Type 0 where
+pub record IsReplays (trace : List (List ℕ)) (lines : List ReportLine)
+    (outcome : Outcome) : Type 0 where
   pub replay : replay.IsReport agreed 1 at_start trace lines outcome
   pub agrees : HasNoDisagreement lines outcome
 
 -- the audit of a trace without a poke reports what its replay does, and no disagreement
 abbrev pub AuditReplays : Type 0 → Type 0
-AuditReplays A = (trace : List (List ℕ)) (lines : List ReportLine) (outcome : Outcome) → All HasNoPoke trace → IsReport (RunsLine {A = A}) Ends 1 nothing_audited trace lines outcome → IsReplays trace lines outcome
+AuditReplays A =
+    (trace : List (List ℕ)) (lines : List ReportLine) (outcome : Outcome)
+    → All HasNoPoke trace
+    → IsReport (RunsLine {A = A}) Ends 1 nothing_audited trace lines outcome
+    → IsReplays trace lines outcome
 
--- `kept` is what poked parts keep, and `walked` what a walk of all their words finds, with the rows from scratch
+-- `kept` is what poked parts keep, and `walked` what a walk of all their words finds, with the rows
+-- from scratch
 pub record AreFoundIn {A : Type 0} (parts : RawParts A) (kept walked : Ghost) : Type 0 where
   pub kept_is : IsRawFound Maplets parts kept
   pub kept_rows : SaysRawRows parts kept
   pub walked_is : IsRawFound Words parts walked
-  pub walked_rows : (f : ℕ) → (contents_in walked).shared.row f ≡ scratch_rows (layout_of parts.layout) (contents_in walked) f
+  pub walked_rows : (f : ℕ)
+      → (contents_in walked).shared.row f
+      ≡ scratch_rows (layout_of parts.layout) (contents_in walked) f
 
 -- the end of a report has no difference, and there is none
 pub record TellsNone (steps : ℕ) (lines : List ReportLine) (kept walked : Ghost) : Type 0 where
@@ -60,25 +68,41 @@ pub record TellsFirst (steps : ℕ) (lines : List ReportLine) (kept walked : Gho
   pub differs : AuditAgrees (contents_in kept) (contents_in walked) → ⊥
   pub first : IsFirstDifference (contents_in kept) (contents_in walked) found
 
--- the end of the report of a poked world has a difference exactly if the world's kept state isn't what the walk finds
+-- the end of the report of a poked world has a difference exactly if the world's kept state isn't
+-- what the walk finds
 abbrev pub AuditTells : Type 0 → Type 0
-AuditTells A = (a : Audited A) (world : RawWorld A) (lines : List ReportLine) (outcome : Outcome) → a.poked ≡ Some world → Ends a lines outcome
-    → (kept : Ghost) × (walked : Ghost) × AreFoundIn world.parts kept walked × (TellsNone a.session.steps lines kept walked ⊎ TellsFirst a.session.steps lines kept walked)
+AuditTells A =
+    (a : Audited A) (world : RawWorld A) (lines : List ReportLine) (outcome : Outcome)
+    → a.poked ≡ Some world
+    → Ends a lines outcome
+    → (kept : Ghost)
+    × (walked : Ghost)
+    × AreFoundIn world.parts kept walked
+    × (TellsNone a.session.steps lines kept walked ⊎ TellsFirst a.session.steps lines kept walked)
 
 -- a poked world has all trees but one of others, and the state beside the trees is as `kept` says
-pub record KeepsAllBut {A : Type 0} (trees : Which → SeenTree) (kept : Beside → Type 0) (world : RawWorld A) : Type 0 where
+pub record KeepsAllBut {A : Type 0} (trees : Which → SeenTree) (kept : Beside → Type 0)
+    (world : RawWorld A) : Type 0 where
   pub which : Which
   pub others : (other : Which) → (other ≡ which → ⊥) → raw_trees world.parts other ≡ trees other
   pub beside : kept (raw_beside_of world.parts)
 
 -- the first line that a poke is leaves all of the machine's world but one tree
 abbrev pub FirstKeeps : Type 0 → Type 0
-FirstKeeps A = (number : ℕ) (line : List ℕ) (old : Audited A) (reported : List ReportLine) (new : Audited A) (after : RawWorld A)
+FirstKeeps A =
+    (number : ℕ) (line : List ℕ) (old : Audited A) (reported : List ReportLine) (new : Audited A)
+    (after : RawWorld A)
     → old.poked ≡ None → new.poked ≡ Some after → RunsLine number line old (Ok reported) new
-    → (w : World A) × (old.session.machine ≡ Some (machine_of w)) × KeepsAllBut (parts_trees w.parts) (IsBeside w.parts) after
+    → (w : World A)
+    × (old.session.machine ≡ Some (machine_of w))
+    × KeepsAllBut (parts_trees w.parts) (IsBeside w.parts) after
 
 -- and each line behind it all of the poked world but one tree
 abbrev pub NextKeeps : Type 0 → Type 0
-NextKeeps A = (number : ℕ) (line : List ℕ) (old : Audited A) (reported : List ReportLine) (new : Audited A) (before : RawWorld A)
+NextKeeps A =
+    (number : ℕ) (line : List ℕ) (old : Audited A) (reported : List ReportLine) (new : Audited A)
+    (before : RawWorld A)
     → old.poked ≡ Some before → RunsLine number line old (Ok reported) new
-    → (after : RawWorld A) × (new.poked ≡ Some after) × KeepsAllBut (raw_trees before.parts) (λ beside. beside ≡ raw_beside_of before.parts) after
+    → (after : RawWorld A)
+    × (new.poked ≡ Some after)
+    × KeepsAllBut (raw_trees before.parts) (λ beside. beside ≡ raw_beside_of before.parts) after

@@ -26,8 +26,11 @@ pub fn audit<A: Allocator + Copy, S: Source, K: Sink>(
     source: &mut S,
     sink: &mut K,
 ) -> Result<Outcome, EngineFault>
-    ensures report { IfOk result (λ outcome. IsAuditTold A (S.remaining source.old) (K.contents sink.old) (K.contents sink.new) outcome) }
-    ensures begun { OnErr result (IsAuditBegun A (S.remaining source.old) (K.contents sink.old) (K.contents sink.new)) }
+    ensures report { IfOk result
+        (λ outcome. IsAuditTold A (S.remaining source.old) (K.contents sink.old)
+        (K.contents sink.new) outcome) }
+    ensures begun { OnErr result
+        (IsAuditBegun A (S.remaining source.old) (K.contents sink.old) (K.contents sink.new)) }
     ensures reads { CountsReads (S.failures source.old) (S.failures source.new) result }
     ensures writes { CountsWrites (K.failures sink.old) (K.failures sink.new) result }
 {
@@ -41,7 +44,8 @@ pub fn audit<A: Allocator + Copy, S: Source, K: Sink>(
 impl<A: Allocator + Copy> Player for Audit<A> {
     ghost ready = { λ number audit. IsReady audit.session × ((standing_of audit.session).steps < number) };
 
-    ghost does = { λ number line old answer new. RunsLine number line (audited_of old) answer (audited_of new) };
+    ghost does = { λ number line old answer new. RunsLine number line (audited_of old) answer
+        (audited_of new) };
 
     ghost ends = { λ audit. Ends (audited_of audit) };
 
@@ -71,8 +75,11 @@ fn tell_found<K: Sink>(
     steps: u64,
     found: Option<Disagreement>,
 ) -> Result<Outcome, EngineFault>
-    ensures ok { IfOk result (EndsWith (found_lines steps found) (outcome_of (length (audited_lines found))) (K.contents sink.old) (K.contents sink.new)) }
-    ensures front { OnErr result (WritesFront (found_lines steps found) (K.contents sink.old) (K.contents sink.new)) }
+    ensures ok { IfOk result
+        (EndsWith (found_lines steps found) (outcome_of (length (audited_lines found)))
+        (K.contents sink.old) (K.contents sink.new)) }
+    ensures front { OnErr result
+        (WritesFront (found_lines steps found) (K.contents sink.old) (K.contents sink.new)) }
     ensures counted { TellsWrite (K.failures sink.old) (K.failures sink.new) result }
 {
     tell_audited(sink, text, found)?;

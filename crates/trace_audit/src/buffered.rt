@@ -16,8 +16,11 @@ pub fn audit_buffered<A: Allocator + Copy, R: Read + Drop, W: Write + Drop>(
     reader: R,
     writer: W,
 ) -> Result<(Outcome, W), Stopped<W>>
-    ensures report { IfOk result (λ r. IsAuditTold A (R.remaining reader) (W.contents writer) (W.contents r.1) r.0) }
-    ensures begun { IfErr result (λ s. IfSome s.writer (λ w. IsAuditBegun A (R.remaining reader) (W.contents writer) (W.contents w))) }
+    ensures report { IfOk result
+        (λ r. IsAuditTold A (R.remaining reader) (W.contents writer) (W.contents r.1) r.0) }
+    ensures begun { IfErr result
+        (λ s. IfSome s.writer
+        (λ w. IsAuditBegun A (R.remaining reader) (W.contents writer) (W.contents w))) }
 {
     let mut audit = Audit::new(global, alloc);
     let answer = play_buffered(global, &mut audit, reader, writer);

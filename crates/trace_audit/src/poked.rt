@@ -60,7 +60,8 @@ impl<A: Allocator + Copy> Audit<A> {
     pub fn run(&mut self, number: u64, line: &[u8]) -> Result<Reported, Stop>
         requires few { (standing_of self.old.session).steps < 2 ^ 62 }
         requires ready { IsReady self.old.session }
-        ensures done { RunsLine number line.now (audited_of self.old) (answer_of self.new.session result) (audited_of self.new) }
+        ensures done { RunsLine number line.now (audited_of self.old) (answer_of self.new.session result)
+            (audited_of self.new) }
         ensures steps { (standing_of self.new.session).steps ≤ (standing_of self.old.session).steps + 1 }
         ensures ready { IsReady self.new.session }
     {
@@ -74,7 +75,8 @@ impl<A: Allocator + Copy> Audit<A> {
     fn carry_out(&mut self, number: u64, said: Line) -> Result<Reported, Stop>
         requires few { (standing_of self.old.session).steps < 2 ^ 62 }
         requires ready { IsReady self.old.session }
-        ensures done { Does number said (audited_of self.old) (answer_of self.new.session result) (audited_of self.new) }
+        ensures done { Does number said (audited_of self.old) (answer_of self.new.session result)
+            (audited_of self.new) }
         ensures steps { (standing_of self.new.session).steps ≤ (standing_of self.old.session).steps + 1 }
         ensures ready { IsReady self.new.session }
     {
@@ -131,7 +133,10 @@ impl<A: Allocator + Copy> Audit<A> {
     /// What the audit finds. None where all is the same, as it is without a poke; then it adds to `reads` each word that it reads.
     pub fn audited(&self, reads: &mut Reads) -> Result<Option<Disagreement>, AllocError>
         ensures found { IfOk result (IsAudited (audited_of self.now)) }
-        ensures looks { self.now.poked ≡ None → OnOk result (HasRead (count_of reads.old) (session_tables self.now.session) (count_of reads.new)) }
+        ensures looks { self.now.poked ≡ None
+            → OnOk result
+            (HasRead (count_of reads.old) (session_tables self.now.session)
+            (count_of reads.new)) }
     {
         match &self.poked {
             Some(world) => compared(self.global, world),
@@ -163,7 +168,8 @@ fn which_of(tree: TreeName) -> Which
 
 /// Sets a word of a world that was poked already.
 fn poke_again<A: Allocator>(world: RawWorld<A>, poke: Poke) -> Result<RawWorld<A>, Stop>
-    ensures { Sets world.parts.layout.geometry (raw_trees world.parts) (λ beside. beside ≡ raw_beside_of world.parts) poke result }
+    ensures { Sets world.parts.layout.geometry (raw_trees world.parts)
+        (λ beside. beside ≡ raw_beside_of world.parts) poke result }
 {
     let Some(path) = path_on(world.geometry(), poke.page, poke.level) else {
         return Err(Stop::Fault(Fault::Path));
@@ -181,7 +187,8 @@ fn poke_world<A: Allocator>(
     poke: Poke,
 ) -> Result<RawWorld<A>, Stop>
     requires nothing { places.items ≡ replicate 64 None }
-    ensures { Sets world.parts.layout.geometry (parts_trees world.parts) (IsBeside world.parts) poke result }
+    ensures { Sets world.parts.layout.geometry (parts_trees world.parts)
+        (IsBeside world.parts) poke result }
 {
     let Some(path) = path_on(world.geometry(), poke.page, poke.level) else {
         return Err(Stop::Fault(Fault::Path));

@@ -19,7 +19,8 @@ pub struct Replayed {
 
 /// Replays a trace, each step judged and audited. Err only where memory is refused.
 pub fn replay_bytes(alloc: Global, trace: &[u8]) -> Replayed
-    ensures whole { IfOk result.outcome (IsReplayed agreed (Some trace.now) (Some []) (Some result.report.items)) }
+    ensures whole { IfOk result.outcome
+        (IsReplayed agreed (Some trace.now) (Some []) (Some result.report.items)) }
     ensures begun { OnErr result.outcome (IsBegun agreed (Some trace.now) (Some []) (Some result.report.items)) }
 {
     let mut source = Bytes { left: trace };

@@ -15,4 +15,5 @@ module _ {X Y : Type 0} (h : X → Y) where
   pub position-mapped : (p : Y → Bool) (xs : List X) → position p (map h xs) ≡ position (λ x. p (h x)) xs
   position-mapped p xs =
       ap (λ n. cond (nat_lt n (length (map h xs))) (Some n) None) (prefix_len-mapped (λ y. not (p y)) xs)
-      ∙ ap (λ n. cond (nat_lt (position_or_len (λ x. p (h x)) xs) n) (Some (position_or_len (λ x. p (h x)) xs)) None) (length-map xs h)
+      ∙ ap (λ n. cond (nat_lt (position_or_len (λ x. p (h x)) xs) n) (Some (position_or_len (λ x. p (h x)) xs)) None)
+      (length-map xs h)

@@ -10,10 +10,12 @@ use Rattle.trace_text.specs.Reports.{IsPlayed}
 use Rattle.trace_text.specs.Session.{Answer}
 use Rattle.trace_audit.specs.Audited.{Audited, IsAudited, RunsLine, nothing_audited}
 
--- the place of the last of these lines that says something, from a place on, where that of those before them is known
+-- the place of the last of these lines that says something, from a place on, where that of those
+-- before them is known
 abbrev pub last_from : ℕ → ℕ → List (List ℕ) → ℕ
 last_from last place [] = last
-last_from last place (line ∷ rest) = last_from (if is_silent line then last else place) (place + 1) rest
+last_from last place (line ∷ rest) =
+    last_from (if is_silent line then last else place) (place + 1) rest
 
 -- and of all lines, 0 where none says anything
 abbrev pub last_said : List (List ℕ) → ℕ
@@ -23,26 +25,38 @@ last_said lines = last_from 0 0 lines
 abbrev pub with : Bool → List ReportLine → List ReportLine → List ReportLine
 with is_last found reported = if is_last then reported ++ found else reported
 
--- what lines report, from a place on, and what was found behind what the one at the last place reports
+-- what lines report, from a place on, and what was found behind what the one at the last place
+-- reports
 abbrev pub behind : ℕ → ℕ → List ReportLine → List (List ReportLine) → List (List ReportLine)
 behind place last found [] = []
-behind place last found (reported ∷ more) = with (place == last) found reported ∷ behind (place + 1) last found more
+behind place last found (reported ∷ more) =
+    with (place == last) found reported ∷ behind (place + 1) last found more
 
--- what is told from a line on that answers so: its report, and then what is told of the lines after it. A fault is told last, and then nothing is looked for
-abbrev pub Tells : ℕ → Answer → (List (List ReportLine) → Option Disagreement → Type 0) → List (List ReportLine) → Option Disagreement → Type 0
-Tells number (Err (stops.Fault fault)) follows told found = (told ≡ (report.Fault number fault ∷ []) ∷ []) × (found ≡ None)
+-- what is told from a line on that answers so: its report, and then what is told of the lines after
+-- it. A fault is told last, and then nothing is looked for
+abbrev pub Tells : ℕ → Answer → (List (List ReportLine) → Option Disagreement → Type 0)
+    → List (List ReportLine) → Option Disagreement → Type 0
+Tells number (Err (stops.Fault fault)) follows told found =
+    (told ≡ (report.Fault number fault ∷ []) ∷ []) × (found ≡ None)
 Tells number (Err stops.NoMemory) follows told found = ⊥
-Tells number (Ok reported) follows told found = (more : List (List ReportLine)) × (told ≡ reported ∷ more) × follows more found
+Tells number (Ok reported) follows told found =
+    (more : List (List ReportLine)) × (told ≡ reported ∷ more) × follows more found
 
 module _ {A : Type 0} where
-  -- the lines of a trace, from a number on, are carried out as an audit does: what each reports, up to the first that has a fault, and what is found at the end
-  abbrev pub Runs : ℕ → Audited A → List (List ℕ) → List (List ReportLine) → Option Disagreement → Type 0
+  -- the lines of a trace, from a number on, are carried out as an audit does: what each reports, up
+  -- to the first that has a fault, and what is found at the end
+  abbrev pub Runs : ℕ → Audited A → List (List ℕ) → List (List ReportLine) → Option Disagreement
+      → Type 0
   Runs number old [] told found = (told ≡ []) × IsAudited old found
   Runs number old (line ∷ rest) told found =
-      (answer : Answer) × (new : Audited A) × IsPlayed (RunsLine {A = A}) number line old answer new × Tells number answer (λ more last. Runs (number + 1) new rest more last) told found
+      (answer : Answer)
+      × (new : Audited A)
+      × IsPlayed (RunsLine {A = A}) number line old answer new
+      × Tells number answer (λ more last. Runs (number + 1) new rest more last) told found
 
 -- what the lines of a trace report, with what is found at the end
-pub record IsAuditTold (A : Type 0) (lines : List (List ℕ)) (told : List (List ReportLine)) : Type 0 where
+pub record IsAuditTold (A : Type 0) (lines : List (List ℕ))
+    (told : List (List ReportLine)) : Type 0 where
   pub own : List (List ReportLine)
   pub found : Option Disagreement
   pub runs : Runs {A = A} 1 nothing_audited lines own found

@@ -10,7 +10,8 @@ use Rattle.trace_cases.specs.RaceChecks.{IsRaceChecked, IsRaceRecord}
 use Rattle.trace_cases.specs.Ways.{has_poke, start_at}
 
 -- the answer to lines that are audited
-pub record IsAuditChecked (A : Type 0) (name : List ℕ) (lines : List (List ℕ)) (checked : Checked) : Type 0 where
+pub record IsAuditChecked (A : Type 0) (name : List ℕ) (lines : List (List ℕ))
+    (checked : Checked) : Type 0 where
   pub told : List (List ReportLine)
   pub audited : IsAuditTold A lines told
   pub checks : Checks name lines told checked
@@ -21,7 +22,8 @@ pub record IsAuditRecord (A : Type 0) (trace text : List ℕ) : Type 0 where
   pub audited : IsAuditTold A (lines_of trace) told
   pub text_is : text ≡ recorded_text trace told
 
--- the answer to the bytes of a trace without a poke, by how many lines are before `start`: the steps after it may be made in any order
+-- the answer to the bytes of a trace without a poke, by how many lines are before `start`: the
+-- steps after it may be made in any order
 abbrev pub RunChecks : Option ℕ → List ℕ → List ℕ → Checked → Type 0
 RunChecks None name trace checked = IsChecked name trace checked
 RunChecks (Some place) name trace checked = IsRaceChecked name trace (place + 1) checked

@@ -10,11 +10,14 @@ use Rattle.trace_cases.specs.Races.{text_missed}
 abbrev pub told_at : List Outcome → ℕ → List (List ℕ)
 told_at found place = map (λ o. text_at place o.replies.items) found
 
--- each outcome tells the step at a place something that is wanted, unless others may come, too; and each that is wanted comes
+-- each outcome tells the step at a place something that is wanted, unless others may come, too; and
+-- each that is wanted comes
 pub record IsMet (found : List Outcome) (place : ℕ) (text : List ℕ) : Type 0 where
   pub among : is_open text ≡ false → All (Contains (kinds text)) (told_at found place)
   pub comes : All (Contains (told_at found place)) (kinds text)
 
 -- just then nothing of an expectation is missed
 abbrev pub UnmissedIsMet : Type 0
-UnmissedIsMet = (steps : List Asked) (found : List Outcome) (place number : ℕ) (text : List ℕ) → (text_missed steps found place number text ≡ []) ↔ IsMet found place text
+UnmissedIsMet =
+    (steps : List Asked) (found : List Outcome) (place number : ℕ) (text : List ℕ)
+    → (text_missed steps found place number text ≡ []) ↔ IsMet found place text

@@ -29,7 +29,8 @@ module _ (lines : List (List ℕ)) (count : ℕ) where
     pub told_is : told ≡ padded count lines own
 
   -- and the steps after `start` have these outcomes, or too many orders
-  pub record IsRaced (a : Asking) (found : List Outcome) (many : Option ℕ) (r : Raced) : Type 0 where
+  pub record IsRaced (a : Asking) (found : List Outcome) (many : Option ℕ)
+      (r : Raced) : Type 0 where
     pub run : IsRun (told_in r.told.items)
     pub steps : r.steps.items ≡ raced_of a
     pub found_is : r.found.items ≡ found
@@ -47,7 +48,8 @@ module _ (lines : List (List ℕ)) (count : ℕ) where
     pub finds : Finds 100000 a found
     pub raced : RacedBy a found r
 
-  -- by what the whole trace asks for, of which so many lines are before the steps that may be made in any order
+  -- by what the whole trace asks for, of which so many lines are before the steps that may be made
+  -- in any order
   abbrev pub RacedOf : Result Asking (ℕ × Fault) → Raced → Type 0
   RacedOf (Err told) r = IsAlone (faulted 1 told.0 told.1 lines) r
   RacedOf (Ok a) r = RacedIn a r

@@ -15,13 +15,16 @@ use Rattle.trace_cases.specs.Kinds.{is_open, kinds}
 -- what lines from a number on report where one of them has a fault: the fault alone
 abbrev pub faulted : ℕ → ℕ → Fault → List (List ℕ) → List (List ReportLine)
 faulted number at fault [] = []
-faulted number at fault (line ∷ rest) = if number == at then (report.Fault at fault ∷ []) ∷ [] else [] ∷ faulted (number + 1) at fault rest
+faulted number at fault (line ∷ rest) =
+    if number == at then (report.Fault at fault ∷ []) ∷ []
+    else [] ∷ faulted (number + 1) at fault rest
 
 -- what lines report that report nothing
 abbrev pub silences : List (List ℕ) → List (List ReportLine)
 silences lines = map (λ line. []) lines
 
--- what all lines report, where so many are carried out in order, and each step after them may be told several replies: here nothing
+-- what all lines report, where so many are carried out in order, and each step after them may be
+-- told several replies: here nothing
 abbrev pub padded : ℕ → List (List ℕ) → List (List ReportLine) → List (List ReportLine)
 padded count lines told = if length told == count then told ++ silences (drop count lines) else told
 
@@ -35,11 +38,13 @@ is_step_line steps number = list_any (λ a. a.line == number) steps
 
 -- a line behind that of a number: an expectation of one of these steps is only a comment
 abbrev pub plain_at : List Asked → ℕ → List ℕ → List ℕ
-plain_at steps number line = if is_some (expectation line) && is_step_line steps number then codes "#" else line
+plain_at steps number line =
+    if is_some (expectation line) && is_step_line steps number then codes "#" else line
 
 abbrev pub plain_from : List Asked → ℕ → List (List ℕ) → List (List ℕ)
 plain_from steps number [] = []
-plain_from steps number (line ∷ rest) = plain_at steps number line ∷ plain_from steps (number + 1) rest
+plain_from steps number (line ∷ rest) =
+    plain_at steps number line ∷ plain_from steps (number + 1) rest
 
 -- all lines so
 abbrev pub plain : List Asked → List (List ℕ) → List (List ℕ)
@@ -50,17 +55,21 @@ abbrev pub order_words : List Asked → Outcome → List ℕ
 order_words steps o = codes " by order" ++ places_said steps o.order.items
 
 abbrev pub other_said : List Asked → List ℕ → ℕ → Outcome → List ℕ
-other_said steps text place o = other_words text (text_at place o.replies.items) ++ order_words steps o
+other_said steps text place o =
+    other_words text (text_at place o.replies.items) ++ order_words steps o
 
 -- the first outcome whose reply of the step at a place isn't among those that are wanted
 abbrev pub other_missed : List Asked → ℕ → List ℕ → List (List ℕ) → ℕ → List Outcome → List Miss
 other_missed steps number text wanted place [] = []
 other_missed steps number text wanted place (o ∷ more) =
-    if is_among wanted (text_at place o.replies.items) then other_missed steps number text wanted place more else (number, other_said steps text place o) ∷ []
+    if is_among wanted (text_at place o.replies.items)
+    then other_missed steps number text wanted place more
+    else (number, other_said steps text place o) ∷ []
 
 -- none of them where others may come, too
 abbrev pub others_missed : List Asked → ℕ → List ℕ → List (List ℕ) → ℕ → List Outcome → List Miss
-others_missed steps number text wanted place found = if is_open text then [] else other_missed steps number text wanted place found
+others_missed steps number text wanted place found =
+    if is_open text then [] else other_missed steps number text wanted place found
 
 -- a text that is wanted, and never comes
 abbrev pub never_at : ℕ → List (List ℕ) → List ℕ → List Miss
@@ -72,20 +81,28 @@ never_missed number come (kind ∷ more) = never_at number come kind ++ never_mi
 
 -- what is missed of the expectation of the step at a place, on the line of a number
 abbrev pub text_missed : List Asked → List Outcome → ℕ → ℕ → List ℕ → List Miss
-text_missed steps found place number text = others_missed steps number text (kinds text) place found ++ never_missed number (kinds_at found place) (kinds text)
+text_missed steps found place number text =
+    others_missed steps number text (kinds text) place found
+    ++ never_missed number (kinds_at found place) (kinds text)
 
 -- and of the step at a place, which may have one
 abbrev pub step_missed : List (List ℕ) → List Asked → List Outcome → ℕ → Asked → List Miss
-step_missed lines steps found place a = elim (expected_behind lines a.line) [ None ↦ [] | Some text ↦ text_missed steps found place (a.line + 1) text ]
+step_missed lines steps found place a =
+    elim (expected_behind lines a.line)
+    [ None ↦ [] | Some text ↦ text_missed steps found place (a.line + 1) text ]
 
 -- of the steps from a place on
 abbrev pub missed_from : List (List ℕ) → List Asked → List Outcome → ℕ → List Asked → List Miss
 missed_from lines steps found place [] = []
-missed_from lines steps found place (a ∷ more) = step_missed lines steps found place a ++ missed_from lines steps found (place + 1) more
+missed_from lines steps found place (a ∷ more) =
+    step_missed lines steps found place a ++ missed_from lines steps found (place + 1) more
 
--- all misses of a trace, of whose lines the first report this each, and of whose steps after `start` these are all outcomes
-abbrev pub race_misses : List (List ℕ) → List (List ReportLine) → List Asked → List Outcome → List Miss
-race_misses lines told steps found = misses (plain steps lines) told ++ missed_from lines steps found 0 steps
+-- all misses of a trace, of whose lines the first report this each, and of whose steps after
+-- `start` these are all outcomes
+abbrev pub race_misses : List (List ℕ) → List (List ReportLine) → List Asked → List Outcome
+    → List Miss
+race_misses lines told steps found =
+    misses (plain steps lines) told ++ missed_from lines steps found 0 steps
 
 -- that there are too many points
 abbrev pub too_many_words : ℕ → List ℕ

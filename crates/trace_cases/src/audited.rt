@@ -47,7 +47,9 @@ fn carry_out<A: Allocator + Copy>(
     alloc: A,
     lines: &[&[u8]],
 ) -> Result<Carried, AllocError>
-    ensures { IfOk result (λ carried. Runs {A = A} 1 nothing_audited (map (λ line. line.now) lines.now) (told_in carried.told.items) carried.found) }
+    ensures { IfOk result
+        (λ carried. Runs {A = A} 1 nothing_audited (map (λ line. line.now) lines.now)
+        (told_in carried.told.items) carried.found) }
 {
     let mut audit = Audit::new(global, alloc);
     let carried = carry_to_end(global, &mut audit, lines);
@@ -63,7 +65,9 @@ fn carry_to_end<A: Allocator + Copy>(
 ) -> Result<Carried, AllocError>
     requires start { audited_of audit.old ≡ nothing_audited }
     requires ready { IsReady audit.old.session }
-    ensures { IfOk result (λ carried. Runs {A = A} 1 nothing_audited (map (λ line. line.now) lines.now) (told_in carried.told.items) carried.found) }
+    ensures { IfOk result
+        (λ carried. Runs {A = A} 1 nothing_audited (map (λ line. line.now) lines.now)
+        (told_in carried.told.items) carried.found) }
 {
     let mut told = Vec::new(global);
     for (place, line) in lines.iter().enumerate() {

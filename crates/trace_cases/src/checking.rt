@@ -159,7 +159,10 @@ fn record_told_raced(
 ) -> Result<Vec<u8>, AllocError>
     requires few { length raced.now.told.items ≤ length lines.now }
     requires lines { map (λ line. line.now) lines.now ≡ lines_of trace.now }
-    ensures { IfOk result (λ text. text.items ≡ race_text_by trace.now raced.now.steps.items raced.now.found.items (told_in raced.now.told.items)) }
+    ensures { IfOk result
+        (λ text. text.items
+        ≡ race_text_by trace.now raced.now.steps.items raced.now.found.items
+        (told_in raced.now.told.items)) }
 {
     race_text(
         global,

@@ -36,7 +36,8 @@ pub(crate) fn with_found(
     last: usize,
     found: Option<Disagreement>,
 ) -> Result<Vec<Vec<ReportLine>>, AllocError>
-    ensures told { IfOk result (λ all. told_in all.items ≡ behind 0 last (audited_lines found) (told_in told.now)) }
+    ensures told { IfOk result
+        (λ all. told_in all.items ≡ behind 0 last (audited_lines found) (told_in told.now)) }
     ensures few { IfOk result (λ all. length all.items ≡ length told.now) }
 {
     let mut all = Vec::new(global);

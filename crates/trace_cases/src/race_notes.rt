@@ -24,7 +24,8 @@ pub(crate) fn race_text(
 ) -> Result<Vec<u8>, AllocError>
     requires few { length told.now ≤ length lines.now }
     requires lines { map (λ line. line.now) lines.now ≡ lines_of trace.now }
-    ensures { IfOk result (λ text. text.items ≡ race_text_by trace.now steps.now found.now (told_in told.now)) }
+    ensures { IfOk result
+        (λ text. text.items ≡ race_text_by trace.now steps.now found.now (told_in told.now)) }
 {
     let recorded = race_recorded(global, lines, told, steps, found)?;
     text_of_lines(global, trace, recorded.as_slice())
@@ -39,7 +40,10 @@ fn race_recorded(
     found: &[Outcome],
 ) -> Result<Vec<Vec<u8>>, AllocError>
     requires { length told.now ≤ length lines.now }
-    ensures { IfOk result (λ recorded. lines_in recorded.items ≡ race_recorded_by steps.now found.now 1 (map (λ line. line.now) lines.now) (told_in told.now)) }
+    ensures { IfOk result
+        (λ recorded. lines_in recorded.items
+        ≡ race_recorded_by steps.now found.now 1 (map (λ line. line.now) lines.now)
+        (told_in told.now)) }
 {
     let mut recorded = Vec::new(global);
     for (place, reported) in told.iter().enumerate() {
@@ -68,7 +72,9 @@ fn add_line(
     found: &[Outcome],
     number: u64,
 ) -> Result<(), AllocError>
-    ensures { OnOk result (AddsLines recorded.old recorded.new (race_recorded_at steps.now found.now number line.now reported.now)) }
+    ensures { OnOk result
+        (AddsLines recorded.old recorded.new
+        (race_recorded_at steps.now found.now number line.now reported.now)) }
 {
     add_recorded(recorded, global, line, reported)?;
     add_notes(recorded, global, line, steps, found, number)
@@ -83,7 +89,10 @@ fn add_notes(
     found: &[Outcome],
     number: u64,
 ) -> Result<(), AllocError>
-    ensures { OnOk result (AddsLines recorded.old recorded.new (if is_some (expectation_in line.now) then [] else notes_from found.now number 0 steps.now)) }
+    ensures { OnOk result
+        (AddsLines recorded.old recorded.new
+        (if is_some (expectation_in line.now) then []
+        else notes_from found.now number 0 steps.now)) }
 {
     if expectation(line).is_some() {
         return Ok(());

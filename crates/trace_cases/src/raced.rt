@@ -21,7 +21,10 @@ pub(crate) fn race_misses(
     found: &[Outcome],
 ) -> Result<Vec<Miss>, AllocError>
     requires { length told.now ≤ length lines.now }
-    ensures { IfOk result (λ missed. misses_in missed.items ≡ race_misses_by (map (λ line. line.now) lines.now) (told_in told.now) steps.now found.now) }
+    ensures { IfOk result
+        (λ missed. misses_in missed.items
+        ≡ race_misses_by (map (λ line. line.now) lines.now)
+        (told_in told.now) steps.now found.now) }
 {
     let plain = plain(global, steps, lines)?;
     let mut missed = misses(global, plain.as_slice(), told)?;
@@ -35,7 +38,9 @@ fn plain<'a>(
     steps: &[Asked],
     lines: &[&'a [u8]],
 ) -> Result<Vec<&'a [u8]>, AllocError>
-    ensures plain { IfOk result (λ plain. map (λ line. line.now) plain.items ≡ plain_by steps.now (map (λ line. line.now) lines.now)) }
+    ensures plain { IfOk result
+        (λ plain. map (λ line. line.now) plain.items
+        ≡ plain_by steps.now (map (λ line. line.now) lines.now)) }
     ensures count { IfOk result (λ plain. length plain.items ≡ length lines.now) }
 {
     let mut plain = Vec::new(global);
@@ -71,7 +76,9 @@ fn add_raced(
     steps: &[Asked],
     found: &[Outcome],
 ) -> Result<(), AllocError>
-    ensures { OnOk result (AddsMisses missed.old missed.new (missed_from (map (λ line. line.now) lines.now) steps.now found.now 0 steps.now)) }
+    ensures { OnOk result
+        (AddsMisses missed.old missed.new
+        (missed_from (map (λ line. line.now) lines.now) steps.now found.now 0 steps.now)) }
 {
     for place in 0..steps.len() {
         add_step(global, missed, lines, steps, found, place, steps[place])?;
@@ -89,7 +96,9 @@ fn add_step(
     place: usize,
     asked: Asked,
 ) -> Result<(), AllocError>
-    ensures { OnOk result (AddsMisses missed.old missed.new (step_missed (map (λ line. line.now) lines.now) steps.now found.now place asked)) }
+    ensures { OnOk result
+        (AddsMisses missed.old missed.new
+        (step_missed (map (λ line. line.now) lines.now) steps.now found.now place asked)) }
 {
     match expected_behind(lines, asked.line) {
         Some(text) => add_text(global, missed, steps, found, place, asked.line + 1, text),
@@ -118,7 +127,9 @@ fn add_text(
     number: u64,
     text: &[u8],
 ) -> Result<(), AllocError>
-    ensures { OnOk result (AddsMisses missed.old missed.new (text_missed steps.now found.now place number text.now)) }
+    ensures { OnOk result
+        (AddsMisses missed.old missed.new
+        (text_missed steps.now found.now place number text.now)) }
 {
     let wanted = kinds(global, text)?;
     let come = kinds_at(global, found, place)?;
@@ -146,7 +157,10 @@ fn add_others(
     text: &[u8],
     wanted: &[Vec<u8>],
 ) -> Result<(), AllocError>
-    ensures { OnOk result (AddsMisses missed.old missed.new (others_missed steps.now number text.now (map (λ v. v.items) wanted.now) place found.now)) }
+    ensures { OnOk result
+        (AddsMisses missed.old missed.new
+        (others_missed steps.now number text.now
+        (map (λ v. v.items) wanted.now) place found.now)) }
 {
     if is_open(text) {
         return Ok(());
@@ -165,7 +179,10 @@ fn add_other(
     text: &[u8],
     wanted: &[Vec<u8>],
 ) -> Result<(), AllocError>
-    ensures { OnOk result (AddsMisses missed.old missed.new (other_missed steps.now number text.now (map (λ v. v.items) wanted.now) place found.now)) }
+    ensures { OnOk result
+        (AddsMisses missed.old missed.new
+        (other_missed steps.now number text.now
+        (map (λ v. v.items) wanted.now) place found.now)) }
 {
     for outcome in found {
         let reply = text_at(global, outcome.replies.as_slice(), place)?;
@@ -185,7 +202,9 @@ fn other_said(
     text: &[u8],
     reply: &[u8],
 ) -> Result<Vec<u8>, AllocError>
-    ensures { IfOk result (λ said. said.items ≡ other_words text.now reply.now ++ order_words steps.now outcome.now) }
+    ensures { IfOk result
+        (λ said. said.items
+        ≡ other_words text.now reply.now ++ order_words steps.now outcome.now) }
 {
     let mut said = Vec::from_slice(global, b"expected ")?;
     said.extend_from_slice(text)?;
@@ -204,7 +223,9 @@ fn add_never(
     come: &[Vec<u8>],
     wanted: &[Vec<u8>],
 ) -> Result<(), AllocError>
-    ensures { OnOk result (AddsMisses missed.old missed.new (never_missed number (map (λ v. v.items) come.now) (map (λ v. v.items) wanted.now))) }
+    ensures { OnOk result
+        (AddsMisses missed.old missed.new
+        (never_missed number (map (λ v. v.items) come.now) (map (λ v. v.items) wanted.now))) }
 {
     for kind in wanted {
         add_never_at(global, missed, number, come, kind.as_slice())?;
@@ -220,7 +241,9 @@ fn add_never_at(
     come: &[Vec<u8>],
     kind: &[u8],
 ) -> Result<(), AllocError>
-    ensures { OnOk result (AddsMisses missed.old missed.new (never_at number (map (λ v. v.items) come.now) kind.now)) }
+    ensures { OnOk result
+        (AddsMisses missed.old missed.new
+        (never_at number (map (λ v. v.items) come.now) kind.now)) }
 {
     if is_among(come, kind) {
         return Ok(());

@@ -39,7 +39,9 @@ pub(crate) fn raced_lines<A: Allocator + Copy>(
     start: usize,
 ) -> Result<Raced, AllocError>
     requires start { start < length lines.now }
-    ensures raced { IfOk result (RacedOf (map (λ line. line.now) lines.now) (start + 1) (course_of 1 nothing_asked (lines_of trace.now))) }
+    ensures raced { IfOk result
+        (RacedOf (map (λ line. line.now) lines.now) (start + 1)
+        (course_of 1 nothing_asked (lines_of trace.now))) }
     ensures few { IfOk result (λ raced. length raced.told.items ≤ length lines.now) }
 {
     match read_trace(global, trace)? {
@@ -77,7 +79,8 @@ fn faulted(
     at: u64,
     fault: Fault,
 ) -> Result<Vec<Vec<ReportLine>>, AllocError>
-    ensures told { IfOk result (λ told. told_in told.items ≡ faulted_by 1 at fault (map (λ line. line.now) lines.now)) }
+    ensures told { IfOk result
+        (λ told. told_in told.items ≡ faulted_by 1 at fault (map (λ line. line.now) lines.now)) }
     ensures few { IfOk result (λ told. length told.items ≤ length lines.now) }
 {
     let mut told = Vec::new(global);
@@ -109,7 +112,9 @@ fn add_silences(
     global: Global,
     lines: &[&[u8]],
 ) -> Result<(), AllocError>
-    ensures told { OnOk result (told_in told.new.items ≡ told_in told.old.items ++ silences_by (map (λ line. line.now) lines.now)) }
+    ensures told { OnOk result
+        (told_in told.new.items
+        ≡ told_in told.old.items ++ silences_by (map (λ line. line.now) lines.now)) }
     ensures count { OnOk result (length told.new.items ≡ length told.old.items + length lines.now) }
 {
     for line in lines {
@@ -164,7 +169,9 @@ fn run<A: Allocator + Copy>(
 ) -> Result<Raced, AllocError>
     requires sound { IsSound (course_in course.now) }
     requires count { count ≤ length lines.now }
-    ensures raced { IfOk result (IsRaced (map (λ line. line.now) lines.now) count (course_in course.now) found.items many) }
+    ensures raced { IfOk result
+        (IsRaced (map (λ line. line.now) lines.now) count
+        (course_in course.now) found.items many) }
     ensures few { IfOk result (λ raced. length raced.told.items ≤ length lines.now) }
 {
     let first = course.in_order();
@@ -203,7 +210,9 @@ fn padded(
 ) -> Result<Vec<Vec<ReportLine>>, AllocError>
     requires count { count ≤ length lines.now }
     requires few { length told.items ≤ count }
-    ensures told { IfOk result (λ all. told_in all.items ≡ padded_by count (map (λ line. line.now) lines.now) (told_in told.items)) }
+    ensures told { IfOk result
+        (λ all. told_in all.items
+        ≡ padded_by count (map (λ line. line.now) lines.now) (told_in told.items)) }
     ensures few { IfOk result (λ all. length all.items ≤ length lines.now) }
 {
     if told.len() != count {

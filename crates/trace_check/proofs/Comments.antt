@@ -28,9 +28,15 @@ begins (first ∷ rest) h =
     let is : first ≡ 35 = cc in rw is refl
 
 -- the tests of an expectation, one after another
-tested : (line : List ℕ) (long short stray mark : Bool) → is_some (if long then None else (if short then None else (if stray then None else (if not mark then None else Some (drop 3 line))))) ≡ true
+tested : (line : List ℕ) (long short stray mark : Bool)
+    → is_some
+    (if long then None
+    else (if short then None else (if stray then None else (if not mark then None else Some (drop 3 line)))))
+    ≡ true
     → (long ≡ false) × (stray ≡ false) × (mark ≡ true)
-    × ((if long then None else (if short then None else (if stray then None else (if not mark then None else Some (drop 3 line))))) ≡ Some (drop 3 line))
+    × ((if long then None
+    else (if short then None else (if stray then None else (if not mark then None else Some (drop 3 line)))))
+    ≡ Some (drop 3 line))
 tested line true short stray mark h = off h
 tested line false true stray mark h = off h
 tested line false false true mark h = off h
@@ -40,7 +46,9 @@ tested line false false false true h = (refl, refl, refl, refl)
 pub as_comment : (line : List ℕ) → is_some (expectation line) ≡ true → IsComment line
 unfolding expectation
 as_comment line h =
-    let t = tested line (nat_lt 256 (length line)) (nat_lt (length line) 3) (has_stray_byte line) (bytes_eq (take 3 line) (codes "#= ")) h in
+    let t =
+    tested line (nat_lt 256 (length line)) (nat_lt (length line) 3) (has_stray_byte line)
+    (bytes_eq (take 3 line) (codes "#= ")) h in
     record { value = t.3; short = t.0; plain = t.1; silent = begins line t.2 }
 
 -- it says nothing wherever it is
@@ -57,20 +65,33 @@ abbrev pub AllComments : List (List ℕ) → Type 0
 AllComments [] = Unit {0}
 AllComments (line ∷ lines) = IsComment line × AllComments lines
 
-pub all_comments : (texts : List (List ℕ)) → list_all (λ line. is_some (expectation line)) (map comment texts) ≡ true → AllComments (map comment texts)
+pub all_comments : (texts : List (List ℕ))
+    → list_all (λ line. is_some (expectation line)) (map comment texts) ≡ true
+    → AllComments (map comment texts)
 all_comments [] h = tt
-all_comments (text ∷ texts) h = let t = all_tail (is_some (expectation (comment text))) (list_all (λ line. is_some (expectation line)) (map comment texts)) h in (as_comment (comment text) t.0, all_comments texts t.1)
+all_comments (text ∷ texts) h = let t =
+    all_tail (is_some (expectation (comment text)))
+    (list_all (λ line. is_some (expectation line)) (map comment texts)) h in
+    (as_comment (comment text) t.0, all_comments texts t.1)
 
 -- the front of lines, by whether the first is an expectation
 pub expected_none : (line : List ℕ) (rest : List (List ℕ)) → expectation line ≡ None → expected_first (line ∷ rest) ≡ []
-expected_none line rest e = ap (λ o. elim o as (λ _. List (List ℕ)) [ None ↦ [] | Some text ↦ text ∷ expected_first rest ]) e
+expected_none line rest e =
+    ap (λ o. elim o as (λ _. List (List ℕ)) [ None ↦ [] | Some text ↦ text ∷ expected_first rest ]) e
 
-expected_some : (line : List ℕ) (rest : List (List ℕ)) (text : List ℕ) → expectation line ≡ Some text → expected_first (line ∷ rest) ≡ text ∷ expected_first rest
-expected_some line rest text e = ap (λ o. elim o as (λ _. List (List ℕ)) [ None ↦ [] | Some text ↦ text ∷ expected_first rest ]) e
+expected_some : (line : List ℕ) (rest : List (List ℕ)) (text : List ℕ)
+    → expectation line ≡ Some text
+    → expected_first (line ∷ rest) ≡ text ∷ expected_first rest
+expected_some line rest text e =
+    ap (λ o. elim o as (λ _. List (List ℕ)) [ None ↦ [] | Some text ↦ text ∷ expected_first rest ]) e
 
-pub first_expected : (texts lines : List (List ℕ)) → AllComments (map comment texts) → expected_first (map comment texts ++ lines) ≡ texts ++ expected_first lines
+pub first_expected : (texts lines : List (List ℕ))
+    → AllComments (map comment texts)
+    → expected_first (map comment texts ++ lines) ≡ texts ++ expected_first lines
 first_expected [] lines c = refl
-first_expected (text ∷ texts) lines c = expected_some (comment text) (map comment texts ++ lines) text c.0.value ∙ ap (λ ts. text ∷ ts) (first_expected texts lines c.1)
+first_expected (text ∷ texts) lines c =
+    expected_some (comment text) (map comment texts ++ lines) text c.0.value
+    ∙ ap (λ ts. text ∷ ts) (first_expected texts lines c.1)
 
 pub some_value : (line : List ℕ) → IsComment line → is_some (expectation line) ≡ true
 some_value line c = rw c.value refl

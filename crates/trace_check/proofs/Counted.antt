@@ -30,13 +30,15 @@ some_told n h = grind (arith, nat_tests)
 told_some : (n : ℕ) → 0 < n → not (n == 0) ≡ true
 told_some n h = grind (arith, nat_tests)
 
-clean_by : (told : List (List ReportLine)) (expected wrong : ℕ) → ((has_begun told && not (expected == 0) && wrong == 0) ≡ true) ↔ IsClean told expected wrong
+clean_by : (told : List (List ReportLine)) (expected wrong : ℕ)
+    → ((has_begun told && not (expected == 0) && wrong == 0) ≡ true) ↔ IsClean told expected wrong
 clean_by told expected wrong = (
   λ h.
       let parts = both (has_begun told && not (expected == 0)) (wrong == 0) h in
       let front = both (has_begun told) (not (expected == 0)) parts.0 in
       record { begun = front.0; some = some_told expected front.1; none = zero_told wrong parts.1 },
-  λ c. joined (has_begun told && not (expected == 0)) (wrong == 0) (joined (has_begun told) (not (expected == 0)) c.begun (told_some expected c.some)) (told_zero wrong c.none),
+  λ c. joined (has_begun told && not (expected == 0)) (wrong == 0)
+      (joined (has_begun told) (not (expected == 0)) c.begun (told_some expected c.some)) (told_zero wrong c.none),
 )
 
 pub check_counts : CheckCounts
@@ -44,16 +46,22 @@ check_counts name trace checked h =
     let lines = lines_of trace in
     let missed = misses lines h.told in
     let wrong = count_wrong lines h.told in
-    let front = miss_lines name missed ++ mistaken_lines name 1 lines ++ spot_said name lines h.told (length missed) ++ boot_said name (has_begun h.told) ++ none_said name (count_expected lines) in
+    let front =
+    miss_lines name missed ++ mistaken_lines name 1 lines ++ spot_said name lines h.told (length missed)
+    ++ boot_said name (has_begun h.told) ++ none_said name (count_expected lines) in
     let clean = clean_by h.told (count_expected lines) wrong in
     let numbers : (n : ℕ) → n ≡ count_expected lines → (m : ℕ) → m ≡ wrong → (checked.clean ≡ true) ↔ IsClean h.told n m =
-    λ n en m em. subst (λ x. (checked.clean ≡ true) ↔ IsClean h.told n x) (sym em) (subst (λ x. (checked.clean ≡ true) ↔ IsClean h.told x wrong) (sym en) (subst (λ b. (b ≡ true) ↔ IsClean h.told (count_expected lines) wrong) (sym h.checks.clean) clean)) in
+    λ n en m em. subst (λ x. (checked.clean ≡ true) ↔ IsClean h.told n x) (sym em)
+    (subst (λ x. (checked.clean ≡ true) ↔ IsClean h.told x wrong) (sym en)
+    (subst (λ b. (b ≡ true) ↔ IsClean h.told (count_expected lines) wrong) (sym h.checks.clean) clean)) in
     record {
       told = h.told;
       runs = h.runs;
       expected = h.checks.expected;
       wrong = h.checks.wrong;
       front = front;
-      last = h.checks.text ∙ ap (λ n. front ++ sum_said name n wrong) (sym h.checks.expected) ∙ ap (λ n. front ++ sum_said name checked.expected n) (sym h.checks.wrong);
+      last =
+          h.checks.text ∙ ap (λ n. front ++ sum_said name n wrong) (sym h.checks.expected)
+          ∙ ap (λ n. front ++ sum_said name checked.expected n) (sym h.checks.wrong);
       clean = numbers checked.expected h.checks.expected checked.wrong h.checks.wrong;
     }

@@ -16,10 +16,14 @@ less_one x y xs = omega arith
 
 -- what is said of the last of a list, and of the last but for its first
 lacks_step : (x y : ℕ) (xs : List ℕ) → lacks_end (x ∷ y ∷ xs) ≡ lacks_end (y ∷ xs)
-lacks_step x y xs = ap (λ n. elim (slice_get (x ∷ y ∷ xs) n) as (λ _. Bool) [ None ↦ false | Some byte ↦ not (byte == 10) ]) (less_one x y xs)
+lacks_step x y xs =
+    ap (λ n. elim (slice_get (x ∷ y ∷ xs) n) as (λ _. Bool) [ None ↦ false | Some byte ↦ not (byte == 10) ])
+    (less_one x y xs)
 
 empty_step : (x y : List ℕ) (xs : List (List ℕ)) → ends_empty (x ∷ y ∷ xs) ≡ ends_empty (y ∷ xs)
-empty_step x y xs = ap (λ n. elim (slice_get (x ∷ y ∷ xs) n) as (λ _. Bool) [ None ↦ true | Some line ↦ length line == 0 ]) (less_one x y xs)
+empty_step x y xs =
+    ap (λ n. elim (slice_get (x ∷ y ∷ xs) n) as (λ _. Bool) [ None ↦ true | Some line ↦ length line == 0 ])
+    (less_one x y xs)
 
 -- the bytes of a line and of those after it
 line_bytes : (line : List ℕ) (rest : List (List ℕ)) → bytes_of (line ∷ rest) ≡ line ++ 10 ∷ bytes_of rest
@@ -29,7 +33,9 @@ line_bytes line rest = append_assoc line (10 ∷ []) (bytes_of rest)
 pub bytes_back : (lines : List (List ℕ)) → HaveNoEnds lines → lines_of (bytes_of lines) ≡ lines
 unfolding lines_of
 bytes_back [] h = refl
-bytes_back (line ∷ rest) h = ap lines_of (line_bytes line rest) ∙ line_first line (bytes_of rest) h.0 ∙ ap (λ more. line ∷ more) (bytes_back rest h.1)
+bytes_back (line ∷ rest) h =
+    ap lines_of (line_bytes line rest) ∙ line_first line (bytes_of rest) h.0
+    ∙ ap (λ more. line ∷ more) (bytes_back rest h.1)
 
 -- bytes without the last of them
 abbrev front : List ℕ → List ℕ
@@ -47,22 +53,29 @@ front_more (x ∷ y ∷ xs) byte more = front_step x y (xs ++ byte ∷ more) ∙
 front_one : (line : List ℕ) → front (bytes_of (line ∷ [])) ≡ line
 front_one line = ap front (line_bytes line []) ∙ front_more line 10 [] ∙ append-nil line
 
-some_bytes : (next : List ℕ) (rest : List (List ℕ)) → (byte : ℕ) × (more : List ℕ) × (bytes_of (next ∷ rest) ≡ byte ∷ more)
+some_bytes : (next : List ℕ) (rest : List (List ℕ))
+    → (byte : ℕ) × (more : List ℕ) × (bytes_of (next ∷ rest) ≡ byte ∷ more)
 some_bytes [] rest = (10, bytes_of rest, refl)
 some_bytes (byte ∷ next) rest = (byte, (next ++ 10 ∷ []) ++ bytes_of rest, refl)
 
-front_next : (line next : List ℕ) (rest : List (List ℕ)) → front (bytes_of (line ∷ next ∷ rest)) ≡ line ++ 10 ∷ front (bytes_of (next ∷ rest))
+front_next : (line next : List ℕ) (rest : List (List ℕ))
+    → front (bytes_of (line ∷ next ∷ rest)) ≡ line ++ 10 ∷ front (bytes_of (next ∷ rest))
 front_next line next rest =
     let some = some_bytes next rest in
     ap front (line_bytes line (next ∷ rest)) ∙ front_more line 10 (bytes_of (next ∷ rest))
-    ∙ ap (λ l. line ++ l) (ap (λ b. front (10 ∷ b)) some.2 ∙ front_step 10 some.0 some.1 ∙ ap (λ b. 10 ∷ front b) (sym some.2))
+    ∙ ap (λ l. line ++ l)
+    (ap (λ b. front (10 ∷ b)) some.2 ∙ front_step 10 some.0 some.1 ∙ ap (λ b. 10 ∷ front b) (sym some.2))
 
 -- lines whose last lacks its end are read back, where it has a byte
-pub front_back : (lines : List (List ℕ)) → HaveNoEnds lines → ends_empty lines ≡ false → lines_of (front (bytes_of lines)) ≡ lines
+pub front_back : (lines : List (List ℕ))
+    → HaveNoEnds lines
+    → ends_empty lines ≡ false
+    → lines_of (front (bytes_of lines)) ≡ lines
 front_back [] h e = off e
 front_back (line ∷ []) h e = ap lines_of (front_one line) ∙ line_last line h.0 (grind (arith, nat_tests))
 front_back (line ∷ next ∷ rest) h e =
-    ap lines_of (front_next line next rest) ∙ line_first line (front (bytes_of (next ∷ rest))) h.0 ∙ ap (λ more. line ∷ more) (front_back (next ∷ rest) h.1 (sym (empty_step line next rest) ∙ e))
+    ap lines_of (front_next line next rest) ∙ line_first line (front (bytes_of (next ∷ rest))) h.0
+    ∙ ap (λ more. line ∷ more) (front_back (next ∷ rest) h.1 (sym (empty_step line next rest) ∙ e))
 
 -- the last byte of bytes that end in these
 last_more : (xs : List ℕ) (byte : ℕ) (more : List ℕ) → lacks_end (xs ++ byte ∷ more) ≡ lacks_end (byte ∷ more)
@@ -82,15 +95,20 @@ ended_back (line ∷ []) = ap lacks_end (line_bytes line []) ∙ last_more line 
 ended_back (line ∷ next ∷ rest) =
     let some = some_bytes next rest in
     ap lacks_end (line_bytes line (next ∷ rest)) ∙ last_more line 10 (bytes_of (next ∷ rest))
-    ∙ ap (λ b. lacks_end (10 ∷ b)) some.2 ∙ lacks_step 10 some.0 some.1 ∙ ap lacks_end (sym some.2) ∙ ended_back (next ∷ rest)
+    ∙ ap (λ b. lacks_end (10 ∷ b)) some.2 ∙ lacks_step 10 some.0 some.1 ∙ ap lacks_end (sym some.2)
+    ∙ ended_back (next ∷ rest)
 
 still_lacks : (bytes : List ℕ) → lacks_end bytes ≡ true → lacks_end (10 ∷ bytes) ≡ true
 still_lacks [] h = cc
 still_lacks (x ∷ xs) h = lacks_step 10 x xs ∙ h
 
-pub lacking_back : (lines : List (List ℕ)) → HaveNoEnds lines → ends_empty lines ≡ false → lacks_end (front (bytes_of lines)) ≡ true
+pub lacking_back : (lines : List (List ℕ))
+    → HaveNoEnds lines
+    → ends_empty lines ≡ false
+    → lacks_end (front (bytes_of lines)) ≡ true
 lacking_back [] h e = off e
 lacking_back (line ∷ []) h e = ap lacks_end (front_one line) ∙ last_line line h.0 e
 lacking_back (line ∷ next ∷ rest) h e =
     ap lacks_end (front_next line next rest) ∙ last_more line 10 (front (bytes_of (next ∷ rest)))
-    ∙ still_lacks (front (bytes_of (next ∷ rest))) (lacking_back (next ∷ rest) h.1 (sym (empty_step line next rest) ∙ e))
+    ∙ still_lacks (front (bytes_of (next ∷ rest)))
+    (lacking_back (next ∷ rest) h.1 (sym (empty_step line next rest) ∙ e))

@@ -8,16 +8,41 @@ use Rattle.trace_text.specs.Session.{Standing, at_start}
 use Rattle.trace_check.specs.Laws.{IsReplayTold, ToldIsReplayed, reported_by}
 use Rattle.trace_check.specs.Runs.{Runs}
 
-replayed : (lines : List (List ℕ)) (number : ℕ) (old : Standing) (told : List (List ReportLine)) → Runs number old lines told → IsReplayTold number old lines told
+replayed : (lines : List (List ℕ)) (number : ℕ) (old : Standing) (told : List (List ReportLine))
+    → Runs number old lines told
+    → IsReplayTold number old lines told
 replayed [] number old told runs =
-    subst (IsReplayTold number old []) (sym runs) (record { last = end_line old ∷ []; few = omega arith; outcome = outcome_of old.disagreements; report = (refl, refl) })
+    subst (IsReplayTold number old []) (sym runs)
+    (record {
+      last = end_line old
+          ∷ [];
+      few = omega arith;
+      outcome = outcome_of old.disagreements;
+      report = (refl, refl);
+    })
 replayed (line ∷ rest) number old told (Err (stops.Fault fault), new, at, tells) =
-    subst (IsReplayTold number old (line ∷ rest)) (sym tells) (record { last = []; few = omega arith; outcome = outcomes.Fault; report = (Err (stops.Fault fault), new, at, (refl, refl)) })
+    subst (IsReplayTold number old (line ∷ rest)) (sym tells)
+    (record {
+      last = [];
+      few = omega arith;
+      outcome = outcomes.Fault;
+      report = (Err (stops.Fault fault), new, at, (refl, refl));
+    })
 replayed (line ∷ rest) number old told (Err stops.NoMemory, new, at, tells) = absurd tells
 replayed (line ∷ rest) number old told (Ok reported, new, at, (more, is, runs)) =
     let r = replayed rest (number + 1) new more runs in
     subst (IsReplayTold number old (line ∷ rest)) (sym is)
-    (record { last = r.last; few = r.few; outcome = r.outcome; report = (Ok reported, new, at, (reported_by more ++ r.last, append_assoc reported (reported_by more) r.last, r.report)) })
+    (record {
+      last = r.last;
+      few = r.few;
+      outcome = r.outcome;
+      report = (
+        Ok reported,
+        new,
+        at,
+        (reported_by more ++ r.last, append_assoc reported (reported_by more) r.last, r.report),
+      );
+    })
 
 pub told_replayed : ToldIsReplayed
 told_replayed lines told runs = replayed lines 1 at_start told runs

@@ -53,7 +53,10 @@ noted_by lines false e = tt
 noted_plain : (reported : List ReportLine) → HaveNoEnds (noted reported)
 noted_plain reported = noted_by (notes reported) (can_expect (notes reported)) refl
 
-at_plain : (line : List ℕ) (noted : List (List ℕ)) (b : Bool) → HasNoEnd line → HaveNoEnds noted → HaveNoEnds (if b then [] else line ∷ noted)
+at_plain : (line : List ℕ) (noted : List (List ℕ)) (b : Bool)
+    → HasNoEnd line
+    → HaveNoEnds noted
+    → HaveNoEnds (if b then [] else line ∷ noted)
 at_plain line noted true h k = tt
 at_plain line noted false h k = (h, k)
 
@@ -66,13 +69,16 @@ own_plain (line ∷ rest) h = by_own (is_some (expectation line)) (own_plain res
     by_own false k = h
 
 -- so has no line of a record
-recorded_plain : (lines : List (List ℕ)) (told : List (List ReportLine)) → HaveNoEnds lines → HaveNoEnds (recorded lines told)
+recorded_plain : (lines : List (List ℕ)) (told : List (List ReportLine))
+    → HaveNoEnds lines
+    → HaveNoEnds (recorded lines told)
 recorded_plain [] [] h = tt
 recorded_plain (line ∷ rest) [] h = own_plain (line ∷ rest) h
 recorded_plain [] (reported ∷ more) h = tt
 recorded_plain (line ∷ rest) (reported ∷ more) h =
     both_plain (recorded_at line reported) (recorded rest more)
-    (at_plain line (noted reported) (is_some (expectation line)) h.0 (noted_plain reported)) (recorded_plain rest more h.1)
+    (at_plain line (noted reported) (is_some (expectation line)) h.0 (noted_plain reported))
+    (recorded_plain rest more h.1)
 
 -- lines are read back from their bytes, and whether the last lacks its end too
 module _ (lines : List (List ℕ)) (plain : HaveNoEnds lines) where
@@ -82,7 +88,9 @@ module _ (lines : List (List ℕ)) (plain : HaveNoEnds lines) where
   read_back true false true e = bytes_back lines plain
   read_back true false false e = front_back lines plain e
 
-  lacks_back : (a b c : Bool) → ends_empty lines ≡ c → (lacks_end (joined (a && (not b && not c)) lines) && (not b && not c)) ≡ (a && (not b && not c))
+  lacks_back : (a b c : Bool)
+      → ends_empty lines ≡ c
+      → (lacks_end (joined (a && (not b && not c)) lines) && (not b && not c)) ≡ (a && (not b && not c))
   lacks_back false b c e = rw (ended_back lines) refl
   lacks_back true true c e = no_more (lacks_end (bytes_of lines))
     where
@@ -97,12 +105,17 @@ record_met trace text r few few' =
     let lines = recorded (lines_of trace) r.told in
     let plain = recorded_plain (lines_of trace) r.told (lines_plain trace) in
     let lacking = is_lacking trace lines in
-    let back : lines_of text ≡ lines = ap lines_of r.text_is ∙ read_back lines plain (lacks_end trace) (ends_expected lines) (ends_empty lines) refl in
-    let same : is_lacking text lines ≡ lacking = ap (λ t. is_lacking t lines) r.text_is ∙ lacks_back lines plain (lacks_end trace) (ends_expected lines) (ends_empty lines) refl in
+    let back : lines_of text ≡ lines =
+    ap lines_of r.text_is ∙ read_back lines plain (lacks_end trace) (ends_expected lines) (ends_empty lines) refl in
+    let same : is_lacking text lines ≡ lacking =
+    ap (λ t. is_lacking t lines) r.text_is
+    ∙ lacks_back lines plain (lacks_end trace) (ends_expected lines) (ends_empty lines) refl in
     let m = recorded_met (lines_of trace) r.told r.runs few (subst (λ l. length l ≤ 1048576) back few') in
     record {
       told = m.told;
       runs = subst (λ l. Runs 1 at_start l m.told) (sym back) m.runs;
       met = subst (λ l. misses l m.told ≡ rest_missed l m.told) (sym back) m.met;
-      again = r.text_is ∙ ap (λ b. joined b lines) (sym same) ∙ sym (ap (λ l. joined (is_lacking text l) l) (ap (λ l. recorded l m.told) back ∙ m.again));
+      again =
+          r.text_is ∙ ap (λ b. joined b lines) (sym same)
+          ∙ sym (ap (λ l. joined (is_lacking text l) l) (ap (λ l. recorded l m.told) back ∙ m.again));
     }

@@ -33,7 +33,8 @@ first_line name number said = name ++ codes ":" ++ decimal number ++ codes ":1: 
 
 -- the mistake of a comment that is like an expectation but isn't one
 unfoldable pub mistaken_said : List ℕ → List ℕ
-mistaken_said line = codes "no expectation: found `" ++ line ++ codes "`, wanted `#= ` and what is expected"
+mistaken_said line =
+    codes "no expectation: found `" ++ line ++ codes "`, wanted `#= ` and what is expected"
 
 -- the line for it
 abbrev pub mistaken_line : List ℕ → ℕ → List ℕ → List ℕ
@@ -42,7 +43,9 @@ mistaken_line name number line = first_line name number (mistaken_said line)
 -- all of those of the lines from a number on
 abbrev pub mistaken_lines : List ℕ → ℕ → List (List ℕ) → List ℕ
 mistaken_lines name number [] = []
-mistaken_lines name number (line ∷ rest) = (if is_mistaken line then mistaken_line name number line else []) ++ mistaken_lines name (number + 1) rest
+mistaken_lines name number (line ∷ rest) =
+    (if is_mistaken line then mistaken_line name number line else [])
+    ++ mistaken_lines name (number + 1) rest
 
 -- the fault that ended the run, where one did: its line reports it alone
 abbrev pub fault_in : List ReportLine → Option Fault
@@ -50,12 +53,15 @@ fault_in (report.Fault line fault ∷ []) = Some fault
 fault_in other = None
 
 abbrev pub last_fault : List (List ReportLine) → Option Fault
-last_fault told = elim (slice_get told (length told - 1)) [ Some reported ↦ fault_in reported | None ↦ None ]
+last_fault told =
+    elim (slice_get told (length told - 1)) [ Some reported ↦ fault_in reported | None ↦ None ]
 
 -- where the fault is that ended the run, where something is missed
 abbrev pub spot_said : List ℕ → List (List ℕ) → List (List ReportLine) → ℕ → List ℕ
 spot_said name lines told missed =
-    if missed == 0 then [] else elim (last_fault told) [ Some fault ↦ place_line name lines (length told - 1) fault | None ↦ [] ]
+    if missed == 0 then []
+    else elim (last_fault told)
+    [ Some fault ↦ place_line name lines (length told - 1) fault | None ↦ [] ]
 
 -- the report of a whole file
 abbrev pub boot_said : List ℕ → Bool → List ℕ
@@ -65,23 +71,30 @@ abbrev pub none_said : List ℕ → ℕ → List ℕ
 none_said name expected = if expected == 0 then file_line name (codes "nothing is expected") else []
 
 abbrev pub sum_said : List ℕ → ℕ → ℕ → List ℕ
-sum_said name expected wrong = file_line name (decimal expected ++ codes " expected, " ++ decimal wrong ++ codes " wrong")
+sum_said name expected wrong =
+    file_line name (decimal expected ++ codes " expected, " ++ decimal wrong ++ codes " wrong")
 
 -- all that is said of lines that report this and miss that
 abbrev pub said_of : List ℕ → List (List ℕ) → List (List ReportLine) → List Miss → ℕ → ℕ → List ℕ
 said_of name lines told missed expected wrong =
-    miss_lines name missed ++ mistaken_lines name 1 lines ++ spot_said name lines told (length missed) ++ boot_said name (has_begun told) ++ none_said name expected ++ sum_said name expected wrong
+    miss_lines name missed ++ mistaken_lines name 1 lines
+    ++ spot_said name lines told (length missed) ++ boot_said name (has_begun told)
+    ++ none_said name expected ++ sum_said name expected wrong
 
 -- how many misses and comments that are like an expectation a trace has
 abbrev pub count_wrong : List (List ℕ) → List (List ReportLine) → ℕ
 count_wrong lines told = length (misses lines told) + count_mistaken lines
 
 -- the answer to a trace whose lines report this, and of which that is missed
-pub record ChecksMissed (name : List ℕ) (lines : List (List ℕ)) (told : List (List ReportLine)) (missed : List Miss) (checked : Checked) : Type 0 where
-  pub text : checked.text.items ≡ said_of name lines told missed (count_expected lines) (length missed + count_mistaken lines)
+pub record ChecksMissed (name : List ℕ) (lines : List (List ℕ)) (told : List (List ReportLine))
+    (missed : List Miss) (checked : Checked) : Type 0 where
+  pub text : checked.text.items
+      ≡ said_of name lines told missed (count_expected lines) (length missed + count_mistaken lines)
   pub expected : checked.expected ≡ count_expected lines
   pub wrong : checked.wrong ≡ length missed + count_mistaken lines
-  pub clean : checked.clean ≡ (has_begun told && not (count_expected lines == 0) && length missed + count_mistaken lines == 0)
+  pub clean : checked.clean
+      ≡ (has_begun told && not (count_expected lines == 0)
+      && length missed + count_mistaken lines == 0)
 
 -- the answer to a trace whose lines report this
 abbrev pub Checks : List ℕ → List (List ℕ) → List (List ReportLine) → Checked → Type 0

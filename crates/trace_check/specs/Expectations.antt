@@ -19,7 +19,8 @@ comment text = codes "#= " ++ text
 -- what the expectations at the front of lines expect
 abbrev pub expected_first : List (List ℕ) → List (List ℕ)
 expected_first [] = []
-expected_first (line ∷ rest) = elim (expectation line) [ None ↦ [] | Some text ↦ text ∷ expected_first rest ]
+expected_first (line ∷ rest) =
+    elim (expectation line) [ None ↦ [] | Some text ↦ text ∷ expected_first rest ]
 
 -- how many lines are expectations
 abbrev pub count_expected : List (List ℕ) → ℕ

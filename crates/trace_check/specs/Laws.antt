@@ -19,7 +19,8 @@ abbrev pub shown_told : List (List ReportLine) → List (List ℕ)
 shown_told [] = []
 shown_told (reported ∷ more) = map shown reported ++ shown_told more
 
--- lines that are carried out and report these texts, of which nothing is missed but lines that aren't reached, and which are recorded as they are
+-- lines that are carried out and report these texts, of which nothing is missed but lines that
+-- aren't reached, and which are recorded as they are
 pub record IsMet (lines : List (List ℕ)) (texts : List (List ℕ)) : Type 0 where
   pub told : List (List ReportLine)
   pub runs : Runs 1 at_start lines told
@@ -29,10 +30,15 @@ pub record IsMet (lines : List (List ℕ)) (texts : List (List ℕ)) : Type 0 wh
 
 -- so are the recorded lines of a trace, where both have no more than 1,048,576 lines
 abbrev pub RecordedIsMet : Type 0
-RecordedIsMet = (lines : List (List ℕ)) (told : List (List ReportLine)) → Runs 1 at_start lines told → length lines ≤ 1048576 → length (recorded lines told) ≤ 1048576
+RecordedIsMet =
+    (lines : List (List ℕ)) (told : List (List ReportLine))
+    → Runs 1 at_start lines told
+    → length lines ≤ 1048576
+    → length (recorded lines told) ≤ 1048576
     → IsMet (recorded lines told) (shown_told told)
 
--- a trace is met: its lines are carried out, of its expectations none is missed but those of lines that aren't reached, and it is recorded as it is
+-- a trace is met: its lines are carried out, of its expectations none is missed but those of lines
+-- that aren't reached, and it is recorded as it is
 pub record IsTraceMet (trace : List ℕ) : Type 0 where
   pub told : List (List ReportLine)
   pub runs : Runs 1 at_start (lines_of trace) told
@@ -41,7 +47,12 @@ pub record IsTraceMet (trace : List ℕ) : Type 0 where
 
 -- so is each record of a trace, where both have no more than 1,048,576 lines
 abbrev pub RecordIsMet : Type 0
-RecordIsMet = (trace text : List ℕ) → IsRecord trace text → length (lines_of trace) ≤ 1048576 → length (lines_of text) ≤ 1048576 → IsTraceMet text
+RecordIsMet =
+    (trace text : List ℕ)
+    → IsRecord trace text
+    → length (lines_of trace) ≤ 1048576
+    → length (lines_of text) ≤ 1048576
+    → IsTraceMet text
 
 -- the lines of a report that lines of a trace make, one after another
 abbrev pub reported_by : List (List ReportLine) → List ReportLine
@@ -49,7 +60,8 @@ reported_by [] = []
 reported_by (reported ∷ more) = reported ++ reported_by more
 
 -- the text is the report of a replay of these lines from a number on, but for at most one last line
-pub record IsReplayTold (number : ℕ) (old : Standing) (lines : List (List ℕ)) (told : List (List ReportLine)) : Type 0 where
+pub record IsReplayTold (number : ℕ) (old : Standing) (lines : List (List ℕ))
+    (told : List (List ReportLine)) : Type 0 where
   pub last : List ReportLine
   pub few : length last ≤ 1
   pub outcome : Outcome
@@ -57,15 +69,21 @@ pub record IsReplayTold (number : ℕ) (old : Standing) (lines : List (List ℕ)
 
 -- so is the whole report of a trace
 abbrev pub ToldIsReplayed : Type 0
-ToldIsReplayed = (lines : List (List ℕ)) (told : List (List ReportLine)) → Runs 1 at_start lines told → IsReplayTold 1 at_start lines told
+ToldIsReplayed =
+    (lines : List (List ℕ)) (told : List (List ReportLine))
+    → Runs 1 at_start lines told
+    → IsReplayTold 1 at_start lines told
 
--- a trace is clean: its machine booted, or a fault says why not, something is expected, and nothing is wrong
+-- a trace is clean: its machine booted, or a fault says why not, something is expected, and nothing
+-- is wrong
 pub record IsClean (told : List (List ReportLine)) (expected wrong : ℕ) : Type 0 where
   pub begun : has_begun told ≡ true
   pub some : 0 < expected
   pub none : wrong ≡ 0
 
--- a check counts the expectations of a trace, and what a run of its lines misses of them with the comments that are like one; its last line has these numbers, and they say whether the trace is clean
+-- a check counts the expectations of a trace, and what a run of its lines misses of them with the
+-- comments that are like one; its last line has these numbers, and they say whether the trace is
+-- clean
 pub record CountsMisses (name trace : List ℕ) (checked : Checked) : Type 0 where
   pub told : List (List ReportLine)
   pub runs : Runs 1 at_start (lines_of trace) told
@@ -77,4 +95,7 @@ pub record CountsMisses (name trace : List ℕ) (checked : Checked) : Type 0 whe
 
 -- so does each
 abbrev pub CheckCounts : Type 0
-CheckCounts = (name trace : List ℕ) (checked : Checked) → IsChecked name trace checked → CountsMisses name trace checked
+CheckCounts =
+    (name trace : List ℕ) (checked : Checked)
+    → IsChecked name trace checked
+    → CountsMisses name trace checked

@@ -32,7 +32,8 @@ unmet_at number why (Some got) text = other_at number got text
 -- expectations from the line of a number on, of texts that were reported
 abbrev pub unmet : ℕ → List ℕ → List (List ℕ) → List (List ℕ) → List Miss
 unmet number why got [] = []
-unmet number why got (text ∷ texts) = unmet_at number why (slice_get got 0) text ++ unmet (number + 1) why (drop 1 got) texts
+unmet number why got (text ∷ texts) =
+    unmet_at number why (slice_get got 0) text ++ unmet (number + 1) why (drop 1 got) texts
 
 -- texts that were reported past the last that was expected
 abbrev pub extra : ℕ → List (List ℕ) → List Miss
@@ -41,7 +42,8 @@ extra number (got ∷ more) = (number, extra_words got) ∷ extra number more
 
 -- a fault or a disagreement of a line that expects nothing
 abbrev pub unexpected_at : ℕ → ReportLine → List Miss
-unexpected_at number told = if is_plain told then [] else (number, codes "unexpected " ++ shown told) ∷ []
+unexpected_at number told =
+    if is_plain told then [] else (number, codes "unexpected " ++ shown told) ∷ []
 
 -- all of them
 abbrev pub unexpected : ℕ → List ReportLine → List Miss
@@ -55,40 +57,49 @@ is_nothing line (told ∷ more) = false
 
 -- what was reported by the line of a number, against the expectations after it
 abbrev pub against : ℕ → List (List ℕ) → List (List ℕ) → List Miss
-against number got texts = unmet (number + 1) (codes "got no more") got texts ++ extra number (drop (length texts) got)
+against number got texts =
+    unmet (number + 1) (codes "got no more") got texts ++ extra number (drop (length texts) got)
 
 -- the line of a number, which reports this, by the expectations after it
 abbrev pub missed_by : ℕ → List ℕ → List ReportLine → List (List ℕ) → List Miss
 missed_by number line reported texts =
     if length texts == 0 then unexpected number reported
-    else (if is_nothing line reported then unmet (number + 1) (codes "there is no line to check") [] texts
+    else (if is_nothing line reported
+    then unmet (number + 1) (codes "there is no line to check") [] texts
     else against number (shown_all reported) texts)
 
 -- the same, of a line that may be an expectation itself
 abbrev pub missed_at : ℕ → List ℕ → List ReportLine → List (List ℕ) → List Miss
 missed_at number line reported rest =
-    if is_some (expectation line) then unexpected number reported else missed_by number line reported (expected_first rest)
+    if is_some (expectation line) then unexpected number reported
+    else missed_by number line reported (expected_first rest)
 
 -- lines, from a number on, of which these report this each
 abbrev pub missed : ℕ → List (List ℕ) → List (List ReportLine) → List Miss
 missed number lines [] = []
 missed number [] (reported ∷ more) = []
-missed number (line ∷ rest) (reported ∷ more) = missed_at number line reported rest ++ missed (number + 1) rest more
+missed number (line ∷ rest) (reported ∷ more) =
+    missed_at number line reported rest ++ missed (number + 1) rest more
 
 -- a line that wasn't reached
 abbrev pub left_at : ℕ → List ℕ → List Miss
 left_at number line =
-    elim (expectation line) [ Some text ↦ (number, unmet_words text (codes "not reached")) ∷ [] | None ↦ if is_silent line then [] else (number, codes "not reached") ∷ [] ]
+    elim (expectation line) [
+      | Some text ↦ (number, unmet_words text (codes "not reached")) ∷ []
+      | None ↦ if is_silent line then [] else (number, codes "not reached") ∷ []
+    ]
 
 -- lines from a number on that weren't reached
 abbrev pub left : ℕ → List (List ℕ) → List Miss
 left number [] = []
 left number (line ∷ rest) = left_at number line ++ left (number + 1) rest
 
--- the lines, from a number on, after the one that ended the run: the expectations at their front are that line's own
+-- the lines, from a number on, after the one that ended the run: the expectations at their front
+-- are that line's own
 abbrev pub unreached : ℕ → List (List ℕ) → List Miss
 unreached number [] = []
-unreached number (line ∷ rest) = if is_some (expectation line) then unreached (number + 1) rest else left number (line ∷ rest)
+unreached number (line ∷ rest) =
+    if is_some (expectation line) then unreached (number + 1) rest else left number (line ∷ rest)
 
 -- expectations before the first line
 abbrev pub early : List (List ℕ) → List Miss

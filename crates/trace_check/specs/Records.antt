@@ -29,7 +29,8 @@ abbrev pub without_own : List (List ℕ) → List (List ℕ)
 without_own [] = []
 without_own (line ∷ rest) = if is_some (expectation line) then without_own rest else line ∷ rest
 
--- lines of which the first report this each. After the one that ended the run only its own expectations are left out
+-- lines of which the first report this each. After the one that ended the run only its own
+-- expectations are left out
 abbrev pub recorded : List (List ℕ) → List (List ReportLine) → List (List ℕ)
 recorded lines [] = without_own lines
 recorded [] (reported ∷ more) = []
@@ -42,27 +43,34 @@ bytes_of (line ∷ rest) = (line ++ 10 ∷ []) ++ bytes_of rest
 
 -- and where the last lacks it
 abbrev pub joined : Bool → List (List ℕ) → List ℕ
-joined lacking lines = if lacking then take (length (bytes_of lines) - 1) (bytes_of lines) else bytes_of lines
+joined lacking lines =
+    if lacking then take (length (bytes_of lines) - 1) (bytes_of lines) else bytes_of lines
 
 -- bytes whose last line lacks its end
 abbrev pub lacks_end : List ℕ → Bool
-lacks_end bytes = elim (slice_get bytes (length bytes - 1)) [ None ↦ false | Some byte ↦ not (byte == 10) ]
+lacks_end bytes =
+    elim (slice_get bytes (length bytes - 1)) [ None ↦ false | Some byte ↦ not (byte == 10) ]
 
 -- lines of which the last is an expectation
 abbrev pub ends_expected : List (List ℕ) → Bool
-ends_expected lines = elim (slice_get lines (length lines - 1)) [ None ↦ false | Some line ↦ is_some (expectation line) ]
+ends_expected lines =
+    elim (slice_get lines (length lines - 1))
+    [ None ↦ false | Some line ↦ is_some (expectation line) ]
 
 -- lines of which the last has no byte, or none at all
 abbrev pub ends_empty : List (List ℕ) → Bool
-ends_empty lines = elim (slice_get lines (length lines - 1)) [ None ↦ true | Some line ↦ length line == 0 ]
+ends_empty lines =
+    elim (slice_get lines (length lines - 1)) [ None ↦ true | Some line ↦ length line == 0 ]
 
--- whether the last of the lines that a trace is recorded as lacks its end: where the trace's does, and neither an expectation nor an empty line is last
+-- whether the last of the lines that a trace is recorded as lacks its end: where the trace's does,
+-- and neither an expectation nor an empty line is last
 abbrev pub is_lacking : List ℕ → List (List ℕ) → Bool
 is_lacking trace lines = lacks_end trace && (not (ends_expected lines) && not (ends_empty lines))
 
 -- the trace of these bytes, of whose lines these report this
 abbrev pub recorded_text : List ℕ → List (List ReportLine) → List ℕ
-recorded_text trace told = let lines = recorded (lines_of trace) told in joined (is_lacking trace lines) lines
+recorded_text trace told = let lines = recorded (lines_of trace) told in
+    joined (is_lacking trace lines) lines
 
 -- a text is the record of the bytes of a trace: there is a run of its lines
 pub record IsRecord (trace text : List ℕ) : Type 0 where

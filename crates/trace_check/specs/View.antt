@@ -22,5 +22,6 @@ abbrev pub lines_in : List (Vec ℕ Global) → List (List ℕ)
 lines_in lines = map (λ line. line.items) lines
 
 -- lines are added to those of a list
-abbrev pub AddsLines : Vec (Vec ℕ Global) Global → Vec (Vec ℕ Global) Global → List (List ℕ) → Type 0
+abbrev pub AddsLines : Vec (Vec ℕ Global) Global → Vec (Vec ℕ Global) Global → List (List ℕ)
+    → Type 0
 AddsLines old new lines = lines_in new.items ≡ lines_in old.items ++ lines

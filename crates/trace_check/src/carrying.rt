@@ -41,7 +41,9 @@ pub fn carry_out<A: Allocator + Copy>(
     lines: &[&[u8]],
     watch: Watch,
 ) -> Result<Carried, AllocError>
-    ensures told { IfOk result (λ carried. RunsBy 1 at_start (map (λ line. line.now) lines.now) (told_in carried.told.items)) }
+    ensures told { IfOk result
+        (λ carried. RunsBy 1 at_start (map (λ line. line.now) lines.now)
+        (told_in carried.told.items)) }
     ensures found { IfOk result (λ carried. carried.found ≡ None) }
 {
     let mut session = Session::new(global, alloc);
@@ -59,7 +61,9 @@ fn carry_to_end<A: Allocator + Copy>(
 ) -> Result<Carried, AllocError>
     requires start { standing_of session.old ≡ at_start }
     requires ready { IsReady session.old }
-    ensures told { IfOk result (λ carried. RunsBy 1 at_start (map (λ line. line.now) lines.now) (told_in carried.told.items)) }
+    ensures told { IfOk result
+        (λ carried. RunsBy 1 at_start (map (λ line. line.now) lines.now)
+        (told_in carried.told.items)) }
     ensures found { IfOk result (λ carried. carried.found ≡ None) }
 {
     let told = told_of_lines(global, session, lines, watch)?;
@@ -89,7 +93,8 @@ fn told_of_lines<A: Allocator + Copy>(
 ) -> Result<Vec<Vec<ReportLine>>, AllocError>
     requires start { standing_of session.old ≡ at_start }
     requires ready { IsReady session.old }
-    ensures { IfOk result (λ told. RunsBy 1 at_start (map (λ line. line.now) lines.now) (told_in told.items)) }
+    ensures { IfOk result
+        (λ told. RunsBy 1 at_start (map (λ line. line.now) lines.now) (told_in told.items)) }
 {
     let mut told = Vec::new(global);
     for (place, line) in lines.iter().enumerate() {
@@ -119,7 +124,8 @@ fn run_line<A: Allocator + Copy>(
 ) -> Result<Reported, Stop>
     requires few { (standing_of session.old).steps < 2 ^ 62 }
     requires ready { IsReady session.old }
-    ensures done { RunsLine agreed number line.now (standing_of session.old) (answer_of session.new result) (standing_of session.new) }
+    ensures done { RunsLine agreed number line.now (standing_of session.old) (answer_of session.new result)
+        (standing_of session.new) }
     ensures steps { (standing_of session.new).steps ≤ (standing_of session.old).steps + 1 }
     ensures looks { watch ≡ EachStep → Looks session.old session.new }
     ensures ready { IsReady session.new }

@@ -88,7 +88,9 @@ pub fn check_missed(
     missed: &[Miss],
 ) -> Result<Checked, AllocError>
     requires { length told.now ≤ length lines.now }
-    ensures { IfOk result (ChecksMissed name.now (map (λ line. line.now) lines.now) (told_in told.now) (misses_in missed.now)) }
+    ensures { IfOk result
+        (ChecksMissed name.now (map (λ line. line.now) lines.now) (told_in told.now)
+        (misses_in missed.now)) }
 {
     let expected = count_expected(lines);
     let wrong = missed.len() + count_mistaken(lines);
@@ -112,7 +114,10 @@ fn written(
     wrong: usize,
 ) -> Result<Vec<u8>, AllocError>
     requires { length told.now ≤ length lines.now }
-    ensures { IfOk result (λ text. text.items ≡ said_of name.now (map (λ line. line.now) lines.now) (told_in told.now) (misses_in missed.now) expected wrong) }
+    ensures { IfOk result
+        (λ text. text.items
+        ≡ said_of name.now (map (λ line. line.now) lines.now) (told_in told.now)
+        (misses_in missed.now) expected wrong) }
 {
     let mut text = Vec::new(global);
     add_misses(&mut text, global, name, missed)?;

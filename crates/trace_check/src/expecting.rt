@@ -10,7 +10,9 @@ pub(crate) fn expected_first<'a>(
     global: Global,
     lines: &[&'a [u8]],
 ) -> Result<Vec<&'a [u8]>, AllocError>
-    ensures texts { IfOk result (λ texts. map (λ text. text.now) texts.items ≡ expected_first_in (map (λ line. line.now) lines.now)) }
+    ensures texts { IfOk result
+        (λ texts. map (λ text. text.now) texts.items
+        ≡ expected_first_in (map (λ line. line.now) lines.now)) }
     ensures few { IfOk result (λ texts. length texts.items ≤ length lines.now) }
 {
     let mut texts = Vec::new(global);

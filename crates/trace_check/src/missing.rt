@@ -49,7 +49,9 @@ pub fn misses(
     told: &[Vec<ReportLine>],
 ) -> Result<Vec<Miss>, AllocError>
     requires { length told.now ≤ length lines.now }
-    ensures { IfOk result (λ found. misses_in found.items ≡ misses_by (map (λ line. line.now) lines.now) (told_in told.now)) }
+    ensures { IfOk result
+        (λ found. misses_in found.items
+        ≡ misses_by (map (λ line. line.now) lines.now) (told_in told.now)) }
 {
     let mut found = Vec::new(global);
     add_early(global, &mut found, lines)?;
@@ -66,7 +68,9 @@ fn add_rest(
     told: &[Vec<ReportLine>],
 ) -> Result<(), AllocError>
     requires { length told.now ≤ length lines.now }
-    ensures { OnOk result (AddsMisses found.old found.new (rest_by (map (λ line. line.now) lines.now) (told_in told.now))) }
+    ensures { OnOk result
+        (AddsMisses found.old found.new
+        (rest_by (map (λ line. line.now) lines.now) (told_in told.now))) }
 {
     let count = told.len();
     add_unreached(global, found, count as u64, &lines[count..])?;
@@ -96,7 +100,9 @@ fn add_missed(
     told: &[Vec<ReportLine>],
 ) -> Result<(), AllocError>
     requires { length told.now ≤ length lines.now }
-    ensures { OnOk result (AddsMisses found.old found.new (missed_by_all 1 (map (λ line. line.now) lines.now) (told_in told.now))) }
+    ensures { OnOk result
+        (AddsMisses found.old found.new
+        (missed_by_all 1 (map (λ line. line.now) lines.now) (told_in told.now))) }
 {
     for (place, reported) in told.iter().enumerate() {
         let number = place as u64 + 1;
@@ -122,7 +128,9 @@ fn add_missed_at(
     rest: &[&[u8]],
 ) -> Result<(), AllocError>
     requires { number + length rest.now < 2 ^ 64 }
-    ensures { OnOk result (AddsMisses found.old found.new (missed_at_by number line.now reported.now (map (λ line. line.now) rest.now))) }
+    ensures { OnOk result
+        (AddsMisses found.old found.new
+        (missed_at_by number line.now reported.now (map (λ line. line.now) rest.now))) }
 {
     if is_expectation(line) {
         return add_unexpected(global, found, number, reported);
@@ -141,7 +149,9 @@ fn add_missed_by(
     texts: &[&[u8]],
 ) -> Result<(), AllocError>
     requires { number + length texts.now < 2 ^ 64 }
-    ensures { OnOk result (AddsMisses found.old found.new (missed_by_line number line.now reported.now (map (λ text. text.now) texts.now))) }
+    ensures { OnOk result
+        (AddsMisses found.old found.new
+        (missed_by_line number line.now reported.now (map (λ text. text.now) texts.now))) }
 {
     if texts.is_empty() {
         return add_unexpected(global, found, number, reported);
@@ -169,7 +179,9 @@ fn add_against(
     texts: &[&[u8]],
 ) -> Result<(), AllocError>
     requires { number + length texts.now < 2 ^ 64 }
-    ensures { OnOk result (AddsMisses found.old found.new (against_by number (map string_bytes got.now) (map (λ text. text.now) texts.now))) }
+    ensures { OnOk result
+        (AddsMisses found.old found.new
+        (against_by number (map string_bytes got.now) (map (λ text. text.now) texts.now))) }
 {
     add_unmet(global, found, number, b"got no more", got, texts)?;
     add_past(global, found, number, got, texts.len())?;
@@ -184,7 +196,9 @@ fn add_past(
     got: &[String],
     count: usize,
 ) -> Result<(), AllocError>
-    ensures { OnOk result (AddsMisses found.old found.new (extra_by number (drop count (map string_bytes got.now)))) }
+    ensures { OnOk result
+        (AddsMisses found.old found.new
+        (extra_by number (drop count (map string_bytes got.now)))) }
 {
     if got.len() <= count {
         return Ok(());
@@ -220,7 +234,10 @@ fn add_unmet(
     texts: &[&[u8]],
 ) -> Result<(), AllocError>
     requires { number + length texts.now < 2 ^ 64 }
-    ensures { OnOk result (AddsMisses found.old found.new (unmet_by (number + 1) why.now (map string_bytes got.now) (map (λ text. text.now) texts.now))) }
+    ensures { OnOk result
+        (AddsMisses found.old found.new
+        (unmet_by (number + 1) why.now (map string_bytes got.now)
+        (map (λ text. text.now) texts.now))) }
 {
     for (place, text) in texts.iter().enumerate() {
         let at = number + place as u64 + 1;
@@ -238,7 +255,10 @@ fn add_unmet_at(
     got: Option<&String>,
     text: &[u8],
 ) -> Result<(), AllocError>
-    ensures { OnOk result (AddsMisses found.old found.new (unmet_at_by number why.now (option_map string_bytes (option_copied got.entry)) text.now)) }
+    ensures { OnOk result
+        (AddsMisses found.old found.new
+        (unmet_at_by number why.now
+        (option_map string_bytes (option_copied got.entry)) text.now)) }
 {
     match got {
         Some(got) => add_other(global, found, number, got, text),
@@ -267,7 +287,8 @@ fn add_other(
     got: &String,
     text: &[u8],
 ) -> Result<(), AllocError>
-    ensures { OnOk result (AddsMisses found.old found.new (other_at_by number (string_bytes got.now) text.now)) }
+    ensures { OnOk result
+        (AddsMisses found.old found.new (other_at_by number (string_bytes got.now) text.now)) }
 {
     if got.as_bytes() == text {
         return Ok(());
@@ -338,7 +359,9 @@ fn add_unreached(
     lines: &[&[u8]],
 ) -> Result<(), AllocError>
     requires { number + length lines.now < 2 ^ 64 }
-    ensures { OnOk result (AddsMisses found.old found.new (unreached_by (number + 1) (map (λ line. line.now) lines.now))) }
+    ensures { OnOk result
+        (AddsMisses found.old found.new
+        (unreached_by (number + 1) (map (λ line. line.now) lines.now))) }
 {
     for (place, line) in lines.iter().enumerate() {
         if !is_expectation(line) {
@@ -356,7 +379,9 @@ fn add_left(
     lines: &[&[u8]],
 ) -> Result<(), AllocError>
     requires { number + length lines.now < 2 ^ 64 }
-    ensures { OnOk result (AddsMisses found.old found.new (left_by (number + 1) (map (λ line. line.now) lines.now))) }
+    ensures { OnOk result
+        (AddsMisses found.old found.new
+        (left_by (number + 1) (map (λ line. line.now) lines.now))) }
 {
     for (place, line) in lines.iter().enumerate() {
         add_left_at(global, found, number + place as u64 + 1, line)?;
@@ -397,7 +422,9 @@ fn add_unsilent(
     number: u64,
     line: &[u8],
 ) -> Result<(), AllocError>
-    ensures { OnOk result (AddsMisses found.old found.new (if is_silent_line line.now then [] else (number, codes "not reached") ∷ [])) }
+    ensures { OnOk result
+        (AddsMisses found.old found.new
+        (if is_silent_line line.now then [] else (number, codes "not reached") ∷ [])) }
 {
     if is_silent(line) {
         return Ok(());

@@ -64,7 +64,10 @@ pub fn text_of_lines(
     trace: &[u8],
     recorded: &[Vec<u8>],
 ) -> Result<Vec<u8>, AllocError>
-    ensures { IfOk result (λ text. text.items ≡ joined_by (is_lacking_by trace.now (lines_in recorded.now)) (lines_in recorded.now)) }
+    ensures { IfOk result
+        (λ text. text.items
+        ≡ joined_by (is_lacking_by trace.now (lines_in recorded.now))
+        (lines_in recorded.now)) }
 {
     let lacking = is_lacking(trace, recorded);
     joined(global, recorded, lacking)
@@ -77,7 +80,9 @@ fn recorded(
     told: &[Vec<ReportLine>],
 ) -> Result<Vec<Vec<u8>>, AllocError>
     requires { length told.now ≤ length lines.now }
-    ensures { IfOk result (λ recorded. lines_in recorded.items ≡ recorded_by (map (λ line. line.now) lines.now) (told_in told.now)) }
+    ensures { IfOk result
+        (λ recorded. lines_in recorded.items
+        ≡ recorded_by (map (λ line. line.now) lines.now) (told_in told.now)) }
 {
     let mut recorded = Vec::new(global);
     for (place, reported) in told.iter().enumerate() {
@@ -93,7 +98,8 @@ pub fn add_rest(
     global: Global,
     lines: &[&[u8]],
 ) -> Result<(), AllocError>
-    ensures { OnOk result (AddsLines recorded.old recorded.new (without_own (map (λ line. line.now) lines.now))) }
+    ensures { OnOk result
+        (AddsLines recorded.old recorded.new (without_own (map (λ line. line.now) lines.now))) }
 {
     for (place, line) in lines.iter().enumerate() {
         if !is_expectation(line) {
@@ -156,7 +162,9 @@ fn notes(global: Global, reported: &[ReportLine]) -> Result<Vec<Vec<u8>>, AllocE
 
 /// Lines, where all of them are expectations.
 fn add_expected(recorded: &mut Vec<Vec<u8>>, lines: Vec<Vec<u8>>) -> Result<(), AllocError>
-    ensures { OnOk result (AddsLines recorded.old recorded.new (if can_expect_by (lines_in lines.items) then lines_in lines.items else [])) }
+    ensures { OnOk result
+        (AddsLines recorded.old recorded.new
+        (if can_expect_by (lines_in lines.items) then lines_in lines.items else [])) }
 {
     if !can_expect(lines.as_slice()) {
         return Ok(());
@@ -166,7 +174,8 @@ fn add_expected(recorded: &mut Vec<Vec<u8>>, lines: Vec<Vec<u8>>) -> Result<(), 
 
 /// The expectations of texts.
 fn comments(global: Global, texts: &[String]) -> Result<Vec<Vec<u8>>, AllocError>
-    ensures { IfOk result (λ comments. lines_in comments.items ≡ map comment_of (map string_bytes texts.now)) }
+    ensures { IfOk result
+        (λ comments. lines_in comments.items ≡ map comment_of (map string_bytes texts.now)) }
 {
     let mut comments = Vec::new(global);
     for text in texts {

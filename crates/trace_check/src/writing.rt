@@ -61,7 +61,9 @@ pub(crate) fn add_mistaken(
     name: &str,
     lines: &[&[u8]],
 ) -> Result<(), AllocError>
-    ensures { OnOk result (text.new.items ≡ text.old.items ++ mistaken_lines_by name.now 1 (map (λ line. line.now) lines.now)) }
+    ensures { OnOk result
+        (text.new.items
+        ≡ text.old.items ++ mistaken_lines_by name.now 1 (map (λ line. line.now) lines.now)) }
 {
     for (place, line) in lines.iter().enumerate() {
         let number = place as u64 + 1;
@@ -124,7 +126,11 @@ pub(crate) fn add_fault(
     missed: usize,
 ) -> Result<(), AllocError>
     requires { length told.now ≤ length lines.now }
-    ensures { OnOk result (text.new.items ≡ text.old.items ++ spot_said name.now (map (λ line. line.now) lines.now) (told_in told.now) missed) }
+    ensures { OnOk result
+        (text.new.items
+        ≡ text.old.items
+        ++ spot_said name.now (map (λ line. line.now) lines.now)
+        (told_in told.now) missed) }
 {
     if missed == 0 {
         return Ok(());

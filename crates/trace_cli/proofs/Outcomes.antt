@@ -8,16 +8,41 @@ use Rattle.trace_outcomes.specs.Told.{TellsOutcomes, TellsReported}
 use Rattle.trace_outcomes.specs.declared.telling.Told.{Told}
 use Rattle.trace_cli.specs.Status.{HasOrder, HasOutcomes}
 
-pub outcomes_by : (bytes : Option (List ℕ)) (limit : ℕ) (trace given : List ℕ) (told : Told) (outcome : Outcome) → IfSome bytes (λ all. trace ≡ all) → given ≡ trace
-    → TellsOutcomes limit (course_of 1 nothing_asked (lines_of given)) told → outcome ≡ told.outcome → HasOutcomes limit bytes outcome
+pub outcomes_by : (bytes : Option (List ℕ)) (limit : ℕ) (trace given : List ℕ) (told : Told) (outcome : Outcome)
+    → IfSome bytes (λ all. trace ≡ all)
+    → given ≡ trace
+    → TellsOutcomes limit (course_of 1 nothing_asked (lines_of given)) told
+    → outcome ≡ told.outcome
+    → HasOutcomes limit bytes outcome
 outcomes_by None limit trace given told outcome is same tells ends = tt
 outcomes_by (Some all) limit trace given told outcome is same tells ends =
-    record { told = told; tells = subst (λ t. TellsOutcomes limit (course_of 1 nothing_asked (lines_of t)) told) (same ∙ is) tells; ends = ends }
+    record {
+      told = told;
+      tells =
+          subst (λ t. TellsOutcomes limit (course_of 1 nothing_asked (lines_of t)) told) (same ∙ is) tells;
+      ends =
+          ends;
+    }
 
-pub order_by : (bytes reported : Option (List ℕ)) (name : List ℕ) (limit : ℕ) (trace given report read : List ℕ) (told : Told) (outcome : Outcome) → IfSome bytes (λ all. trace ≡ all) → given ≡ trace
-    → IfSome reported (λ all. report ≡ all) → read ≡ report → TellsReported name (lines_of read) limit (course_of 1 nothing_asked (lines_of given)) told → outcome ≡ told.outcome → HasOrder name limit bytes reported outcome
+pub order_by : (bytes reported : Option (List ℕ)) (name : List ℕ) (limit : ℕ) (trace given report read : List ℕ)
+    (told : Told) (outcome : Outcome)
+    → IfSome bytes (λ all. trace ≡ all)
+    → given ≡ trace
+    → IfSome reported (λ all. report ≡ all)
+    → read ≡ report
+    → TellsReported name (lines_of read) limit (course_of 1 nothing_asked (lines_of given)) told
+    → outcome ≡ told.outcome
+    → HasOrder name limit bytes reported outcome
 order_by None reported name limit trace given report read told outcome is same was_read alike tells ends = tt
 order_by (Some all) None name limit trace given report read told outcome is same was_read alike tells ends = tt
 order_by (Some all) (Some said) name limit trace given report read told outcome is same was_read alike tells ends =
-    let whole = subst (λ t. TellsReported name (lines_of read) limit (course_of 1 nothing_asked (lines_of t)) told) (same ∙ is) tells in
-    record { told = told; tells = subst (λ r. TellsReported name (lines_of r) limit (course_of 1 nothing_asked (lines_of all)) told) (alike ∙ was_read) whole; ends = ends }
+    let whole =
+    subst (λ t. TellsReported name (lines_of read) limit (course_of 1 nothing_asked (lines_of t)) told)
+    (same ∙ is) tells in
+    record {
+      told = told;
+      tells =
+          subst (λ r. TellsReported name (lines_of r) limit (course_of 1 nothing_asked (lines_of all)) told)
+          (alike ∙ was_read) whole;
+      ends = ends;
+    }

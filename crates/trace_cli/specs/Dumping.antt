@@ -16,21 +16,28 @@ form_by None = Core
 form_by (Some base) = Raw base
 
 -- the report of the image was written, or why it wasn't
-abbrev pub IsDumpAnswer : Option (List ℕ) → (ℕ → ℕ → Type 0) → Form → List Root → Option ℕ → List Skip → Result Dumped NotDumped → Type 0
+abbrev pub IsDumpAnswer : Option (List ℕ) → (ℕ → ℕ → Type 0) → Form → List Root → Option ℕ
+    → List Skip → Result Dumped NotDumped → Type 0
 IsDumpAnswer known may_fail form roots vmemmap skips (Ok outcome) =
-    (old : Option (List ℕ)) × (new : Option (List ℕ)) × IsImageDumped known may_fail form roots vmemmap skips old new outcome
-IsDumpAnswer known may_fail form roots vmemmap skips (Err why) = IsImageRefused known may_fail form why
+    (old : Option (List ℕ))
+    × (new : Option (List ℕ))
+    × IsImageDumped known may_fail form roots vmemmap skips old new outcome
+IsDumpAnswer known may_fail form roots vmemmap skips (Err why) =
+    IsImageRefused known may_fail form why
 
-module _ {I E : Type 0} (known : I → Option (List ℕ)) (may_fail : I → ℕ → ℕ → Type 0) (opens : List ℕ → Result I E → Type 0) where
+module _ {I E : Type 0} (known : I → Option (List ℕ)) (may_fail : I → ℕ → ℕ → Type 0)
+    (opens : List ℕ → Result I E → Type 0) where
   -- the words were read, the image was opened, and the status is that of what dumping it came to
   pub record IsDumpStatus (asked : DumpAsked) (status : ℕ) : Type 0 where
     pub roots : List Root
     pub skips : List Skip
-    pub given : given_by asked.host asked.hyp asked.guests asked.profiles asked.skips ≡ Ok (roots, skips)
+    pub given : given_by asked.host asked.hyp asked.guests asked.profiles asked.skips
+        ≡ Ok (roots, skips)
     pub image : I
     pub opened : opens asked.image (Ok image)
     pub answer : Result Dumped NotDumped
-    pub dumped : IsDumpAnswer (known image) (may_fail image) (form_by asked.base) roots asked.vmemmap skips answer
+    pub dumped : IsDumpAnswer (known image) (may_fail image)
+        (form_by asked.base) roots asked.vmemmap skips answer
     pub told : status ≡ status_of answer
 
   -- and where words are wrong, the image can't be opened, or memory was refused before, it is 2

@@ -44,14 +44,22 @@ use Rattle.trace_cli.specs.declared.tasks.Task.TheVariants as tasks
 
 -- the report of a replay of these bytes, where they are known, has this outcome
 abbrev pub HasReplayReport : Option (List ℕ) → Outcome → Type 0
-HasReplayReport bytes outcome = IfSome bytes (λ all. (lines : List ReportLine) × IsReport agreed 1 at_start (lines_of all) lines outcome)
+HasReplayReport bytes outcome =
+    IfSome bytes
+    (λ all. (lines : List ReportLine) × IsReport agreed 1 at_start (lines_of all) lines outcome)
 
 -- and that of a race, and of an audit
 abbrev pub HasRaceReport : Option (List ℕ) → Outcome → Type 0
-HasRaceReport bytes outcome = IfSome bytes (λ all. (lines : List ReportLine) × IsRaceReport HasOneHistory (lines_of all) lines outcome)
+HasRaceReport bytes outcome =
+    IfSome bytes
+    (λ all. (lines : List ReportLine) × IsRaceReport HasOneHistory (lines_of all) lines outcome)
 
 abbrev pub HasAuditReport : Option (List ℕ) → Outcome → Type 0
-HasAuditReport bytes outcome = IfSome bytes (λ all. (lines : List ReportLine) × reports.IsReport (RunsLine {A = Global}) Ends 1 nothing_audited (lines_of all) lines outcome)
+HasAuditReport bytes outcome =
+    IfSome bytes
+    (λ all. (lines : List ReportLine)
+    × reports.IsReport (RunsLine {A = Global}) Ends 1 nothing_audited
+    (lines_of all) lines outcome)
 
 -- all replies that the steps after `start` of a trace of these bytes may get
 pub record FindsOutcomes (limit : ℕ) (all : List ℕ) (outcome : Outcome) : Type 0 where
@@ -63,24 +71,32 @@ abbrev pub HasOutcomes : ℕ → Option (List ℕ) → Outcome → Type 0
 HasOutcomes limit bytes outcome = IfSome bytes (λ all. FindsOutcomes limit all outcome)
 
 -- whether some order of them gives the replies of the report of this name and of these bytes
-pub record FindsOrder (name : List ℕ) (limit : ℕ) (all report : List ℕ) (outcome : Outcome) : Type 0 where
+pub record FindsOrder (name : List ℕ) (limit : ℕ) (all report : List ℕ)
+    (outcome : Outcome) : Type 0 where
   pub told : OutcomesTold
-  pub tells : TellsReported name (lines_of report) limit (course_of 1 nothing_asked (lines_of all)) told
+  pub tells : TellsReported name (lines_of report) limit
+      (course_of 1 nothing_asked (lines_of all)) told
   pub ends : outcome ≡ told.outcome
 
 abbrev pub HasOrder : List ℕ → ℕ → Option (List ℕ) → Option (List ℕ) → Outcome → Type 0
-HasOrder name limit bytes report outcome = IfSome bytes (λ all. IfSome report (λ reported. FindsOrder name limit all reported outcome))
+HasOrder name limit bytes report outcome =
+    IfSome bytes (λ all. IfSome report (λ reported. FindsOrder name limit all reported outcome))
 
 -- a check of these bytes is clean, or has a miss
 abbrev pub outcome_of_check : Bool → Outcome
 outcome_of_check clean = if clean then Clean else Disagreed
 
 abbrev pub HasChecked : List ℕ → Option (List ℕ) → Outcome → Type 0
-HasChecked path bytes outcome = IfSome bytes (λ all. (checked : Checked) × IsCaseChecked Global path all checked × (outcome ≡ outcome_of_check checked.clean))
+HasChecked path bytes outcome =
+    IfSome bytes
+    (λ all. (checked : Checked)
+    × IsCaseChecked Global path all checked
+    × (outcome ≡ outcome_of_check checked.clean))
 
 -- a trace of these bytes is explained, or one line of it
 abbrev pub HasExplained : List ℕ → Option ℕ → Option (List ℕ) → Outcome → Type 0
-HasExplained path line bytes outcome = IfSome bytes (λ all. (text : List ℕ) × ExplainsAll line path (lines_of all) text outcome)
+HasExplained path line bytes outcome =
+    IfSome bytes (λ all. (text : List ℕ) × ExplainsAll line path (lines_of all) text outcome)
 
 -- how a run of these bytes ends
 abbrev pub outcome_of_end : Ended → Outcome
@@ -89,11 +105,13 @@ outcome_of_end (ends.Fault line fault) = Fault
 
 -- the run of these bytes, whose end is written as text, ends so
 abbrev pub EndsAsTold : List ℕ → Outcome → Type 0
-EndsAsTold all outcome = (ended : Ended) × (text : List ℕ) × IsSnapshot all ended text × (outcome ≡ outcome_of_end ended)
+EndsAsTold all outcome =
+    (ended : Ended) × (text : List ℕ) × IsSnapshot all ended text × (outcome ≡ outcome_of_end ended)
 
 -- and that which is drawn as a picture
 abbrev pub EndsAsDrawn : List ℕ → Outcome → Type 0
-EndsAsDrawn all outcome = (ended : Ended) × (svg : List ℕ) × IsDrawing all ended svg × (outcome ≡ outcome_of_end ended)
+EndsAsDrawn all outcome =
+    (ended : Ended) × (svg : List ℕ) × IsDrawing all ended svg × (outcome ≡ outcome_of_end ended)
 
 -- a trace of these bytes is drawn, or the state at its end is written as text
 abbrev pub HasDrawn : Bool → Option (List ℕ) → Outcome → Type 0
@@ -124,28 +142,41 @@ status_told (Ok Disagreed) = 1
 status_told (Ok Fault) = 1
 status_told (Err halted) = 1
 
--- an opened file's status is that of what the run came to, whose report, if there is a whole one, is that of the file's bytes
-pub record HasAnswer (task : Task) (path : List ℕ) (bytes : Option (List ℕ)) (status : ℕ) : Type 0 where
+-- an opened file's status is that of what the run came to, whose report, if there is a whole one,
+-- is that of the file's bytes
+pub record HasAnswer (task : Task) (path : List ℕ) (bytes : Option (List ℕ))
+    (status : ℕ) : Type 0 where
   pub answer : Result Outcome Halted
   pub report : IfOk answer (HasReport task path bytes)
   pub told : status ≡ status_told answer
 
 -- and the status of whether some order gives the replies of a report, of both files' bytes
-pub record HasOrderAnswer (name : List ℕ) (limit : ℕ) (bytes report : Option (List ℕ)) (status : ℕ) : Type 0 where
+pub record HasOrderAnswer (name : List ℕ) (limit : ℕ) (bytes report : Option (List ℕ))
+    (status : ℕ) : Type 0 where
   pub answer : Result Outcome Halted
   pub order : IfOk answer (HasOrder name limit bytes report)
   pub told : status ≡ status_told answer
 
 -- the status of a task, by what came of opening its file: 2 where that was refused
-abbrev pub IsStatusOf : {F E : Type 0} → (F → Option (List ℕ)) → Task → List ℕ → Result F E → ℕ → Type 0
-IsStatusOf bytes task path opened status = MatchResult opened (λ file. HasAnswer task path (bytes file) status) (λ _. status ≡ 2)
+abbrev pub IsStatusOf : {F E : Type 0}
+    → (F → Option (List ℕ))
+    → Task
+    → List ℕ
+    → Result F E
+    → ℕ
+    → Type 0
+IsStatusOf bytes task path opened status =
+    MatchResult opened (λ file. HasAnswer task path (bytes file) status) (λ _. status ≡ 2)
 
 abbrev pub HasStatus : {F : Type 0} → (F → Option (List ℕ)) → Opened F → ℕ → Type 0
 HasStatus bytes opened status = IsStatusOf bytes opened.task opened.path.now opened.file status
 
--- the status where nothing is asked for: 2 for refused words and help, 1 for want of memory. The version is written, or not
+-- the status where nothing is asked for: 2 for refused words and help, 1 for want of memory. The
+-- version is written, or not
 abbrev pub IsRefused : UsageFault → ℕ → Type 0
-IsRefused (Usage error) status = ((kind_of error ≡ DisplayVersion) × (status ≤ 1)) ⊎ ((kind_of error ≢ DisplayVersion) × (status ≡ 2))
+IsRefused (Usage error) status =
+    ((kind_of error ≡ DisplayVersion) × (status ≤ 1))
+    ⊎ ((kind_of error ≢ DisplayVersion) × (status ≡ 2))
 IsRefused NoMemory status = status ≡ 1
 
 -- the status where no trace is made: 2 for options of which none can be made
@@ -168,52 +199,86 @@ abbrev pub IsPut : List ℕ → Option (List ℕ) → Option (List ℕ) → ℕ 
 IsPut text old new status = ((status ≡ 0) × Appends old new text) ⊎ (status ≡ 1)
 
 -- a text that was made is put so, and where none was the status says why
-abbrev pub IsAnswerPut : {X : Type 0} → (X → List ℕ) → Result X GenerateFault → Option (List ℕ) → Option (List ℕ) → ℕ → Type 0
-IsAnswerPut bytes answer old new status = MatchResult answer (λ text. IsPut (bytes text) old new status) (λ fault. status ≡ status_of_fault fault)
+abbrev pub IsAnswerPut : {X : Type 0}
+    → (X → List ℕ)
+    → Result X GenerateFault
+    → Option (List ℕ)
+    → Option (List ℕ)
+    → ℕ
+    → Type 0
+IsAnswerPut bytes answer old new status =
+    MatchResult answer (λ text. IsPut (bytes text) old new status)
+    (λ fault. status ≡ status_of_fault fault)
 
 -- a trace of these options was made, and put so; or why none was
 abbrev pub IsMade : ℕ → Options → Option (List ℕ) → Option (List ℕ) → ℕ → Type 0
 IsMade steps options old new status =
-    ((text : List ℕ) × IsTrace steps options text × IsPut text old new status) ⊎ ((fault : GenerateFault) × IsFault fault steps options × (status ≡ status_of_fault fault))
+    ((text : List ℕ) × IsTrace steps options text × IsPut text old new status)
+    ⊎ ((fault : GenerateFault) × IsFault fault steps options × (status ≡ status_of_fault fault))
 
 -- the status of the program, by what opening a path may come to
 module _ {F E : Type 0} (bytes : F → Option (List ℕ)) (opens : List ℕ → Result F E → Type 0) where
   -- of a task with the file at a path
   abbrev pub HasFileStatus : Task → List ℕ → ℕ → Type 0
-  HasFileStatus task path status = (opened : Result F E) × opens path opened × IsStatusOf bytes task path opened status
+  HasFileStatus task path status =
+      (opened : Result F E) × opens path opened × IsStatusOf bytes task path opened status
 
   -- of a trace and a report, the trace opened first; 2 where one of them can't be
   abbrev pub HasReportStatus : List ℕ → ℕ → F → ℕ → Type 0
   HasReportStatus report limit file status =
-      (opened : Result F E) × opens report opened × MatchResult opened (λ observed. HasOrderAnswer report limit (bytes file) (bytes observed) status) (λ _. status ≡ 2)
+      (opened : Result F E)
+      × opens report opened
+      × MatchResult opened
+      (λ observed. HasOrderAnswer report limit (bytes file) (bytes observed) status)
+      (λ _. status ≡ 2)
 
   abbrev pub HasOrderStatus : List ℕ → List ℕ → ℕ → ℕ → Type 0
   HasOrderStatus path report limit status =
-      (opened : Result F E) × opens path opened × MatchResult opened (λ file. HasReportStatus report limit file status) (λ _. status ≡ 2)
+      (opened : Result F E)
+      × opens path opened
+      × MatchResult opened (λ file. HasReportStatus report limit file status) (λ _. status ≡ 2)
 
   -- of a task with several files the greatest of theirs, and of none 0
   abbrev pub HasGreatestStatus : Task → List (List ℕ) → ℕ → Type 0
   HasGreatestStatus task [] status = status ≡ 0
   HasGreatestStatus task (path ∷ more) status =
-      (own : ℕ) × (others : ℕ) × HasFileStatus task path own × HasGreatestStatus task more others × (status ≡ max own others)
+      (own : ℕ)
+      × (others : ℕ)
+      × HasFileStatus task path own
+      × HasGreatestStatus task more others
+      × (status ≡ max own others)
 
 -- and of the program, by what opening an image may come to as well
 module _ {F I E : Type 0} (bytes : F → Option (List ℕ)) (opens : List ℕ → Result F E → Type 0)
-    (known : I → Option (List ℕ)) (may_fail : I → ℕ → ℕ → Type 0) (opens_image : List ℕ → Result I E → Type 0) where
+    (known : I → Option (List ℕ)) (may_fail : I → ℕ → ℕ → Type 0)
+    (opens_image : List ℕ → Result I E → Type 0) where
   -- of the requests
   abbrev pub HasAskedStatus : Asking → ℕ → Type 0
-  HasAskedStatus (Replaying file heap looks output) status = HasFileStatus bytes opens (tasks.Replay heap looks output) file status
-  HasAskedStatus (Racing file output) status = HasFileStatus bytes opens (tasks.Race output) file status
-  HasAskedStatus (Auditing file output) status = HasFileStatus bytes opens (tasks.Audit output) file status
-  HasAskedStatus (Finding file limit None output) status = HasFileStatus bytes opens (tasks.Outcomes limit output) file status
-  HasAskedStatus (Finding file limit (Some report) output) status = HasOrderStatus bytes opens file report limit status
-  HasAskedStatus (Checking files looks output) status = HasGreatestStatus bytes opens (tasks.Check looks output) files status
-  HasAskedStatus (Covering files missing quiet) status = HasCoverStatus bytes opens missing files status
+  HasAskedStatus (Replaying file heap looks output) status =
+      HasFileStatus bytes opens (tasks.Replay heap looks output) file status
+  HasAskedStatus (Racing file output) status =
+      HasFileStatus bytes opens (tasks.Race output) file status
+  HasAskedStatus (Auditing file output) status =
+      HasFileStatus bytes opens (tasks.Audit output) file status
+  HasAskedStatus (Finding file limit None output) status =
+      HasFileStatus bytes opens (tasks.Outcomes limit output) file status
+  HasAskedStatus (Finding file limit (Some report) output) status =
+      HasOrderStatus bytes opens file report limit status
+  HasAskedStatus (Checking files looks output) status =
+      HasGreatestStatus bytes opens (tasks.Check looks output) files status
+  HasAskedStatus (Covering files missing quiet) status =
+      HasCoverStatus bytes opens missing files status
   HasAskedStatus (Recording file) status = HasFileStatus bytes opens tasks.Record file status
-  HasAskedStatus (Explaining file line output) status = HasFileStatus bytes opens (tasks.Explain line output) file status
+  HasAskedStatus (Explaining file line output) status =
+      HasFileStatus bytes opens (tasks.Explain line output) file status
   HasAskedStatus (Generating seed steps cpus pages geometry hostile) status =
-      (old : Option (List ℕ)) × (new : Option (List ℕ)) × IsMade steps (record { cpus = cpus; pages = pages; geometry = geometry; hostile = hostile }) old new status
-  HasAskedStatus (Drawing file text) status = HasFileStatus bytes opens (tasks.Draw text) file status
+      (old : Option (List ℕ))
+      × (new : Option (List ℕ))
+      × IsMade steps
+      (record { cpus = cpus; pages = pages; geometry = geometry; hostile = hostile }) old
+      new status
+  HasAskedStatus (Drawing file text) status =
+      HasFileStatus bytes opens (tasks.Draw text) file status
   HasAskedStatus (Dumping dump) status = HasDumpStatus known may_fail opens_image dump status
 
   -- of what words were read as
@@ -223,7 +288,8 @@ module _ {F I E : Type 0} (bytes : F → Option (List ℕ)) (opens : List ℕ �
 
   -- of the program's words, its name first
   abbrev pub HasWordsStatus : List (List ℕ) → ℕ → Type 0
-  HasWordsStatus words status = (read : Result Invocation UsageFault) × IsRead words read × HasReadStatus read status
+  HasWordsStatus words status =
+      (read : Result Invocation UsageFault) × IsRead words read × HasReadStatus read status
 
   -- of some words, those with which the system started it
   abbrev pub HasSomeStatus : ℕ → Type 0

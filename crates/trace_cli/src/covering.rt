@@ -20,7 +20,8 @@ pub fn covered<R: AllocGlobal + Print + Eprint, F: io::Read + Drop, O: Opens<F>>
     missing: bool,
     quiet: bool,
 ) -> u8
-    ensures { HasCoverStatus F.remaining (O.opens files.now) missing (map (λ path. path.now) paths.now) result }
+    ensures { HasCoverStatus F.remaining (O.opens files.now) missing
+        (map (λ path. path.now) paths.now) result }
 {
     let mut seen = Vec::new(rt.alloc());
     let mut text = Vec::new(rt.alloc());

@@ -99,7 +99,8 @@ fn written<R: AllocGlobal + Print, I: ImageBytes, P: Progress>(
 ) -> Result<Dumped, NotDumped>
     requires roots { All IsRoot given.now.roots.items }
     requires few { length given.now.roots.items < 2 ^ 32 }
-    ensures { IsDumpAnswer (I.bytes image.now) (I.may_fail image.now) form given.now.roots.items vmemmap given.now.skips.items result }
+    ensures { IsDumpAnswer (I.bytes image.now)
+        (I.may_fail image.now) form given.now.roots.items vmemmap given.now.skips.items result }
 {
     let roots = given.roots.as_slice();
     let skips = given.skips.as_slice();

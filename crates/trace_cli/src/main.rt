@@ -61,7 +61,9 @@ fn run<
     P: Progress + Drop,
     O: Opens<F> + OpensImage<I> + ShowsWork<P>,
 >(rt: &R, files: &O) -> Result<u8, io::Error>
-    ensures { IfOk result (HasSomeStatus F.remaining (O.opens files.now) I.bytes I.may_fail (O.opens_image files.now)) }
+    ensures { IfOk result
+        (HasSomeStatus F.remaining (O.opens files.now) I.bytes I.may_fail
+        (O.opens_image files.now)) }
 {
     let words: Vec<String> = env::args(rt)?.collect(rt.alloc())?;
     Ok(done_by_words(rt, files, words.as_slice()))
@@ -75,7 +77,8 @@ fn done_by_words<
     P: Progress + Drop,
     O: Opens<F> + OpensImage<I> + ShowsWork<P>,
 >(rt: &R, files: &O, words: &[String]) -> u8
-    ensures { HasWordsStatus F.remaining (O.opens files.now) I.bytes I.may_fail (O.opens_image files.now) (map (λ w. w.bytes.items) words.now) result }
+    ensures { HasWordsStatus F.remaining (O.opens files.now) I.bytes I.may_fail (O.opens_image files.now)
+        (map (λ w. w.bytes.items) words.now) result }
 {
     match command(rt.alloc(), words) {
         Ok(asked) => done(rt, files, asked),
@@ -91,7 +94,8 @@ fn done<
     P: Progress + Drop,
     O: Opens<F> + OpensImage<I> + ShowsWork<P>,
 >(rt: &R, files: &O, asked: Invocation<'_>) -> u8
-    ensures { HasAskedStatus F.remaining (O.opens files.now) I.bytes I.may_fail (O.opens_image files.now) (asking_of asked.entry) result }
+    ensures { HasAskedStatus F.remaining (O.opens files.now) I.bytes I.may_fail (O.opens_image files.now)
+        (asking_of asked.entry) result }
 {
     match asked {
         Invocation::Replay {
@@ -172,7 +176,8 @@ fn done_with_each<
     P: Progress + Drop,
     O: Opens<F> + ShowsWork<P>,
 >(rt: &R, files: &O, paths: &[&str], task: Task) -> u8
-    ensures { HasGreatestStatus F.remaining (O.opens files.now) task (map (λ path. path.now) paths.now) result }
+    ensures { HasGreatestStatus F.remaining (O.opens files.now) task
+        (map (λ path. path.now) paths.now) result }
 {
     let mut status = 0;
     for path in paths {

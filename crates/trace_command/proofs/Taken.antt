@@ -16,12 +16,23 @@ use Rattle.trace_command.specs.declared.words.UsageFault.{UsageFault}
 use Rattle.trace_command.specs.declared.words.UsageFault.TheVariants.{NoMemory, Usage}
 
 -- the error is of a kind that clap may give, since it isn't that memory ran out
-among : (kinds : Kinds) (error shown : Error) → shown ≡ error → ((kind_of error ≡ OutOfMemory) → ⊥) → HasKind kinds error → IsAmong (kind_of shown) kinds
+among : (kinds : Kinds) (error shown : Error)
+    → shown ≡ error
+    → ((kind_of error ≡ OutOfMemory) → ⊥)
+    → HasKind kinds error
+    → IsAmong (kind_of shown) kinds
 among kinds error shown is other (inl memory) = absurd (other memory)
 among kinds error shown is other (inr found) = subst (λ e. IsAmong (kind_of e) kinds) (sym is) found
 
-pub err_read : (words : List Text) (a : App) (error : Error) (fault : UsageFault) → a ≡ program → HasKind (fault_of a words) error → StandsFor error fault → IsRead words (Err fault)
-err_read words a error (Usage shown) is fails stands = inl (among (fault_of program words) error shown stands.0 stands.1 (subst (λ b. HasKind (fault_of b words) error) is fails))
+pub err_read : (words : List Text) (a : App) (error : Error) (fault : UsageFault)
+    → a ≡ program
+    → HasKind (fault_of a words) error
+    → StandsFor error fault
+    → IsRead words (Err fault)
+err_read words a error (Usage shown) is fails stands =
+    inl
+    (among (fault_of program words) error shown stands.0 stands.1
+    (subst (λ b. HasKind (fault_of b words) error) is fails))
 err_read words a error NoMemory is fails stands = tt
 
 -- what comes of words in which clap finds no fault
@@ -30,12 +41,18 @@ Comes words (Ok invocation) = (fault_of program words ≡ []) × (asked_by words
 Comes words (Err (unread.Word wanted)) = (fault_of program words ≡ []) × (asked_by words ≡ None)
 Comes words (Err unread.NoMemory) = ⊤
 
-comes : (words : List Text) (r : Result Invocation Unread) → fault_of program words ≡ [] → HasAsked (asked_by words) r → Comes words r
+comes : (words : List Text) (r : Result Invocation Unread)
+    → fault_of program words ≡ []
+    → HasAsked (asked_by words) r
+    → Comes words r
 comes words (Ok invocation) none has = (none, has)
 comes words (Err (unread.Word wanted)) none has = (none, has)
 comes words (Err unread.NoMemory) none has = tt
 
-pub ok_read : (words : List Text) (a : App) (m : ArgMatches) (r : Result Invocation Unread) → a ≡ program → fault_of a words ≡ [] → subcommand_rows_of m ≡ subcommand_of a words
+pub ok_read : (words : List Text) (a : App) (m : ArgMatches) (r : Result Invocation Unread)
+    → a ≡ program
+    → fault_of a words ≡ []
+    → subcommand_rows_of m ≡ subcommand_of a words
     → HasAsked (option_and_then asked_in (subcommand_rows_of m)) r → Comes words r
 ok_read words a m r is none rows has =
     comes words r (ap (λ (b : App). fault_of b words) (sym is) ∙ none)

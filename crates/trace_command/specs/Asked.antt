@@ -48,7 +48,8 @@ pub data Asking : Type 0 where
   Recording : Text → Asking
   -- the line that is shown, where it is one
   Explaining : Text → Option ℕ → Output → Asking
-  -- the seed, the steps, the CPUs, the pages, the geometry, and the calls in a hundred that are to be refused
+  -- the seed, the steps, the CPUs, the pages, the geometry, and the calls in a hundred that are to
+  -- be refused
   Generating : ℕ → ℕ → ℕ → ℕ → ℕ → ℕ → Asking
   -- whether as text
   Drawing : Text → Bool → Asking
@@ -71,24 +72,33 @@ abbrev pub asking_of : Invocation → Asking
 asking_of (invocation.Replay file heap looks output) = Replaying file.now heap looks output
 asking_of (invocation.Race file output) = Racing file.now output
 asking_of (invocation.Audit file output) = Auditing file.now output
-asking_of (invocation.Outcomes file limit observed output) = Finding file.now limit (option_map (λ report. report.now) observed) output
-asking_of (invocation.Check files looks output) = Checking (map (λ file. file.now) files.items) looks output
-asking_of (invocation.Cover files missing quiet) = Covering (map (λ file. file.now) files.items) missing quiet
+asking_of (invocation.Outcomes file limit observed output) =
+    Finding file.now limit (option_map (λ report. report.now) observed) output
+asking_of (invocation.Check files looks output) =
+    Checking (map (λ file. file.now) files.items) looks output
+asking_of (invocation.Cover files missing quiet) =
+    Covering (map (λ file. file.now) files.items) missing quiet
 asking_of (invocation.Record file) = Recording file.now
 asking_of (invocation.Explain file line output) = Explaining file.now line output
-asking_of (invocation.Generate seed steps cpus pages geometry hostile) = Generating seed steps cpus pages geometry hostile
+asking_of (invocation.Generate seed steps cpus pages geometry hostile) =
+    Generating seed steps cpus pages geometry hostile
 asking_of (invocation.Draw file text) = Drawing file.now text
 asking_of (invocation.Dump dump) = Dumping (dump_asked dump)
 
 -- ---- values
 
--- the size that a word says: decimal digits of which the first isn't 0 (48), from 4,096 to 1,073,741,824
+-- the size that a word says: decimal digits of which the first isn't 0 (48), from 4,096 to
+-- 1,073,741,824
 abbrev pub heap_size : Text → Option ℕ
 heap_size word =
-    if nat_lt 48 (slice_index word 0) && (all_ascii_digits word && (nat_le 4096 (digits_value 10 word) && nat_le (digits_value 10 word) 1073741824)) then Some (digits_value 10 word)
+    if nat_lt 48 (slice_index word 0)
+    && (all_ascii_digits word
+    && (nat_le 4096 (digits_value 10 word) && nat_le (digits_value 10 word) 1073741824))
+    then Some (digits_value 10 word)
     else None
 
--- the heap that is asked for: none without a word, else one of the size that it says. No answer where it says none
+-- the heap that is asked for: none without a word, else one of the size that it says. No answer
+-- where it says none
 abbrev pub heap_told : Option Text → Option (Option ℕ)
 heap_told None = Some None
 heap_told (Some word) = option_map (λ size. Some size) (heap_size word)
@@ -96,7 +106,9 @@ heap_told (Some word) = option_map (λ size. Some size) (heap_size word)
 -- when the oracle looks: after each step, where no word says it
 abbrev pub looks_told : Option Text → Option Looks
 looks_told None = Some Each
-looks_told (Some word) = if bytes_eq word (codes "each") then Some Each else (if bytes_eq word (codes "end") then Some End else None)
+looks_told (Some word) =
+    if bytes_eq word (codes "each") then Some Each
+    else (if bytes_eq word (codes "end") then Some End else None)
 
 -- a number as a trace writes it; where no word says it, it is that one
 abbrev pub number_told : ℕ → Option Text → Option ℕ
@@ -105,9 +117,11 @@ number_told otherwise (Some word) = number_of word
 
 -- a number as a trace writes it, from the least to the most
 abbrev pub number_within : ℕ → ℕ → Text → Option ℕ
-number_within least most word = option_and_then (λ n. if nat_le least n && nat_le n most then Some n else None) (number_of word)
+number_within least most word =
+    option_and_then (λ n. if nat_le least n && nat_le n most then Some n else None) (number_of word)
 
--- the points of a step that the search for outcomes may come to, from 1 to 4,294,967,296: 100,000 where no word says it
+-- the points of a step that the search for outcomes may come to, from 1 to 4,294,967,296: 100,000
+-- where no word says it
 abbrev pub limit_told : Option Text → Option ℕ
 limit_told None = Some 100000
 limit_told (Some word) = number_within 1 4294967296 word
@@ -128,13 +142,18 @@ is_set id rows = option_map_or (λ word. bytes_eq word (codes "true")) (first_of
 
 -- how the report is written: not at all under `--quiet`, also where `--json` is given
 abbrev pub output_in : List Row → Output
-output_in rows = if is_set (codes "quiet") rows then Nothing else (if is_set (codes "json") rows then Json else Report)
+output_in rows =
+    if is_set (codes "quiet") rows then Nothing
+    else (if is_set (codes "json") rows then Json else Report)
 
 -- ---- what a subcommand is asked for, by the values that clap has found
 
 abbrev pub replaying : List Row → Option Asking
 replaying rows =
-    option_and_then (λ file. option_and_then (λ heap. option_map (λ looks. Replaying file heap looks (output_in rows)) (looks_told (first_of (codes "oracle") rows)))
+    option_and_then
+    (λ file. option_and_then
+    (λ heap. option_map (λ looks. Replaying file heap looks (output_in rows))
+    (looks_told (first_of (codes "oracle") rows)))
     (heap_told (first_of (codes "heap") rows))) (first_of (codes "FILE") rows)
 
 abbrev pub racing : List Row → Option Asking
@@ -145,15 +164,21 @@ auditing rows = option_map (λ file. Auditing file (output_in rows)) (first_of (
 
 -- a trace and a report that are both standard input
 abbrev pub are_both_input : Text → Option Text → Bool
-are_both_input file observed = option_map_or (λ report. bytes_eq file (codes "-") && bytes_eq report (codes "-")) observed false
+are_both_input file observed =
+    option_map_or
+    (λ report. bytes_eq file (codes "-") && bytes_eq report (codes "-")) observed false
 
 -- one of the two at most is standard input
 abbrev pub finding_in : Text → Option Text → ℕ → Output → Option Asking
-finding_in file observed limit output = if are_both_input file observed then None else Some (Finding file limit observed output)
+finding_in file observed limit output =
+    if are_both_input file observed then None else Some (Finding file limit observed output)
 
 abbrev pub finding : List Row → Option Asking
 finding rows =
-    option_and_then (λ file. option_and_then (λ limit. finding_in file (first_of (codes "observed") rows) limit (output_in rows)) (limit_told (first_of (codes "limit") rows)))
+    option_and_then
+    (λ file. option_and_then
+    (λ limit. finding_in file (first_of (codes "observed") rows) limit (output_in rows))
+    (limit_told (first_of (codes "limit") rows)))
     (first_of (codes "FILE") rows)
 
 -- `check --record` takes one file
@@ -164,23 +189,43 @@ recording (file ∷ more ∷ files) = None
 
 abbrev pub checking : List Row → Option Asking
 checking rows =
-    option_and_then (λ files. option_and_then (λ looks. if is_set (codes "record") rows then recording files else Some (Checking files looks (output_in rows)))
+    option_and_then
+    (λ files. option_and_then
+    (λ looks. if is_set (codes "record") rows then recording files
+    else Some (Checking files looks (output_in rows)))
     (looks_told (first_of (codes "oracle") rows))) (all_of (codes "FILE") rows)
 
 abbrev pub covering : List Row → Option Asking
-covering rows = option_map (λ files. Covering files (is_set (codes "missing") rows) (is_set (codes "quiet") rows)) (all_of (codes "FILE") rows)
+covering rows =
+    option_map
+    (λ files. Covering files (is_set (codes "missing") rows) (is_set (codes "quiet") rows))
+    (all_of (codes "FILE") rows)
 
 abbrev pub explaining : List Row → Option Asking
-explaining rows = option_and_then (λ file. option_map (λ line. Explaining file line (output_in rows)) (line_told (first_of (codes "line") rows))) (first_of (codes "FILE") rows)
+explaining rows =
+    option_and_then
+    (λ file. option_map (λ line. Explaining file line (output_in rows))
+    (line_told (first_of (codes "line") rows)))
+    (first_of (codes "FILE") rows)
 
 abbrev pub generating : List Row → Option Asking
 generating rows =
-    option_and_then (λ seed. option_and_then (λ steps. option_and_then (λ cpus. option_and_then (λ pages. option_and_then (λ geometry. option_map (Generating seed steps cpus pages geometry)
-    (number_told 0 (first_of (codes "hostile") rows))) (number_told 39 (first_of (codes "geometry") rows))) (number_told 2048 (first_of (codes "pages") rows))) (number_told 4 (first_of (codes "cpus") rows)))
-    (option_and_then number_of (first_of (codes "STEPS") rows))) (option_and_then number_of (first_of (codes "SEED") rows))
+    option_and_then
+    (λ seed. option_and_then
+    (λ steps. option_and_then
+    (λ cpus. option_and_then
+    (λ pages. option_and_then
+    (λ geometry. option_map (Generating seed steps cpus pages geometry)
+    (number_told 0 (first_of (codes "hostile") rows)))
+    (number_told 39 (first_of (codes "geometry") rows)))
+    (number_told 2048 (first_of (codes "pages") rows)))
+    (number_told 4 (first_of (codes "cpus") rows)))
+    (option_and_then number_of (first_of (codes "STEPS") rows)))
+    (option_and_then number_of (first_of (codes "SEED") rows))
 
 abbrev pub drawing : List Row → Option Asking
-drawing rows = option_map (λ file. Drawing file (is_set (codes "text") rows)) (first_of (codes "FILE") rows)
+drawing rows =
+    option_map (λ file. Drawing file (is_set (codes "text") rows)) (first_of (codes "FILE") rows)
 
 -- all words that are given as this; none where nothing is
 abbrev pub words_given : Text → List Row → List Text
@@ -201,7 +246,12 @@ dump_in rows image host hyp base vmemmap = record {
 
 abbrev pub dumping : List Row → Option Asking
 dumping rows =
-    option_and_then (λ image. option_and_then (λ host. option_and_then (λ hyp. option_and_then (λ base. option_map (λ vmemmap. Dumping (dump_in rows image host hyp base vmemmap))
+    option_and_then
+    (λ image. option_and_then
+    (λ host. option_and_then
+    (λ hyp. option_and_then
+    (λ base. option_map
+    (λ vmemmap. Dumping (dump_in rows image host hyp base vmemmap))
     (number_given (first_of (codes "vmemmap") rows))) (number_given (first_of (codes "base") rows)))
     (first_of (codes "hyp") rows)) (first_of (codes "host") rows)) (first_of (codes "IMAGE") rows)
 
@@ -224,11 +274,14 @@ asked_in (name, rows) =
 abbrev pub asked_by : List Text → Option Asking
 asked_by words = option_and_then asked_in (subcommand_of program words)
 
--- what was read: what the words ask for; a fault that clap finds in them, or that it finds none and they ask for nothing, since a value isn't
--- of its form; or that memory was refused
+-- what was read: what the words ask for; a fault that clap finds in them, or that it finds none and
+-- they ask for nothing, since a value isn't of its form; or that memory was refused
 abbrev pub IsRead : List Text → Result Invocation UsageFault → Type 0
-IsRead words (Ok invocation) = (fault_of program words ≡ []) × (asked_by words ≡ Some (asking_of invocation))
-IsRead words (Err (Usage error)) = IsAmong (kind_of error) (fault_of program words) ⊎ ((fault_of program words ≡ []) × (asked_by words ≡ None))
+IsRead words (Ok invocation) =
+    (fault_of program words ≡ []) × (asked_by words ≡ Some (asking_of invocation))
+IsRead words (Err (Usage error)) =
+    IsAmong (kind_of error) (fault_of program words)
+    ⊎ ((fault_of program words ≡ []) × (asked_by words ≡ None))
 IsRead words (Err NoMemory) = ⊤
 
 -- the trace asks for this, unless memory was refused
@@ -248,31 +301,90 @@ IsPlain word = slice_get word 0 ≢ Some 45
 
 -- an ELF core, of which nothing is known but both roots
 abbrev pub of_core : Text → Text → Text → DumpAsked
-of_core image host hyp = record { image = image; host = host; hyp = hyp; guests = []; profiles = []; skips = []; base = None; vmemmap = None; output = Report }
+of_core image host hyp =
+    record {
+      image = image;
+      host = host;
+      hyp = hyp;
+      guests = [];
+      profiles = [];
+      skips = [];
+      base = None;
+      vmemmap = None;
+      output = Report;
+    }
 
 -- the heap that `replay` takes, with its size, and that a race and an audit take none
 pub record TakesHeaps (words : List Text) (r : Result Invocation UsageFault) : Type 0 where
-  pub heap : (name file bytes : Text) (size : ℕ) → words ≡ name ∷ codes "replay" ∷ file ∷ codes "--heap" ∷ bytes ∷ [] → IsPlain file → IsPlain bytes → heap_size bytes ≡ Some size
+  pub heap : (name file bytes : Text) (size : ℕ)
+      → words ≡ name ∷ codes "replay" ∷ file ∷ codes "--heap" ∷ bytes ∷ []
+      → IsPlain file
+      → IsPlain bytes
+      → heap_size bytes ≡ Some size
       → Gives (Replaying file (Some size) Each Report) r
-  pub no_size : (name file bytes : Text) → words ≡ name ∷ codes "replay" ∷ file ∷ codes "--heap" ∷ bytes ∷ [] → IsPlain file → IsPlain bytes → heap_size bytes ≡ None → IsRefused r
-  pub no_heap : (name subcommand file bytes : Text) → (subcommand ≡ codes "race") ⊎ (subcommand ≡ codes "audit") → words ≡ name ∷ subcommand ∷ file ∷ codes "--heap" ∷ bytes ∷ [] → IsPlain file → IsRefused r
+  pub no_size : (name file bytes : Text)
+      → words ≡ name ∷ codes "replay" ∷ file ∷ codes "--heap" ∷ bytes ∷ []
+      → IsPlain file
+      → IsPlain bytes
+      → heap_size bytes ≡ None
+      → IsRefused r
+  pub no_heap : (name subcommand file bytes : Text)
+      → (subcommand ≡ codes "race") ⊎ (subcommand ≡ codes "audit")
+      → words ≡ name ∷ subcommand ∷ file ∷ codes "--heap" ∷ bytes ∷ []
+      → IsPlain file
+      → IsRefused r
 
 -- the words that are taken, the program's name first, and what they ask for
 pub record Takes (words : List Text) (r : Result Invocation UsageFault) : Type 0 where
-  pub replay : (name file : Text) → words ≡ name ∷ codes "replay" ∷ file ∷ [] → IsPlain file → Gives (Replaying file None Each Report) r
-  pub input : (name : Text) → words ≡ name ∷ codes "replay" ∷ codes "-" ∷ [] → Gives (Replaying (codes "-") None Each Report) r
+  pub replay : (name file : Text)
+      → words ≡ name ∷ codes "replay" ∷ file ∷ []
+      → IsPlain file
+      → Gives (Replaying file None Each Report) r
+  pub input : (name : Text)
+      → words ≡ name ∷ codes "replay" ∷ codes "-" ∷ []
+      → Gives (Replaying (codes "-") None Each Report) r
   pub heaps : TakesHeaps words r
-  pub race : (name file : Text) → words ≡ name ∷ codes "race" ∷ file ∷ [] → IsPlain file → Gives (Racing file Report) r
-  pub outcomes : (name file : Text) → words ≡ name ∷ codes "outcomes" ∷ file ∷ [] → IsPlain file → Gives (Finding file 100000 None Report) r
-  pub audit : (name file : Text) → words ≡ name ∷ codes "audit" ∷ file ∷ [] → IsPlain file → Gives (Auditing file Report) r
-  pub check : (name file : Text) → words ≡ name ∷ codes "check" ∷ file ∷ [] → IsPlain file → Gives (Checking (file ∷ []) Each Report) r
-  pub cover : (name file : Text) → words ≡ name ∷ codes "cover" ∷ file ∷ [] → IsPlain file → Gives (Covering (file ∷ []) false false) r
-  pub explain : (name file : Text) → words ≡ name ∷ codes "explain" ∷ file ∷ [] → IsPlain file → Gives (Explaining file None Report) r
-  pub generate : (name seed steps : Text) (n count : ℕ) → words ≡ name ∷ codes "generate" ∷ seed ∷ steps ∷ [] → IsPlain seed → IsPlain steps → number_of seed ≡ Some n → number_of steps ≡ Some count
+  pub race : (name file : Text)
+      → words ≡ name ∷ codes "race" ∷ file ∷ []
+      → IsPlain file
+      → Gives (Racing file Report) r
+  pub outcomes : (name file : Text)
+      → words ≡ name ∷ codes "outcomes" ∷ file ∷ []
+      → IsPlain file
+      → Gives (Finding file 100000 None Report) r
+  pub audit : (name file : Text)
+      → words ≡ name ∷ codes "audit" ∷ file ∷ []
+      → IsPlain file
+      → Gives (Auditing file Report) r
+  pub check : (name file : Text)
+      → words ≡ name ∷ codes "check" ∷ file ∷ []
+      → IsPlain file
+      → Gives (Checking (file ∷ []) Each Report) r
+  pub cover : (name file : Text)
+      → words ≡ name ∷ codes "cover" ∷ file ∷ []
+      → IsPlain file
+      → Gives (Covering (file ∷ []) false false) r
+  pub explain : (name file : Text)
+      → words ≡ name ∷ codes "explain" ∷ file ∷ []
+      → IsPlain file
+      → Gives (Explaining file None Report) r
+  pub generate : (name seed steps : Text) (n count : ℕ)
+      → words ≡ name ∷ codes "generate" ∷ seed ∷ steps ∷ []
+      → IsPlain seed
+      → IsPlain steps
+      → number_of seed ≡ Some n
+      → number_of steps ≡ Some count
       → Gives (Generating n count 4 2048 39 0) r
-  pub dump : (name image host hyp : Text) → words ≡ name ∷ codes "dump" ∷ image ∷ codes "--host" ∷ host ∷ codes "--hyp" ∷ hyp ∷ [] → IsPlain image → IsPlain host → IsPlain hyp
+  pub dump : (name image host hyp : Text)
+      → words ≡ name ∷ codes "dump" ∷ image ∷ codes "--host" ∷ host ∷ codes "--hyp" ∷ hyp ∷ []
+      → IsPlain image
+      → IsPlain host
+      → IsPlain hyp
       → Gives (Dumping (of_core image host hyp)) r
-  pub draw : (name file : Text) → words ≡ name ∷ codes "draw" ∷ file ∷ [] → IsPlain file → Gives (Drawing file false) r
+  pub draw : (name file : Text)
+      → words ≡ name ∷ codes "draw" ∷ file ∷ []
+      → IsPlain file
+      → Gives (Drawing file false) r
 
 -- ---- parts of it
 

@@ -10,7 +10,12 @@ needed id = record (new_rule id) { required = true; action = Some Set }
 
 -- values that must be given, one or more
 abbrev pub files : Rule
-files = record (new_rule (codes "FILE")) { required = true; range = Some (record { start_inclusive = 1; end_inclusive = usize_max }); action = Some Append }
+files =
+    record (new_rule (codes "FILE")) {
+      required = true;
+      range = Some (record { start_inclusive = 1; end_inclusive = usize_max });
+      action = Some Append;
+    }
 
 -- `--ID VALUE`
 abbrev pub option : Text → Rule
@@ -18,7 +23,8 @@ option id = record (new_rule id) { long = Some id; value_names = 1; action = Som
 
 -- `--ID VALUE` that must be given
 abbrev pub needed_option : Text → Rule
-needed_option id = record (new_rule id) { long = Some id; value_names = 1; required = true; action = Some Set }
+needed_option id =
+    record (new_rule id) { long = Some id; value_names = 1; required = true; action = Some Set }
 
 -- `--ID VALUE`, as often as it is given
 abbrev pub options : Text → Rule
@@ -47,7 +53,10 @@ reporting app = with_rule (with_rule app json) quiet
 
 -- the subcommands, by what they take
 abbrev pub replay : App
-replay = reporting (with_rule (with_rule (with_rule (new_app (codes "replay")) file) (option (codes "heap"))) oracle)
+replay =
+    reporting
+    (with_rule
+    (with_rule (with_rule (new_app (codes "replay")) file) (option (codes "heap"))) oracle)
 
 abbrev pub race : App
 race = reporting (with_rule (new_app (codes "race")) file)
@@ -56,36 +65,76 @@ abbrev pub audit : App
 audit = reporting (with_rule (new_app (codes "audit")) file)
 
 abbrev pub outcomes : App
-outcomes = reporting (with_rule (with_rule (with_rule (new_app (codes "outcomes")) file) (option (codes "limit"))) (option (codes "observed")))
+outcomes =
+    reporting
+    (with_rule
+    (with_rule (with_rule (new_app (codes "outcomes")) file) (option (codes "limit")))
+    (option (codes "observed")))
 
 abbrev pub check : App
-check = reporting (with_rule (with_rule (with_rule (new_app (codes "check")) files) (flag (codes "record"))) oracle)
+check =
+    reporting
+    (with_rule
+    (with_rule (with_rule (new_app (codes "check")) files) (flag (codes "record"))) oracle)
 
 abbrev pub cover : App
-cover = with_rule (with_rule (with_rule (new_app (codes "cover")) files) (flag (codes "missing"))) quiet
+cover =
+    with_rule (with_rule (with_rule (new_app (codes "cover")) files) (flag (codes "missing"))) quiet
 
 abbrev pub explain : App
 explain = reporting (with_rule (with_rule (new_app (codes "explain")) file) (option (codes "line")))
 
 abbrev pub generate : App
 generate =
-    with_rule (with_rule (with_rule (with_rule (with_rule (with_rule (new_app (codes "generate")) (needed (codes "SEED"))) (needed (codes "STEPS"))) (option (codes "cpus"))) (option (codes "pages")))
+    with_rule
+    (with_rule
+    (with_rule
+    (with_rule
+    (with_rule (with_rule (new_app (codes "generate")) (needed (codes "SEED")))
+    (needed (codes "STEPS")))
+    (option (codes "cpus")))
+    (option (codes "pages")))
     (option (codes "geometry"))) (option (codes "hostile"))
 
 abbrev pub draw : App
 draw = with_rule (with_rule (new_app (codes "draw")) file) (flag (codes "text"))
 
 abbrev pub roots : App
-roots = with_rule (with_rule (with_rule (with_rule (new_app (codes "dump")) (needed (codes "IMAGE"))) (needed_option (codes "host"))) (needed_option (codes "hyp"))) (options (codes "guest"))
+roots =
+    with_rule
+    (with_rule
+    (with_rule (with_rule (new_app (codes "dump")) (needed (codes "IMAGE")))
+    (needed_option (codes "host")))
+    (needed_option (codes "hyp")))
+    (options (codes "guest"))
 
 abbrev pub dump : App
-dump = reporting (with_rule (with_rule (with_rule (with_rule roots (options (codes "profile"))) (options (codes "skip"))) (option (codes "base"))) (option (codes "vmemmap")))
+dump =
+    reporting
+    (with_rule
+    (with_rule
+    (with_rule (with_rule roots (options (codes "profile"))) (options (codes "skip")))
+    (option (codes "base")))
+    (option (codes "vmemmap")))
 
 -- the program: it needs a subcommand, shows help without words, and has a version
 abbrev pub named : App
-named = record (new_app (codes "trace_cli")) { top = record (new_app (codes "trace_cli")).top { has_version = true; subcommand_required = true; arg_required_else_help = true } }
+named =
+    record (new_app (codes "trace_cli")) {
+      top = record (new_app (codes "trace_cli")).top
+          { has_version = true; subcommand_required = true; arg_required_else_help = true };
+    }
 
 abbrev pub program : App
 program =
-    with_subcommand (with_subcommand (with_subcommand (with_subcommand (with_subcommand (with_subcommand (with_subcommand (with_subcommand (with_subcommand (with_subcommand named replay.top) race.top) audit.top)
+    with_subcommand
+    (with_subcommand
+    (with_subcommand
+    (with_subcommand
+    (with_subcommand
+    (with_subcommand
+    (with_subcommand
+    (with_subcommand
+    (with_subcommand
+    (with_subcommand named replay.top) race.top) audit.top)
     outcomes.top) check.top) cover.top) explain.top) generate.top) draw.top) dump.top

@@ -157,7 +157,8 @@ fn file<'a>(inner: &ArgMatches<'a>) -> Result<&'a str, Unread>
 
 /// The heap that is given as `--heap`.
 fn heap(inner: &ArgMatches<'_>) -> Result<Option<usize>, Unread>
-    ensures { IsReadAs (heap_told (first_of (codes "heap") (rows_of (found_of inner.now)))) (λ size. size) result }
+    ensures { IsReadAs (heap_told (first_of (codes "heap") (rows_of (found_of inner.now))))
+        (λ size. size) result }
 {
     let Some(word) = value(inner, "heap") else {
         return Ok(None);
@@ -170,7 +171,8 @@ fn heap(inner: &ArgMatches<'_>) -> Result<Option<usize>, Unread>
 
 /// What is given as `--oracle`.
 fn looks(inner: &ArgMatches<'_>) -> Result<Looks, Unread>
-    ensures { IsReadAs (looks_told (first_of (codes "oracle") (rows_of (found_of inner.now)))) (λ looks. looks) result }
+    ensures { IsReadAs (looks_told (first_of (codes "oracle") (rows_of (found_of inner.now))))
+        (λ looks. looks) result }
 {
     let Some(word) = value(inner, "oracle") else {
         return Ok(Looks::Each);
@@ -209,7 +211,8 @@ fn output(inner: &ArgMatches<'_>) -> Output
 
 /// A number that must be given.
 fn number_of(inner: &ArgMatches<'_>, id: &str) -> Result<u64, Unread>
-    ensures { IsReadAs (option_and_then number_said (first_of id.now (rows_of (found_of inner.now)))) (λ value. value) result }
+    ensures { IsReadAs (option_and_then number_said (first_of id.now (rows_of (found_of inner.now))))
+        (λ value. value) result }
 {
     let Some(word) = value(inner, id) else {
         return Err(Unread::Word(Wanted::Number));
@@ -222,7 +225,8 @@ fn number_of(inner: &ArgMatches<'_>, id: &str) -> Result<u64, Unread>
 
 /// A number that may be given.
 fn number_or(inner: &ArgMatches<'_>, id: &str, otherwise: u64) -> Result<u64, Unread>
-    ensures { IsReadAs (number_told otherwise (first_of id.now (rows_of (found_of inner.now)))) (λ value. value) result }
+    ensures { IsReadAs (number_told otherwise (first_of id.now (rows_of (found_of inner.now))))
+        (λ value. value) result }
 {
     let Some(word) = value(inner, id) else {
         return Ok(otherwise);
@@ -235,7 +239,8 @@ fn number_or(inner: &ArgMatches<'_>, id: &str, otherwise: u64) -> Result<u64, Un
 
 /// The points that `--limit` allows.
 fn limit(inner: &ArgMatches<'_>) -> Result<u64, Unread>
-    ensures { IsReadAs (limit_told (first_of (codes "limit") (rows_of (found_of inner.now)))) (λ limit. limit) result }
+    ensures { IsReadAs (limit_told (first_of (codes "limit") (rows_of (found_of inner.now))))
+        (λ limit. limit) result }
 {
     let Some(word) = value(inner, "limit") else {
         return Ok(POINTS);
@@ -248,7 +253,8 @@ fn limit(inner: &ArgMatches<'_>) -> Result<u64, Unread>
 
 /// The line that is given as `--line`.
 fn line(inner: &ArgMatches<'_>) -> Result<Option<u64>, Unread>
-    ensures { IsReadAs (line_told (first_of (codes "line") (rows_of (found_of inner.now)))) (λ line. line) result }
+    ensures { IsReadAs (line_told (first_of (codes "line") (rows_of (found_of inner.now))))
+        (λ line. line) result }
 {
     let Some(word) = value(inner, "line") else {
         return Ok(None);
@@ -261,7 +267,8 @@ fn line(inner: &ArgMatches<'_>) -> Result<Option<u64>, Unread>
 
 /// The number that is given as an option, where it is given.
 fn given_number(inner: &ArgMatches<'_>, id: &str, wanted: Wanted) -> Result<Option<u64>, Unread>
-    ensures { IsReadAs (number_given (first_of id.now (rows_of (found_of inner.now)))) (λ number. number) result }
+    ensures { IsReadAs (number_given (first_of id.now (rows_of (found_of inner.now))))
+        (λ number. number) result }
 {
     let Some(word) = value(inner, id) else {
         return Ok(None);
@@ -284,7 +291,9 @@ fn word<'a>(inner: &ArgMatches<'a>, id: &str) -> Result<&'a str, Unread>
 
 /// All words that are given as this; none where nothing is.
 fn words<'a>(global: Global, inner: &ArgMatches<'a>, id: &str) -> Result<Vec<&'a str>, AllocError>
-    ensures { IfOk result (λ words. map (λ word. word.now) words.items ≡ unwrap_or (all_of id.now (rows_of (found_of inner.now))) []) }
+    ensures { IfOk result
+        (λ words. map (λ word. word.now) words.items
+        ≡ unwrap_or (all_of id.now (rows_of (found_of inner.now))) []) }
 {
     let Some(given) = inner.get_strs(id) else {
         return Ok(Vec::new(global));
@@ -296,7 +305,8 @@ fn words<'a>(global: Global, inner: &ArgMatches<'a>, id: &str) -> Result<Vec<&'a
 
 /// All that is given as FILE.
 fn files<'a>(global: Global, inner: &ArgMatches<'a>) -> Result<Vec<&'a str>, Unread>
-    ensures { IsReadUnlessMemory (all_of (codes "FILE") (rows_of (found_of inner.now))) (λ files. map (λ path. path.now) files.items) result }
+    ensures { IsReadUnlessMemory (all_of (codes "FILE") (rows_of (found_of inner.now)))
+        (λ files. map (λ path. path.now) files.items) result }
 {
     let Some(given) = inner.get_strs("FILE") else {
         return Err(Unread::Word(Wanted::File));

@@ -131,7 +131,8 @@ fn with<'a>(form: Command<'a>, arg: Arg<'a>) -> Result<Command<'a>, AllocError>
 /// The program's form with this subcommand too.
 fn with_form<'a>(form: Command<'a>, more: Command<'a>) -> Result<Command<'a>, AllocError>
     requires more { (fields_of more).has_globals ≡ false }
-    ensures app { IfOk result (λ whole. app_of whole ≡ with_subcommand (app_of form.entry) (app_of more.entry).top) }
+    ensures app { IfOk result
+        (λ whole. app_of whole ≡ with_subcommand (app_of form.entry) (app_of more.entry).top) }
 {
     form.subcommand(more)
 }

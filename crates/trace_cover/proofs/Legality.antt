@@ -31,11 +31,14 @@ no_hyp v = grind (arith, nat_tests)
 
 module _ (m : Machine) (frame : ℕ) where
   lent_to : (v : ℕ) → by_borrower m (2 + v) ≡ by_state (is_dying m v) SharedBorrowed
-  lent_to v = ap₂ (λ (b : Bool) (n : ℕ). cond b WithHyp (by_state (is_dying m n) SharedBorrowed)) (no_hyp v) (two_more v)
+  lent_to v =
+      ap₂ (λ (b : Bool) (n : ℕ). cond b WithHyp (by_state (is_dying m n) SharedBorrowed)) (no_hyp v) (two_more v)
 
   -- by whether the owner is the host, and then the hypervisor
   abbrev from_owner : Row → Bool → Condition
-  from_owner row b = cond b (of_host m frame row.lent) (cond (row.owner.0 == 1) (by_usage row.usage) (of_guest (is_dying m (row.owner.0 - 2)) row.lent))
+  from_owner row b =
+      cond b (of_host m frame row.lent)
+      (cond (row.owner.0 == 1) (by_usage row.usage) (of_guest (is_dying m (row.owner.0 - 2)) row.lent))
 
   abbrev from_hyp : Row → Bool → Condition
   from_hyp row b = cond b (by_usage row.usage) (of_guest (is_dying m (row.owner.0 - 2)) row.lent)
@@ -57,10 +60,14 @@ module _ (m : Machine) (frame : ℕ) where
 
 pub same_condition : SameCondition
 same_condition m legal frame is =
-    ap (by_row m frame) (legal.rows frame is) ∙ by_condition m frame (legal.condition frame) (legal.of_layout.inside frame ∙ is)
+    ap (by_row m frame) (legal.rows frame is)
+    ∙ by_condition m frame (legal.condition frame) (legal.of_layout.inside frame ∙ is)
 
 -- the guest of a loaded vCPU is Live
-loaded_live : (l : Layout) (s : Contents) (cpu : ℕ) (k : Loaded) → Legal l s → (s.cpu cpu).loaded ≡ Some k → (s.guest k.vm.slot).phase ≡ live
+loaded_live : (l : Layout) (s : Contents) (cpu : ℕ) (k : Loaded)
+    → Legal l s
+    → (s.cpu cpu).loaded ≡ Some k
+    → (s.guest k.vm.slot).phase ≡ live
 loaded_live l s cpu k legal is =
     let held = legal.slots.agree.loads.loaded cpu k is in
     legal.slots.agree.guests.open_live k.vm.slot (legal.slots.agree.loads.loads k.vm.slot k.vcpu cpu held.0).0
@@ -76,20 +83,25 @@ leaf_live : (e : Entry) (c : Condition) → leaf_condition false e ≡ Some c �
 leaf_live Unmapped c is = absurd (no_some c is)
 leaf_live Malformed c is = absurd (no_some c is)
 leaf_live (Annotated owner) c is = absurd (no_some c is)
-leaf_live (Leaf frame prot kind SharedBorrowed) c is = subst (λ x. is_of_dying x ≡ false) (some_same WithGuest c is) refl
+leaf_live (Leaf frame prot kind SharedBorrowed) c is =
+    subst (λ x. is_of_dying x ≡ false) (some_same WithGuest c is) refl
 leaf_live (Leaf frame prot kind Owned) c is = subst (λ x. is_of_dying x ≡ false) (some_same Guests c is) refl
 leaf_live (Leaf frame prot kind SharedOwned) c is = subst (λ x. is_of_dying x ≡ false) (some_same LentBack c is) refl
 
 -- a call of a loaded vCPU
 module _ (m : Machine) (legal : Legal m.layout m.state.contents) (cpu page : ℕ) (c : Condition) where
-  loaded_at : (o : Option Loaded) → (m.state.contents.cpu cpu).loaded ≡ o → loaded_condition m o page ≡ Some c → is_of_dying c ≡ false
+  loaded_at : (o : Option Loaded)
+      → (m.state.contents.cpu cpu).loaded ≡ o
+      → loaded_condition m o page ≡ Some c
+      → is_of_dying c ≡ false
   loaded_at None held is = absurd (no_some c is)
   loaded_at (Some k) held is =
       let alive = ap (λ (p : Phase). phase_eq p dying) (loaded_live m.layout m.state.contents cpu k legal held) in
       leaf_live ((m.state.contents.guest k.vm.slot).tree.map page) c
       (subst (λ (b : Bool). leaf_condition b ((m.state.contents.guest k.vm.slot).tree.map page) ≡ Some c) alive is)
 
-  may_come : loaded_condition m (m.state.contents.cpu cpu).loaded page ≡ Some c → cond (is_of_dying c) (Some none_loaded) None ≡ None
+  may_come : loaded_condition m (m.state.contents.cpu cpu).loaded page ≡ Some c
+      → cond (is_of_dying c) (Some none_loaded) None ≡ None
   may_come is = ap (λ (b : Bool). cond b (Some none_loaded) None) (loaded_at (m.state.contents.cpu cpu).loaded refl is)
 
 pub never_found : NeverFound

@@ -40,7 +40,8 @@ one_reply call true (Some NoMemory) = refl
 one_reply call true (Some Contended) = refl
 one_reply call false why = refl
 
-one_cell : (call : CallName) (b : Bool) (condition : Option Condition) → sum_by (to_cell b condition) (rows_of call) ≡ one (b && is_some condition)
+one_cell : (call : CallName) (b : Bool) (condition : Option Condition)
+    → sum_by (to_cell b condition) (rows_of call) ≡ one (b && is_some condition)
 one_cell call true None = refl
 one_cell call true (Some Device) = refl
 one_cell call true (Some Untouched) = refl
@@ -104,7 +105,10 @@ adds_cell x (Cell call condition) = one (meets (Cell call condition) x)
 
 in_replies : (x : Seen) (cs : List CallName) → sum_by (adds_reply x) (rows_in cs) ≡ sum_by (of_call x.call) cs
 in_replies x [] = refl
-in_replies x (c ∷ cs) = sum_by-append (adds_reply x) (rows_of c) (rows_in cs) ∙ ap₂ (λ (a b : ℕ). a + b) (one_reply c (is_of_call c x.call) x.why) (in_replies x cs) ∙ sym (sum_by-cons (of_call x.call) c cs)
+in_replies x (c ∷ cs) =
+    sum_by-append (adds_reply x) (rows_of c) (rows_in cs)
+    ∙ ap₂ (λ (a b : ℕ). a + b) (one_reply c (is_of_call c x.call) x.why) (in_replies x cs)
+    ∙ sym (sum_by-cons (of_call x.call) c cs)
 
 -- of calls that are a step's, those whose frame is in a condition
 abbrev of_cell : Seen → CallName → ℕ
@@ -112,7 +116,10 @@ of_cell x c = one (is_of_call c x.call && is_some x.condition)
 
 in_cells : (x : Seen) (cs : List CallName) → sum_by (adds_cell x) (rows_in cs) ≡ sum_by (of_cell x) cs
 in_cells x [] = refl
-in_cells x (c ∷ cs) = sum_by-append (adds_cell x) (rows_of c) (rows_in cs) ∙ ap₂ (λ (a b : ℕ). a + b) (one_cell c (is_of_call c x.call) x.condition) (in_cells x cs) ∙ sym (sum_by-cons (of_cell x) c cs)
+in_cells x (c ∷ cs) =
+    sum_by-append (adds_cell x) (rows_of c) (rows_in cs)
+    ∙ ap₂ (λ (a b : ℕ). a + b) (one_cell c (is_of_call c x.call) x.condition) (in_cells x cs)
+    ∙ sym (sum_by-cons (of_cell x) c cs)
 
 and_true : (a : Bool) → one (a && true) ≡ one a
 and_true true = refl
@@ -128,11 +135,14 @@ held call o c = one (is_of_call c call && o)
 
 all_held : (call : CallName) (cs : List CallName) → sum_by (held call true) cs ≡ sum_by (of_call call) cs
 all_held call [] = refl
-all_held call (c ∷ cs) = sum_by-cons (held call true) c cs ∙ ap₂ (λ (a b : ℕ). a + b) (and_true (is_of_call c call)) (all_held call cs) ∙ sym (sum_by-cons (of_call call) c cs)
+all_held call (c ∷ cs) =
+    sum_by-cons (held call true) c cs ∙ ap₂ (λ (a b : ℕ). a + b) (and_true (is_of_call c call)) (all_held call cs)
+    ∙ sym (sum_by-cons (of_call call) c cs)
 
 none_held : (call : CallName) (cs : List CallName) → sum_by (held call false) cs ≡ 0
 none_held call [] = refl
-none_held call (c ∷ cs) = sum_by-cons (held call false) c cs ∙ ap₂ (λ (a b : ℕ). a + b) (and_false (is_of_call c call)) (none_held call cs)
+none_held call (c ∷ cs) =
+    sum_by-cons (held call false) c cs ∙ ap₂ (λ (a b : ℕ). a + b) (and_false (is_of_call c call)) (none_held call cs)
 
 one_held : (call : CallName) (o : Bool) → sum_by (held call o) calls ≡ one o
 one_held call true = all_held call calls ∙ one_call call
@@ -145,7 +155,8 @@ swapped a b c d = omega arith
 both : (f g h : Row → ℕ) → ((r : Row) → h r ≡ f r + g r) → (rs : List Row) → sum_by h rs ≡ sum_by f rs + sum_by g rs
 both f g h is [] = refl
 both f g h is (r ∷ rs) =
-    sum_by-cons h r rs ∙ ap₂ (λ (a b : ℕ). a + b) (is r) (both f g h is rs) ∙ swapped (f r) (g r) (sum_by f rs) (sum_by g rs)
+    sum_by-cons h r rs ∙ ap₂ (λ (a b : ℕ). a + b) (is r) (both f g h is rs)
+    ∙ swapped (f r) (g r) (sum_by f rs) (sum_by g rs)
     ∙ sym (ap₂ (λ (a b : ℕ). a + b) (sum_by-cons f r rs) (sum_by-cons g r rs))
 
 none : (f : Row → ℕ) → ((r : Row) → f r ≡ 0) → (rs : List Row) → sum_by f rs ≡ 0

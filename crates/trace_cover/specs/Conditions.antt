@@ -10,7 +10,8 @@ use Rattle.trace_cover.specs.declared.condition.Condition.TheVariants.{Device, U
 -- all conditions, in the order of the report
 abbrev pub conditions : List Condition
 conditions =
-    Device ∷ Untouched ∷ Mapped ∷ WithHyp ∷ HypPlain ∷ InSharedPool ∷ InVmPool ∷ InHand ∷ WithGuest ∷ WithDying ∷ Guests ∷ OfDying ∷ LentBack
+    Device ∷ Untouched ∷ Mapped ∷ WithHyp ∷ HypPlain ∷ InSharedPool ∷ InVmPool ∷ InHand ∷ WithGuest
+    ∷ WithDying ∷ Guests ∷ OfDying ∷ LentBack
     ∷ LentByDying ∷ []
 
 -- their places there

@@ -28,7 +28,8 @@ by_entry e = if is_unmapped e then Untouched else Mapped
 
 -- of a frame of the host that is lent, by the owner's number of the borrower
 abbrev pub by_borrower : Machine → ℕ → Condition
-by_borrower m owner = if owner == 1 then WithHyp else by_state (is_dying m (owner - 2)) SharedBorrowed
+by_borrower m owner =
+    if owner == 1 then WithHyp else by_state (is_dying m (owner - 2)) SharedBorrowed
 
 -- of a frame of the host, by whom it is lent to
 abbrev pub of_host : Machine → ℕ → Option Lent → Condition
@@ -40,7 +41,8 @@ abbrev pub of_guest : Bool → Option Lent → Condition
 of_guest ends None = by_state ends Owned
 of_guest ends (Some lent) = by_state ends SharedOwned
 
--- of a memory frame, by its owner row: owner 0 is the host, 1 the hypervisor, 2 + v the guest in slot v
+-- of a memory frame, by its owner row: owner 0 is the host, 1 the hypervisor, 2 + v the guest in
+-- slot v
 abbrev pub by_row : Machine → ℕ → Row → Condition
 by_row m frame row =
     if row.owner.0 == 0 then of_host m frame row.lent
@@ -50,7 +52,8 @@ by_row m frame row =
 -- of a page: a memory frame's by its row, and a device's page. None outside of all regions
 abbrev pub frame_condition : Machine → ℕ → Option Condition
 frame_condition m frame =
-    if has_memory m.layout.memory frame then Some (by_row m frame (m.state.contents.shared.row frame))
+    if has_memory m.layout.memory frame
+    then Some (by_row m frame (m.state.contents.shared.row frame))
     else (if is_some (region_of m.layout.memory frame) then Some Device
     else None)
 
@@ -61,18 +64,23 @@ leaf_condition ends other = None
 
 -- of the frame that the guest in a slot maps at a page
 abbrev pub page_condition : Machine → ℕ → ℕ → Option Condition
-page_condition m slot page = leaf_condition (is_dying m slot) ((m.state.contents.guest slot).tree.map page)
+page_condition m slot page =
+    leaf_condition (is_dying m slot) ((m.state.contents.guest slot).tree.map page)
 
 -- of that of a VM, where the guest has the name's generation
 abbrev pub named_condition : Machine → VmId → ℕ → Option Condition
-named_condition m vm page = if (m.state.contents.guest vm.slot).generation == vm.generation then page_condition m vm.slot page else None
+named_condition m vm page =
+    if (m.state.contents.guest vm.slot).generation == vm.generation
+    then page_condition m vm.slot page
+    else None
 
 -- of that of the vCPU which a CPU has loaded
 abbrev pub loaded_condition : Machine → Option Loaded → ℕ → Option Condition
 loaded_condition m None page = None
 loaded_condition m (Some loaded) page = page_condition m loaded.vm.slot page
 
--- of the frame that a step of a CPU names, or of the one at the guest's page that it names; of a range the first. The other steps name none, or only look
+-- of the frame that a step of a CPU names, or of the one at the guest's page that it names; of a
+-- range the first. The other steps name none, or only look
 abbrev pub condition_at : Machine → ℕ → Step → Option Condition
 condition_at m cpu (steps.ShareHyp frame) = frame_condition m frame
 condition_at m cpu (steps.UnshareHyp frame) = frame_condition m frame
@@ -84,7 +92,10 @@ condition_at m cpu (steps.ShareGuest frame page rights count) = frame_condition 
 condition_at m cpu (steps.DonateGuest frame page count) = frame_condition m frame
 condition_at m cpu (steps.UnshareGuest vm page) = named_condition m vm page
 condition_at m cpu (steps.ReclaimPage vm page) = named_condition m vm page
-condition_at m cpu (steps.GuestShareHost page) = loaded_condition m (m.state.contents.cpu cpu).loaded page
-condition_at m cpu (steps.GuestUnshareHost page) = loaded_condition m (m.state.contents.cpu cpu).loaded page
-condition_at m cpu (steps.GuestRelax page rights) = loaded_condition m (m.state.contents.cpu cpu).loaded page
+condition_at m cpu (steps.GuestShareHost page) =
+    loaded_condition m (m.state.contents.cpu cpu).loaded page
+condition_at m cpu (steps.GuestUnshareHost page) =
+    loaded_condition m (m.state.contents.cpu cpu).loaded page
+condition_at m cpu (steps.GuestRelax page rights) =
+    loaded_condition m (m.state.contents.cpu cpu).loaded page
 condition_at m cpu other = None

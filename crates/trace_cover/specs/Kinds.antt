@@ -52,10 +52,13 @@ is_of_dying other = false
 
 -- a call names a frame in this condition, or a page of a guest that maps one
 abbrev pub names : CallName → Condition → Bool
-names call condition = if is_of_frame call then true else (if is_of_loaded call then is_of_guest condition else (if is_of_named call then is_of_guest condition else false))
+names call condition =
+    if is_of_frame call then true
+    else (if is_of_loaded call then is_of_guest condition
+    else (if is_of_named call then is_of_guest condition else false))
 
--- the calls whose rule has a test of its arguments, of a VM, a vCPU or a ticket (those on host and hypervisor alone have none), of what may be in use, and of
--- pages, frames, hands and pools
+-- the calls whose rule has a test of its arguments, of a VM, a vCPU or a ticket (those on host and
+-- hypervisor alone have none), of what may be in use, and of pages, frames, hands and pools
 abbrev pub has_argument : CallName → Bool
 has_argument Unfund = false
 has_argument Install = false
@@ -123,7 +126,8 @@ wants_tables FinishGuest = true
 wants_tables GuestRelax = true
 wants_tables other = false
 
--- a call's rule tells a refusal. Each call needs a log; want of memory is this machine's, and nothing is contended
+-- a call's rule tells a refusal. Each call needs a log; want of memory is this machine's, and
+-- nothing is contended
 abbrev pub tells : CallName → Refusal → Bool
 tells call Invalid = has_argument call
 tells call NoVm = wants_vm call
@@ -140,14 +144,16 @@ is_told (Reply call None) = true
 is_told (Reply call (Some why)) = tells call why
 is_told (Cell call condition) = names call condition
 
--- `teardown` is busy while a vCPU of the VM is loaded, `vcpu_load` wants an open VM, and `mark_dying` one that was torn down
+-- `teardown` is busy while a vCPU of the VM is loaded, `vcpu_load` wants an open VM, and
+-- `mark_dying` one that was torn down
 abbrev pub none_loaded : List ℕ
 none_loaded = codes "no CPU has a vCPU of a Dying guest loaded"
 
 -- why no run meets a row, though it is told
 abbrev pub impossible : Row → Option (List ℕ)
 impossible (Reply call why) = None
-impossible (Cell call condition) = if is_of_loaded call && is_of_dying condition then Some none_loaded else None
+impossible (Cell call condition) =
+    if is_of_loaded call && is_of_dying condition then Some none_loaded else None
 
 -- a row that a run can meet
 abbrev pub is_asked : Row → Bool

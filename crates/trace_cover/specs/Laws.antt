@@ -42,7 +42,8 @@ pub record ChangesNoMap (h : Changes) : Type 0 where
   pub hyp : h.hyp ≡ None
   pub guest : h.guest ≡ None
 
--- what a call's rule tells isn't said of it, so its test passes, whatever the rule reads: its four tests, that it names no guest, and that it needs no tables
+-- what a call's rule tells isn't said of it, so its test passes, whatever the rule reads: its four
+-- tests, that it names no guest, and that it needs no tables
 pub record PassesUntold (call : CallName) (step : Step) (r : Rule) : Type 0 where
   pub valid : tells call Invalid ≡ false → r.valid.passes ≡ true
   pub has_vm : tells call NoVm ≡ false → r.has_vm.passes ≡ true
@@ -52,4 +53,5 @@ pub record PassesUntold (call : CallName) (step : Step) (r : Rule) : Type 0 wher
   pub tables : tells call NoPool ≡ false → ChangesNoMap r.changes
 
 abbrev pub UntoldPass : Type 0
-UntoldPass = (step : Step) (x : Reads) → PassesUntold (named_by step).call step ((step_rule step).rule x)
+UntoldPass =
+    (step : Step) (x : Reads) → PassesUntold (named_by step).call step ((step_rule step).rule x)

@@ -13,7 +13,8 @@ use Rattle.trace_cover.specs.Found.{by_entry, by_row, condition_at, is_dying}
 use Rattle.trace_cover.specs.Kinds.{impossible}
 use Rattle.trace_text.specs.Worlds.{Machine}
 
--- how the report names a condition of the invariant: the host's by the host's entry, a guest's by whether it is Dying
+-- how the report names a condition of the invariant: the host's by the host's entry, a guest's by
+-- whether it is Dying
 abbrev pub reported : Machine → ℕ → FrameCondition → Condition
 reported m frame outside = Device
 reported m frame hosts = by_entry (m.state.contents.shared.host.map frame)
@@ -25,9 +26,15 @@ reported m frame (lent_back v page) = by_state (is_dying m v) SharedOwned
 
 -- the condition that is counted of a memory frame is the invariant's
 abbrev pub SameCondition : Type 0
-SameCondition = (m : Machine) (legal : Legal m.layout m.state.contents) (frame : ℕ) → is_memory m.layout frame ≡ true
+SameCondition =
+    (m : Machine) (legal : Legal m.layout m.state.contents) (frame : ℕ)
+    → is_memory m.layout frame ≡ true
     → by_row m frame (m.state.contents.shared.row frame) ≡ reported m frame (legal.condition frame)
 
 -- no step finds a frame in a condition that is told to be impossible
 abbrev pub NeverFound : Type 0
-NeverFound = (m : Machine) (legal : Legal m.layout m.state.contents) (cpu : ℕ) (step : Step) (condition : Condition) → condition_at m cpu step ≡ Some condition → impossible (Cell (named_by step).call condition) ≡ None
+NeverFound =
+    (m : Machine) (legal : Legal m.layout m.state.contents) (cpu : ℕ) (step : Step)
+    (condition : Condition)
+    → condition_at m cpu step ≡ Some condition
+    → impossible (Cell (named_by step).call condition) ≡ None

@@ -1,4 +1,5 @@
--- The rows of the report (profile): each call with each reply, and with each condition of the frame that it names.
+-- The rows of the report (profile): each call with each reply, and with each condition of the frame
+-- that it names.
 use Rattle.std.specs.Prelude.{ℕ, List, [], ◌∷◌, ◌++◌, codes, map, Option, Some, None}
 use Rattle.call_table.specs.declared.reply.Refusal.{Refusal}
 use Rattle.call_table.specs.declared.reply.Refusal.TheVariants.{Perm, NoVm, Contended, NoMemory, Busy, Invalid, NoPool, LogFull}
@@ -11,7 +12,9 @@ use Rattle.trace_cover.specs.Conditions.{conditions, words_of}
 
 -- the replies: made, and each refusal
 abbrev pub replies : List (Option Refusal)
-replies = None ∷ Some Invalid ∷ Some NoVm ∷ Some Busy ∷ Some Perm ∷ Some NoPool ∷ Some LogFull ∷ Some NoMemory ∷ Some Contended ∷ []
+replies =
+    None ∷ Some Invalid ∷ Some NoVm ∷ Some Busy ∷ Some Perm ∷ Some NoPool ∷ Some LogFull
+    ∷ Some NoMemory ∷ Some Contended ∷ []
 
 -- their places there
 abbrev pub reply_number : Option Refusal → ℕ

@@ -59,39 +59,55 @@ refused (Refused why) = Some why
 
 -- what is counted of a step that a line of the report tells
 abbrev pub seen_in : Step → Option Condition → Response → List Seen
-seen_in step condition (responses.Step number by reply) = (record { call = (named_by step).call; why = refused reply; condition = condition }) ∷ []
+seen_in step condition (responses.Step number by reply) =
+    (record { call = (named_by step).call; why = refused reply; condition = condition }) ∷ []
 seen_in step condition other = []
 
--- what is counted of a line, by what it reports: its call, its reply, and the condition of its frame. Nothing where it is no step
+-- what is counted of a line, by what it reports: its call, its reply, and the condition of its
+-- frame. Nothing where it is no step
 abbrev pub seen_of : Option (ℕ × Step) → Option Condition → List ReportLine → List Seen
-seen_of (Some (cpu, step)) condition (report.Response response ∷ more) = seen_in step condition response
+seen_of (Some (cpu, step)) condition (report.Response response ∷ more) =
+    seen_in step condition response
 seen_of asked condition reported = []
 
 -- so of a line at this point of a trace
 abbrev pub seen_at : Standing → List ℕ → List ReportLine → List Seen
-seen_at old line reported = seen_of (step_in (line_said old line)) (condition_before old.machine (step_in (line_said old line))) reported
+seen_at old line reported =
+    seen_of (step_in (line_said old line))
+    (condition_before old.machine (step_in (line_said old line))) reported
 
 module _ (name : List ℕ) (all : List (List ℕ)) where
-  -- what is counted from a line on that answers so: its step, and then those of the lines after it. A fault is the end, and is told
-  abbrev pub Goes : ℕ → List ℕ → Standing → Answer → (List Seen → List ℕ → Outcome → Type 0) → List Seen → List ℕ → Outcome → Type 0
-  Goes place line old (Err (stops.Fault fault)) follows seen text outcome = (seen ≡ []) × (text ≡ place_line name all place fault) × (outcome ≡ outcomes.Fault)
+  -- what is counted from a line on that answers so: its step, and then those of the lines after it.
+  -- A fault is the end, and is told
+  abbrev pub Goes : ℕ → List ℕ → Standing → Answer → (List Seen → List ℕ → Outcome → Type 0)
+      → List Seen → List ℕ → Outcome → Type 0
+  Goes place line old (Err (stops.Fault fault)) follows seen text outcome =
+      (seen ≡ []) × (text ≡ place_line name all place fault) × (outcome ≡ outcomes.Fault)
   Goes place line old (Err stops.NoMemory) follows seen text outcome = ⊥
-  Goes place line old (Ok reported) follows seen text outcome = (more : List Seen) × (seen ≡ seen_at old line reported ++ more) × follows more text outcome
+  Goes place line old (Ok reported) follows seen text outcome =
+      (more : List Seen) × (seen ≡ seen_at old line reported ++ more) × follows more text outcome
 
   -- a trace ends here
   abbrev pub Ends : List Seen → List ℕ → Outcome → Type 0
   Ends seen text outcome = (seen ≡ []) × (text ≡ []) × (outcome ≡ outcomes.Clean)
 
   -- so does one before a poke, and otherwise the line is carried out as a replay does
-  abbrev pub GoesOn : Bool → ℕ → List ℕ → Standing → (Standing → List Seen → List ℕ → Outcome → Type 0) → List Seen → List ℕ → Outcome → Type 0
+  abbrev pub GoesOn : Bool → ℕ → List ℕ → Standing
+      → (Standing → List Seen → List ℕ → Outcome → Type 0) → List Seen → List ℕ → Outcome → Type 0
   GoesOn true place line old follows seen text outcome = Ends seen text outcome
   GoesOn false place line old follows seen text outcome =
-      (answer : Answer) × (new : Standing) × IsPlayed agreed (place + 1) line old answer new × Goes place line old answer (follows new) seen text outcome
+      (answer : Answer)
+      × (new : Standing)
+      × IsPlayed agreed (place + 1) line old answer new
+      × Goes place line old answer (follows new) seen text outcome
 
-  -- the steps of the lines of a trace, from a place on, up to its first poke, its first fault or its end; `name` is the trace's file
+  -- the steps of the lines of a trace, from a place on, up to its first poke, its first fault or
+  -- its end; `name` is the trace's file
   abbrev pub Counts : ℕ → Standing → List (List ℕ) → List Seen → List ℕ → Outcome → Type 0
   Counts place old [] seen text outcome = Ends seen text outcome
-  Counts place old (line ∷ rest) seen text outcome = GoesOn (is_poke (line_said old line)) place line old (λ new. Counts (place + 1) new rest) seen text outcome
+  Counts place old (line ∷ rest) seen text outcome =
+      GoesOn (is_poke (line_said old line)) place line old
+      (λ new. Counts (place + 1) new rest) seen text outcome
 
   -- so of all lines of a trace
   abbrev pub CountsAll : List Seen → List ℕ → Outcome → Type 0

@@ -46,7 +46,8 @@ lines_of only_missing (c ∷ more) = line_of only_missing c ++ lines_of only_mis
 
 -- the last line: how many steps there are, and how many rows never came
 abbrev pub end_line : ℕ → ℕ → List ℕ
-end_line steps missing = codes "end steps " ++ decimal steps ++ codes " missing " ++ decimal missing ++ 10 ∷ []
+end_line steps missing =
+    codes "end steps " ++ decimal steps ++ codes " missing " ++ decimal missing ++ 10 ∷ []
 
 -- how many rows never came, of those that can
 abbrev pub missing_of : List Seen → ℕ
@@ -54,5 +55,6 @@ missing_of seen = count_by is_missing (counted seen rows)
 
 -- the report of steps
 pub record Tells (only_missing : Bool) (seen : List Seen) (covered : Covered) : Type 0 where
-  pub text : covered.text.items ≡ lines_of only_missing (counted seen rows) ++ end_line (length seen) (missing_of seen)
+  pub text : covered.text.items
+      ≡ lines_of only_missing (counted seen rows) ++ end_line (length seen) (missing_of seen)
   pub missing : covered.missing ≡ missing_of seen

@@ -16,7 +16,8 @@ use Rattle.trace_text.specs.Session.{Standing}
 use Rattle.trace_text.specs.View.{answer_of, standing_of}
 
 -- the steps of a trace's lines are added to some, and the place of its fault to a text
-pub record AddsAll (name : List ℕ) (lines : List (List ℕ)) (before : List Seen) (said : List ℕ) (after : List Seen) (told : List ℕ) (outcome : Outcome) : Type 0 where
+pub record AddsAll (name : List ℕ) (lines : List (List ℕ)) (before : List Seen) (said : List ℕ)
+    (after : List Seen) (told : List ℕ) (outcome : Outcome) : Type 0 where
   pub steps : List Seen
   pub text : List ℕ
   pub counts : CountsAll name lines steps text outcome
@@ -31,14 +32,37 @@ abbrev pub line_at : List (Bor (List ℕ)) → ℕ → List ℕ
 line_at lines place = slice_index_or (lines_in lines) place []
 
 -- the line at a place was carried out by a session, with this result
-abbrev pub IsPlayedAt : {A : Type 0} → List (Bor (List ℕ)) → ℕ → Session A → Result Reported Stop → Session A → Type 0
-IsPlayedAt lines place old result new = IsPlayed agreed (place + 1) (line_at lines place) (standing_of old) (answer_of new result) (standing_of new)
+abbrev pub IsPlayedAt : {A : Type 0}
+    → List (Bor (List ℕ))
+    → ℕ
+    → Session A
+    → Result Reported Stop
+    → Session A
+    → Type 0
+IsPlayedAt lines place old result new =
+    IsPlayed agreed (place + 1) (line_at lines place) (standing_of old) (answer_of new result)
+    (standing_of new)
 
 -- a line was carried out, and its step is added; or it has a fault, and nothing is added
-abbrev pub IsCounted : ℕ → List ℕ → Standing → List Seen → Standing → List Seen → Option Fault → Type 0
-IsCounted number line old before new after None = (reported : List ReportLine) × IsPlayed agreed number line old (Ok reported) new × (after ≡ before ++ seen_at old line reported)
-IsCounted number line old before new after (Some fault) = IsPlayed agreed number line old (Err (stops.Fault fault)) new × (after ≡ before)
+abbrev pub IsCounted : ℕ → List ℕ → Standing → List Seen → Standing → List Seen → Option Fault
+    → Type 0
+IsCounted number line old before new after None =
+    (reported : List ReportLine)
+    × IsPlayed agreed number line old (Ok reported) new
+    × (after ≡ before ++ seen_at old line reported)
+IsCounted number line old before new after (Some fault) =
+    IsPlayed agreed number line old (Err (stops.Fault fault)) new × (after ≡ before)
 
 -- the same of a session, and of the line at a place
-abbrev pub IsCountedAt : {A : Type 0} → List (Bor (List ℕ)) → ℕ → Session A → List Seen → Session A → List Seen → Option Fault → Type 0
-IsCountedAt lines place old before new after fault = IsCounted (place + 1) (line_at lines place) (standing_of old) before (standing_of new) after fault
+abbrev pub IsCountedAt : {A : Type 0}
+    → List (Bor (List ℕ))
+    → ℕ
+    → Session A
+    → List Seen
+    → Session A
+    → List Seen
+    → Option Fault
+    → Type 0
+IsCountedAt lines place old before new after fault =
+    IsCounted (place + 1) (line_at lines place) (standing_of old) before
+    (standing_of new) after fault

@@ -30,7 +30,8 @@ use world::World;
 
 /// What the guest in a slot holds. None where it is Empty, and of a slot past the last.
 fn guest_body<A: Allocator>(world: &World<A>, slot: u64) -> Option<&Body<A>>
-    ensures { MatchOption result (body_at world.now slot ≡ None) (λ body. body_at world.now slot ≡ Some body.now) }
+    ensures { MatchOption result (body_at world.now slot ≡ None)
+        (λ body. body_at world.now slot ≡ Some body.now) }
 {
     let part = world.parts().guests.get(slot as usize)?;
     part.guest.body()

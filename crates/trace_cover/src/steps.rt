@@ -38,7 +38,9 @@ pub fn add_steps<A: Allocator + Copy>(
     seen: &mut Vec<Seen>,
     text: &mut Vec<u8>,
 ) -> Result<Outcome, AllocError>
-    ensures { IfOk result (AddsAll name.now (lines_of trace.now) seen.old.items text.old.items seen.new.items text.new.items) }
+    ensures { IfOk result
+        (AddsAll name.now
+        (lines_of trace.now) seen.old.items text.old.items seen.new.items text.new.items) }
 {
     let lines = lines(global, trace)?;
     let mut session = Session::new(global, alloc);
@@ -58,7 +60,9 @@ fn count_lines<A: Allocator + Copy>(
 ) -> Result<Outcome, AllocError>
     requires start { standing_of session.old ≡ at_start }
     requires ready { IsReady session.old }
-    ensures { IfOk result (AddsAll name.now (lines_in lines.now) seen.old.items text.old.items seen.new.items text.new.items) }
+    ensures { IfOk result
+        (AddsAll name.now
+        (lines_in lines.now) seen.old.items text.old.items seen.new.items text.new.items) }
 {
     for place in 0..lines.len() {
         if is_poke(session, lines[place]) {
@@ -75,7 +79,9 @@ fn count_lines<A: Allocator + Copy>(
 
 /// What is allowed at this point of a trace: as in an audit before its first poke.
 fn allowed<A: Allocator + Copy>(session: &Session<A>) -> Allows
-    ensures { result ≡ allowed_by (is_some (standing_of session.now).machine) (standing_of session.now).started }
+    ensures { result
+        ≡ allowed_by (is_some (standing_of session.now).machine)
+        (standing_of session.now).started }
 {
     if session.has_booted() {
         Allows::of_audit(session.has_started())
@@ -126,7 +132,8 @@ fn count_line<A: Allocator + Copy>(
     requires place { place < length lines.now }
     requires few { (standing_of session.old).steps ≤ place }
     requires ready { IsReady session.old }
-    ensures done { IfOk result (IsCountedAt lines.now place session.old seen.old.items session.new seen.new.items) }
+    ensures done { IfOk result
+        (IsCountedAt lines.now place session.old seen.old.items session.new seen.new.items) }
     ensures steps { (standing_of session.new).steps ≤ place + 1 }
     ensures ready { IsReady session.new }
 {
@@ -170,7 +177,9 @@ fn add_seen<A: Allocator + Copy>(
     condition: Option<Condition>,
     reported: Reported,
 ) -> Result<(), AllocError>
-    ensures { OnOk result (seen.new.items ≡ seen.old.items ++ seen_of asked condition (lines_reported session.now reported)) }
+    ensures { OnOk result
+        (seen.new.items
+        ≡ seen.old.items ++ seen_of asked condition (lines_reported session.now reported)) }
 {
     let Some((_, step)) = asked else {
         return Ok(());

@@ -20,20 +20,39 @@ placed : {X : Type 0} (xs ys : List X) (x : X) → slice_get (xs ++ (x ∷ ys)) 
 placed [] ys x = refl
 placed (y ∷ xs) ys x = placed xs ys x
 
-has_more : (elements ys : List Item) (left right : ℕ) → HasRectangle elements left right → HasRectangle (elements ++ ys) left right
-has_more elements ys left right h = record { place = h.place; rectangle = h.rectangle; element = kept elements ys h.place _ h.element; left_is = h.left_is; width_is = h.width_is }
+has_more : (elements ys : List Item) (left right : ℕ)
+    → HasRectangle elements left right
+    → HasRectangle (elements ++ ys) left right
+has_more elements ys left right h =
+    record {
+      place = h.place;
+      rectangle = h.rectangle;
+      element = kept elements ys h.place _ h.element;
+      left_is = h.left_is;
+      width_is = h.width_is;
+    }
 
 -- a rectangle for one column more
-pub drawn_more : (elements new : List Item) (edges : List ℕ) (k : ℕ) (area : Area) → AreDrawn elements edges k → SpansColumn edges k area → k + 1 < length edges → IsPiece area elements new → AreDrawn new edges (k + 1)
+pub drawn_more : (elements new : List Item) (edges : List ℕ) (k : ℕ) (area : Area)
+    → AreDrawn elements edges k
+    → SpansColumn edges k area
+    → k + 1 < length edges
+    → IsPiece area elements new
+    → AreDrawn new edges (k + 1)
 drawn_more elements new edges k area drawn spans room (paint, marks, is) j below =
     elim (cases_lt j k) [
-      | inl less ↦ subst (λ es. HasRectangle es (get_or edges j 0) (get_or edges (j + 1) 0)) (sym is) (has_more elements _ _ _ (drawn j less))
+      | inl less ↦ subst (λ es. HasRectangle es (get_or edges j 0) (get_or edges (j + 1) 0)) (sym is)
+          (has_more elements _ _ _ (drawn j less))
       | inr more ↦
           let at : j ≡ k = omega (arith, below, more) in
           let here : HasRectangle new (get_or edges k 0) (get_or edges (k + 1) 0) = record {
             place = length elements;
             rectangle = record { area = area; paint = paint };
-            element = subst (λ es. slice_get es (length elements) ≡ Some (items.Rectangle (record { area = area; paint = paint }))) (sym is) (placed elements marks (items.Rectangle (record { area = area; paint = paint })));
+            element =
+                subst
+                (λ es. slice_get es (length elements)
+                ≡ Some (items.Rectangle (record { area = area; paint = paint })))
+                (sym is) (placed elements marks (items.Rectangle (record { area = area; paint = paint })));
             left_is = (spans room).0;
             width_is = (spans room).1;
           } in
@@ -66,7 +85,11 @@ stays [] at k h = absurd (omega (arith, h))
 stays (x ∷ edges) at zero h = refl
 stays (x ∷ edges) at (suc k) h = stays edges at k (omega (arith, h))
 
-pub order_more : (edges new : List ℕ) (at : ℕ) → IsOrdered edges → IsBefore edges at → new ≡ edges ++ (at ∷ []) → IsOrdered new
+pub order_more : (edges new : List ℕ) (at : ℕ)
+    → IsOrdered edges
+    → IsBefore edges at
+    → new ≡ edges ++ (at ∷ [])
+    → IsOrdered new
 order_more edges new at order before is k h =
     let h' : k + 1 < length edges + 1 = omega (arith, h, ap length is, length-append edges (at ∷ [])) in
     subst (λ es. IsRight (get_or es k 0) (get_or es (k + 1) 0)) (sym is)
@@ -83,9 +106,15 @@ order_more edges new at order before is k h =
 pub before_more : (edges new : List ℕ) (at next : ℕ) → new ≡ edges ++ (at ∷ []) → IsRight at next → IsBefore new next
 before_more edges new at next is right k e =
     let last : k ≡ length edges = omega (arith, e, ap length is, length-append edges (at ∷ [])) in
-    subst (λ es. IsRight (get_or es k 0) next) (sym is) (subst (λ x. IsRight x next) (sym (last_is edges at k last)) right)
+    subst (λ es. IsRight (get_or es k 0) next) (sym is)
+    (subst (λ x. IsRight x next) (sym (last_is edges at k last)) right)
 
-pub whole_edges : (edges new : List ℕ) (at count : ℕ) → length edges ≡ count → IsOrdered edges → IsBefore edges at → new ≡ edges ++ (at ∷ []) → AreEdges count new
+pub whole_edges : (edges new : List ℕ) (at count : ℕ)
+    → length edges ≡ count
+    → IsOrdered edges
+    → IsBefore edges at
+    → new ≡ edges ++ (at ∷ [])
+    → AreEdges count new
 whole_edges edges new at count is_count order before is =
     let all : length new ≡ count + 1 = omega (arith, is_count, ap length is, length-append edges (at ∷ [])) in
     record { count_is = all; order = λ k h. order_more edges new at order before is k (omega (arith, all, h)) }
@@ -98,13 +127,38 @@ shifted (x ∷ xs) ys i =
     let e : suc (length xs) + i ≡ suc (length xs + i) = omega arith in
     ap (λ n. slice_get (x ∷ (xs ++ ys)) n) e ∙ shifted xs ys i
 
-has_before : (xs elements : List Item) (left right : ℕ) → HasRectangle elements left right → HasRectangle (xs ++ elements) left right
+has_before : (xs elements : List Item) (left right : ℕ)
+    → HasRectangle elements left right
+    → HasRectangle (xs ++ elements) left right
 has_before xs elements left right h =
-    record { place = length xs + h.place; rectangle = h.rectangle; element = shifted xs elements h.place ∙ h.element; left_is = h.left_is; width_is = h.width_is }
+    record {
+      place = length xs + h.place;
+      rectangle = h.rectangle;
+      element = shifted xs elements h.place
+          ∙ h.element;
+      left_is = h.left_is;
+      width_is = h.width_is;
+    }
 
 -- a picture whose cells are between other elements
-pub picture_with : {X E : Type 0} (bytes : X → List ℕ) (r : Result X E) (columns : List Column) (size : Size) (ground cells over : List Item) (edges : List ℕ) → AreEdges (length columns) edges → AreDrawn cells edges (length columns)
-    → IfOk r (λ svg. bytes svg ≡ text_of_picture size (ground ++ cells ++ over)) → IfOk r (λ svg. IsPicture columns (bytes svg))
+pub picture_with : {X E : Type 0} (bytes : X → List ℕ) (r : Result X E) (columns : List Column) (size : Size)
+    (ground cells over : List Item) (edges : List ℕ)
+    → AreEdges (length columns) edges
+    → AreDrawn cells edges (length columns)
+    → IfOk r (λ svg. bytes svg ≡ text_of_picture size (ground ++ cells ++ over))
+    → IfOk r (λ svg. IsPicture columns (bytes svg))
 picture_with bytes (Ok svg) columns size ground cells over edges beside drawn text =
-    record { size = size; elements = ground ++ cells ++ over; text = text; edges = edges; beside = beside; drawn = λ k h. has_more (ground ++ cells) over _ _ (has_before ground cells _ _ (drawn k h)) }
+    record {
+      size = size;
+      elements = ground ++ cells
+          ++ over;
+      text =
+          text;
+      edges =
+          edges;
+      beside =
+          beside;
+      drawn =
+          λ k h. has_more (ground ++ cells) over _ _ (has_before ground cells _ _ (drawn k h));
+    }
 picture_with bytes (Err e) columns size ground cells over edges beside drawn text = tt

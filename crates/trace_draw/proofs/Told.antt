@@ -7,11 +7,14 @@ use Rattle.reference_model.specs.model.State.{Slot}
 use Rattle.trace_draw.specs.Texts.{line_by, text_of_slot, text_of_slots}
 
 -- a row where a frame is memory, and none elsewhere
-pub row_told : (found : Option Row) (plain : Row) (memory : Bool) → is_some found ≡ memory → found ≡ (if memory then Some (unwrap_or found plain) else None)
+pub row_told : (found : Option Row) (plain : Row) (memory : Bool)
+    → is_some found ≡ memory
+    → found ≡ (if memory then Some (unwrap_or found plain) else None)
 row_told None plain memory e = rw (sym e) refl
 row_told (Some row) plain memory e = rw (sym e) refl
 
-slots_more : (slots : ℕ → Slot) (v : ℕ) → text_of_slots slots (v + 1) ≡ text_of_slots slots v ++ line_by (slots v).stand (text_of_slot v (slots v))
+slots_more : (slots : ℕ → Slot) (v : ℕ)
+    → text_of_slots slots (v + 1) ≡ text_of_slots slots v ++ line_by (slots v).stand (text_of_slot v (slots v))
 unfolding text_of_slots
 slots_more slots v = rw add-one refl
 
@@ -21,7 +24,10 @@ unfolding text_of_slots
 no_slots slots begun = sym (append-nil begun)
 
 -- one more slot
-pub slot_told : (slots : ℕ → Slot) (v : ℕ) (s : Slot) (begun now new : List ℕ) → now ≡ begun ++ text_of_slots slots v → s ≡ slots v → new ≡ now ++ line_by s.stand (text_of_slot v s)
+pub slot_told : (slots : ℕ → Slot) (v : ℕ) (s : Slot) (begun now new : List ℕ)
+    → now ≡ begun ++ text_of_slots slots v
+    → s ≡ slots v
+    → new ≡ now ++ line_by s.stand (text_of_slot v s)
     → new ≡ begun ++ text_of_slots slots (v + 1)
 slot_told slots v s begun now new e at more =
     let line : Slot → List ℕ = λ t. line_by t.stand (text_of_slot v t) in

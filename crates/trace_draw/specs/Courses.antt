@@ -10,15 +10,20 @@ use Rattle.trace_text.specs.Session.{Answer, RunsLine, Standing, at_start}
 
 -- how a run goes on after a line of this number: it ends with a fault of the line
 abbrev pub GoesOn : ℕ → Answer → Standing → (Standing → Ended → Type 0) → Standing → Ended → Type 0
-GoesOn number (Err (stops.Fault fault)) next follows new ended = (new ≡ next) × (ended ≡ Fault number fault)
+GoesOn number (Err (stops.Fault fault)) next follows new ended =
+    (new ≡ next) × (ended ≡ Fault number fault)
 GoesOn number (Err stops.NoMemory) next follows new ended = ⊥
 GoesOn number (Ok told) next follows new ended = follows new ended
 
--- the lines from a number on, at which no oracle looks, lead from one standing to another, and the run ends so
+-- the lines from a number on, at which no oracle looks, lead from one standing to another, and the
+-- run ends so
 abbrev pub Leads : ℕ → Standing → List (List ℕ) → Standing → Ended → Type 0
 Leads number old [] new ended = (new ≡ old) × (ended ≡ Clean)
 Leads number old (line ∷ rest) new ended =
-    (answer : Answer) × (next : Standing) × IsPlayed (RunsLine agreed) number line old answer next × GoesOn number answer next (Leads (number + 1) next rest) new ended
+    (answer : Answer)
+    × (next : Standing)
+    × IsPlayed (RunsLine agreed) number line old answer next
+    × GoesOn number answer next (Leads (number + 1) next rest) new ended
 
 -- the run of a whole trace leads to this standing, and ends so
 abbrev pub IsRunOf : List ℕ → Standing → Ended → Type 0

@@ -32,7 +32,8 @@ code_of Black = codes "212529"
 code_of Pale = codes "e9ecef"
 code_of White = codes "ffffff"
 
--- by how many degrees upright lines of a colour are turned: the host's rise, the hypervisor's fall, guests' are upright, and white ones rise
+-- by how many degrees upright lines of a colour are turned: the host's rise, the hypervisor's fall,
+-- guests' are upright, and white ones rise
 abbrev pub angle_of : Colour → List ℕ
 angle_of Ice = codes "45"
 angle_of Orange = codes "-45"
@@ -50,15 +51,27 @@ text_of_paint (Bars c) = codes "url(#bars" ++ code_of c ++ codes ")"
 abbrev pub text_of_pattern : Paint → List ℕ
 text_of_pattern (Plain c) = []
 text_of_pattern (Lines c) =
-    codes "<pattern id='lines" ++ code_of c ++ codes "' width='8' height='8' patternUnits='userSpaceOnUse' patternTransform='rotate(" ++ angle_of c ++ codes ")'><rect width='1.3' height='8' fill='#" ++ code_of c ++ codes "'/></pattern>"
-text_of_pattern (Dots c) = codes "<pattern id='dots" ++ code_of c ++ codes "' width='4' height='4' patternUnits='userSpaceOnUse'><circle cx='2' cy='2' r='1.2' fill='#" ++ code_of c ++ codes "'/></pattern>"
-text_of_pattern (Bars c) = codes "<pattern id='bars" ++ code_of c ++ codes "' width='4' height='4' patternUnits='userSpaceOnUse'><rect width='4' height='1.6' fill='#" ++ code_of c ++ codes "'/></pattern>"
+    codes "<pattern id='lines" ++ code_of c
+    ++ codes "' width='8' height='8' patternUnits='userSpaceOnUse' patternTransform='rotate("
+    ++ angle_of c ++ codes ")'><rect width='1.3' height='8' fill='#" ++ code_of c
+    ++ codes "'/></pattern>"
+text_of_pattern (Dots c) =
+    codes "<pattern id='dots" ++ code_of c
+    ++ codes "' width='4' height='4' patternUnits='userSpaceOnUse'><circle cx='2' cy='2' r='1.2' fill='#"
+    ++ code_of c ++ codes "'/></pattern>"
+text_of_pattern (Bars c) =
+    codes "<pattern id='bars" ++ code_of c
+    ++ codes "' width='4' height='4' patternUnits='userSpaceOnUse'><rect width='4' height='1.6' fill='#"
+    ++ code_of c ++ codes "'/></pattern>"
 
 abbrev pub text_of_area : Area → List ℕ
-text_of_area a = codes "x='" ++ decimal a.x ++ codes "' y='" ++ decimal a.y ++ codes "' width='" ++ decimal a.width ++ codes "' height='" ++ decimal a.height ++ codes "'"
+text_of_area a =
+    codes "x='" ++ decimal a.x ++ codes "' y='" ++ decimal a.y ++ codes "' width='"
+    ++ decimal a.width ++ codes "' height='" ++ decimal a.height ++ codes "'"
 
 abbrev pub text_of_rectangle : Rectangle → List ℕ
-text_of_rectangle r = codes "<rect " ++ text_of_area r.area ++ codes " fill='" ++ text_of_paint r.paint ++ codes "'/>"
+text_of_rectangle r =
+    codes "<rect " ++ text_of_area r.area ++ codes " fill='" ++ text_of_paint r.paint ++ codes "'/>"
 
 -- the class of a style
 abbrev pub class_of : Style → List ℕ
@@ -70,21 +83,27 @@ class_of styles.Refused = codes "refused"
 class_of styles.Slot = codes "slot"
 
 abbrev pub text_of_turned : ℕ → ℕ → List ℕ
-text_of_turned x y = codes "translate(" ++ decimal x ++ codes " " ++ decimal y ++ codes ") rotate(-60)"
+text_of_turned x y =
+    codes "translate(" ++ decimal x ++ codes " " ++ decimal y ++ codes ") rotate(-60)"
 
 -- where a text of a class begins
 abbrev pub text_at : List ℕ → ℕ → ℕ → List ℕ
-text_at class x y = codes "<text class='" ++ class ++ codes "' x='" ++ decimal x ++ codes "' y='" ++ decimal y ++ codes "'>"
+text_at class x y =
+    codes "<text class='" ++ class ++ codes "' x='" ++ decimal x ++ codes "' y='" ++ decimal y
+    ++ codes "'>"
 
 -- the beginning of a text: a frame's number over a column is turned
 abbrev pub head_by : Style → ℕ → ℕ → List ℕ
-head_by styles.Edge x y = codes "<text class='" ++ class_of styles.Edge ++ codes "' transform='" ++ text_of_turned x y ++ codes "'>"
+head_by styles.Edge x y =
+    codes "<text class='" ++ class_of styles.Edge ++ codes "' transform='" ++ text_of_turned x y
+    ++ codes "'>"
 head_by style x y = text_at (class_of style) x y
 
 abbrev pub text_of_head : Head → List ℕ
 text_of_head h = head_by h.style h.x h.y
 
--- a byte inside an element: `<`, `>` and `&` by their names, and a question mark for what isn't printable ASCII
+-- a byte inside an element: `<`, `>` and `&` by their names, and a question mark for what isn't
+-- printable ASCII
 abbrev pub escaped : ℕ → List ℕ
 escaped byte =
     if byte == 60 then codes "&lt;"
@@ -103,7 +122,9 @@ text_of_item (items.Rectangle rectangle) = text_of_rectangle rectangle ++ codes 
 text_of_item (items.Text label) = text_of_label label
 
 abbrev pub text_of_size : Size → List ℕ
-text_of_size s = codes "width='" ++ decimal s.width ++ codes "' height='" ++ decimal s.height ++ codes "' viewBox='0 0 " ++ decimal s.width ++ codes " " ++ decimal s.height ++ codes "'"
+text_of_size s =
+    codes "width='" ++ decimal s.width ++ codes "' height='" ++ decimal s.height
+    ++ codes "' viewBox='0 0 " ++ decimal s.width ++ codes " " ++ decimal s.height ++ codes "'"
 
 -- the name of SVG
 unfoldable pub namespace : List ℕ
@@ -111,11 +132,14 @@ namespace = codes "http://www.w3.org/2000/svg"
 
 -- how texts are set
 unfoldable pub style : List ℕ
-style = codes "<style>text { font-family: DejaVu Sans Mono, Menlo, Consolas, monospace; fill: #212529; white-space: pre } .title { font-size: 14px; font-weight: bold } .label { font-size: 11px } .edge { font-size: 9px } .code { font-size: 10px } .refused { font-size: 10px; fill: #c92a2a } .slot { font-size: 10px; fill: #ffffff }</style>"
+style =
+    codes "<style>text { font-family: DejaVu Sans Mono, Menlo, Consolas, monospace; fill: #212529; white-space: pre } .title { font-size: 14px; font-weight: bold } .label { font-size: 11px } .edge { font-size: 9px } .code { font-size: 10px } .refused { font-size: 10px; fill: #c92a2a } .slot { font-size: 10px; fill: #ffffff }</style>"
 
 -- the first lines of a picture
 abbrev pub text_of_opening : Size → List ℕ
-text_of_opening size = codes "<svg xmlns='" ++ namespace ++ codes "' " ++ text_of_size size ++ codes ">\n" ++ style ++ codes "\n"
+text_of_opening size =
+    codes "<svg xmlns='" ++ namespace ++ codes "' " ++ text_of_size size ++ codes ">\n" ++ style
+    ++ codes "\n"
 
 -- a picture of these elements, in their order
 abbrev pub text_of_picture : Size → List Item → List ℕ

@@ -15,7 +15,11 @@ use Rattle.trace_draw.specs.Snapshots.{TellsMachine}
 
 -- a machine has one text
 abbrev pub OneText : Type 0
-OneText = (machine : Option Machine) (text other : List ℕ) → TellsMachine machine text → TellsMachine machine other → text ≡ other
+OneText =
+    (machine : Option Machine) (text other : List ℕ)
+    → TellsMachine machine text
+    → TellsMachine machine other
+    → text ≡ other
 
 -- the outcome of a report without a disagreement, by how the run ends
 abbrev pub outcome_by : Ended → Outcome
@@ -24,4 +28,8 @@ outcome_by (Fault line fault) = outcomes.Fault
 
 -- the run of a trace that is drawn is one that a replay reports
 abbrev pub RunIsReplayed : Type 0
-RunIsReplayed = (trace : List ℕ) (standing : Standing) (ended : Ended) → IsRunOf trace standing ended → (reported : List ReportLine) × IsReport agreed 1 at_start (lines_of trace) reported (outcome_by ended)
+RunIsReplayed =
+    (trace : List ℕ) (standing : Standing) (ended : Ended)
+    → IsRunOf trace standing ended
+    → (reported : List ReportLine)
+    × IsReport agreed 1 at_start (lines_of trace) reported (outcome_by ended)

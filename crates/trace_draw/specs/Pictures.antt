@@ -33,17 +33,25 @@ pub record HasRectangle (elements : List Item) (left right : ℕ) : Type 0 where
 
 -- an area from a column's left edge up to a pixel before the next
 abbrev pub SpansColumn : List ℕ → ℕ → Area → Type 0
-SpansColumn edges column area = column + 1 < length edges → (area.x ≡ get_or edges column 0) × (area.width ≡ get_or edges (column + 1) 0 - get_or edges column 0 - 1)
+SpansColumn edges column area =
+    column + 1 < length edges
+    → (area.x ≡ get_or edges column 0)
+    × (area.width ≡ get_or edges (column + 1) 0 - get_or edges column 0 - 1)
 
 -- elements behind which a rectangle was put, and marks over it
 abbrev pub IsPiece : Area → List Item → List Item → Type 0
-IsPiece area old new = (paint : Paint) × (marks : List Item) × (new ≡ old ++ items.Rectangle (record { area = area; paint = paint }) ∷ marks)
+IsPiece area old new =
+    (paint : Paint)
+    × (marks : List Item)
+    × (new ≡ old ++ items.Rectangle (record { area = area; paint = paint }) ∷ marks)
 
 -- a rectangle for each of so many columns
 abbrev pub AreDrawn : List Item → List ℕ → ℕ → Type 0
-AreDrawn elements edges count = (k : ℕ) → k < count → HasRectangle elements (get_or edges k 0) (get_or edges (k + 1) 0)
+AreDrawn elements edges count =
+    (k : ℕ) → k < count → HasRectangle elements (get_or edges k 0) (get_or edges (k + 1) 0)
 
--- a picture of columns: whole elements between its opening and its end, a rectangle for each column among them
+-- a picture of columns: whole elements between its opening and its end, a rectangle for each column
+-- among them
 pub record IsPicture (columns : List Column) (svg : List ℕ) : Type 0 where
   pub size : Size
   pub elements : List Item
@@ -54,9 +62,11 @@ pub record IsPicture (columns : List Column) (svg : List ℕ) : Type 0 where
 
 -- a picture of scenes: its columns have their frames, none left out, twice, or out of its order
 abbrev pub ShowsScenes : List Scene → List ℕ → Type 0
-ShowsScenes scenes svg = (columns : List Column) × (frames_of columns ≡ frames_drawn scenes) × IsPicture columns svg
+ShowsScenes scenes svg =
+    (columns : List Column) × (frames_of columns ≡ frames_drawn scenes) × IsPicture columns svg
 
--- a picture of the run of a trace, and how that ends. No field says that the scenes are those of the run
+-- a picture of the run of a trace, and how that ends. No field says that the scenes are those of
+-- the run
 pub record IsDrawing (trace : List ℕ) (ended : Ended) (svg : List ℕ) : Type 0 where
   pub standing : Standing
   pub run : IsRunOf trace standing ended

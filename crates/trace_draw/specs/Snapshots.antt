@@ -12,10 +12,13 @@ use Rattle.trace_draw.specs.Texts.{text_of_runs, text_of_slots}
 use Rattle.trace_text.specs.Session.{Standing}
 use Rattle.trace_text.specs.Worlds.{Machine}
 
--- the owner rows of a machine: the one coarsest list of runs that gives each memory frame its row, and no other frame one
+-- the owner rows of a machine: the one coarsest list of runs that gives each memory frame its row,
+-- and no other frame one
 pub record AreRowsOf (m : Machine) (runs : List (Run Row)) : Type 0 where
   pub coarsest : IsCoarsest advance_row runs
-  pub rows : (f : ℕ) → row_at runs f ≡ (if is_memory m.layout f then Some (m.state.contents.shared.row f) else None)
+  pub rows : (f : ℕ)
+      → row_at runs f
+      ≡ (if is_memory m.layout f then Some (m.state.contents.shared.row f) else None)
 
 -- the text of a machine: its owner rows by frame, and then its 64 slots
 pub record IsTextOf (m : Machine) (text : List ℕ) : Type 0 where

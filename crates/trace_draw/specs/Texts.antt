@@ -12,7 +12,9 @@ use Rattle.state_changes.specs.Texts.{text_of_stand}
 
 -- a run of rows: its first frame, how many frames, and the first one's row
 abbrev pub text_of_run : Run Row → List ℕ
-text_of_run run = codes "rows " ++ text_of_page run.pages.first.0 ++ codes " " ++ decimal run.pages.count ++ codes " " ++ text_of_row run.value
+text_of_run run =
+    codes "rows " ++ text_of_page run.pages.first.0 ++ codes " " ++ decimal run.pages.count
+    ++ codes " " ++ text_of_row run.value
 
 abbrev pub line_of_run : Run Row → List ℕ
 line_of_run run = text_of_run run ++ codes "\n"
@@ -23,7 +25,10 @@ text_of_runs runs = flat_map line_of_run runs
 
 -- a slot: its VM, its stage, the kind, and how many vCPUs
 abbrev pub text_of_slot : ℕ → Slot → List ℕ
-text_of_slot v s = codes "vm " ++ text_of_vm (record { slot = v; generation = s.generation }) ++ codes " " ++ text_of_stand s.stand ++ codes " " ++ text_of_vm_kind s.kind ++ codes " vcpus " ++ decimal s.vcpus
+text_of_slot v s =
+    codes "vm " ++ text_of_vm (record { slot = v; generation = s.generation }) ++ codes " "
+    ++ text_of_stand s.stand ++ codes " " ++ text_of_vm_kind s.kind ++ codes " vcpus "
+    ++ decimal s.vcpus
 
 -- the line of a slot: none of one that is Empty
 abbrev pub line_by : Stand → List ℕ → List ℕ
@@ -33,4 +38,5 @@ line_by other text = text ++ codes "\n"
 -- the lines of the slots below a number
 unfoldable pub text_of_slots : (ℕ → Slot) → ℕ → List ℕ
 text_of_slots slot zero = []
-text_of_slots slot (suc v) = text_of_slots slot v ++ line_by (slot v).stand (text_of_slot v (slot v))
+text_of_slots slot (suc v) =
+    text_of_slots slot v ++ line_by (slot v).stand (text_of_slot v (slot v))

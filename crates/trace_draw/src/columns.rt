@@ -91,7 +91,9 @@ fn cut_column(
 #[tactic(auto, using(crate::proofs::Cuts::cut_off))]
 fn shortened(cut: &mut Vec<Column>, left: Column, end: u64) -> Result<Column, AllocError>
     requires { end ≤ left.first + left.count }
-    ensures { IfOk result (λ rest. frames_of cut.new.items ++ frames_of_column rest ≡ frames_of cut.old.items ++ frames_of_column left) }
+    ensures { IfOk result
+        (λ rest. frames_of cut.new.items ++ frames_of_column rest
+        ≡ frames_of cut.old.items ++ frames_of_column left) }
 {
     if end <= left.first {
         return Ok(left);

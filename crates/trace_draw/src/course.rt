@@ -80,7 +80,9 @@ pub(crate) fn made<A: Allocator + Copy>(
 ) -> Result<Course, AllocError>
     requires start { standing_of session.old ≡ at_start }
     requires ready { IsReady session.old }
-    ensures { IfOk result (λ c. Leads 1 at_start (map (λ line. line.now) lines.now) (standing_of session.new) c.ended) }
+    ensures { IfOk result
+        (λ c. Leads 1 at_start (map (λ line. line.now) lines.now)
+        (standing_of session.new) c.ended) }
 {
     let mut moments = Vec::new(global);
     let mut scenes = Vec::new(global);

@@ -148,7 +148,9 @@ fn add_patterns(items: &mut Vec<Item>, colour: Colour) -> Result<(), AllocError>
 }
 
 fn rectangle(items: &mut Vec<Item>, area: Area, paint: Paint) -> Result<(), AllocError>
-    ensures { OnOk result (items.new.items ≡ items.old.items ++ Item.Rectangle (record { area = area; paint = paint }) ∷ []) }
+    ensures { OnOk result
+        (items.new.items
+        ≡ items.old.items ++ Item.Rectangle (record { area = area; paint = paint }) ∷ []) }
 {
     items.push(Item::Rectangle(Rectangle { area, paint }))?;
     Ok(())

@@ -125,7 +125,9 @@ fn write_run(run: Run<Row>, text: &mut String) -> Result<(), AllocError>
 
 /// Writes a line for each slot that isn't Empty.
 fn write_slots(table: &VmTable, text: &mut String) -> Result<(), AllocError>
-    ensures { OnOk result (string_bytes text.new ≡ string_bytes text.old ++ text_of_slots (vms_of table.now).slot 64) }
+    ensures { OnOk result
+        (string_bytes text.new
+        ≡ string_bytes text.old ++ text_of_slots (vms_of table.now).slot 64) }
 {
     for slot in 0..64 {
         let entry = table.slot(slot);
@@ -136,7 +138,10 @@ fn write_slots(table: &VmTable, text: &mut String) -> Result<(), AllocError>
 
 /// Writes the line of a slot, unless it is Empty.
 fn write_slot(slot: u64, entry: Slot, text: &mut String) -> Result<(), AllocError>
-    ensures { OnOk result (string_bytes text.new ≡ string_bytes text.old ++ line_by (slot_of entry).stand (text_of_slot slot (slot_of entry))) }
+    ensures { OnOk result
+        (string_bytes text.new
+        ≡ string_bytes text.old
+        ++ line_by (slot_of entry).stand (text_of_slot slot (slot_of entry))) }
 {
     match entry.state {
         SlotState::Vacant => Ok(()),

@@ -41,7 +41,8 @@ pub(crate) fn written(
     cells: &[Item],
     over: &[Item],
 ) -> Result<String, AllocError>
-    ensures { IfOk result (λ svg. string_bytes svg ≡ text_of_picture size (ground.now ++ cells.now ++ over.now)) }
+    ensures { IfOk result
+        (λ svg. string_bytes svg ≡ text_of_picture size (ground.now ++ cells.now ++ over.now)) }
 {
     let mut svg = opening(global, size)?;
     write_items(&mut svg, ground)?;

@@ -15,10 +15,16 @@ use Rattle.trace_text.specs.Replay.{IsPlayed}
 use Rattle.trace_text.specs.Session.{Standing}
 use Rattle.trace_text.specs.Worlds.{Machine}
 
--- a line was carried out, and its block is added to the text; or it has a fault, and nothing is added yet
-abbrev pub IsCarried : Bool → ℕ → List ℕ → Standing → List ℕ → Standing → List ℕ → Option Fault → Type 0
-IsCarried shown number line old before new after None = (reported : List ReportLine) × IsPlayed agreed number line old (Ok reported) new × Adds (IsBlock shown line old reported new) before after
-IsCarried shown number line old before new after (Some fault) = IsPlayed agreed number line old (Err (stops.Fault fault)) new × (after ≡ before)
+-- a line was carried out, and its block is added to the text; or it has a fault, and nothing is
+-- added yet
+abbrev pub IsCarried : Bool → ℕ → List ℕ → Standing → List ℕ → Standing → List ℕ → Option Fault
+    → Type 0
+IsCarried shown number line old before new after None =
+    (reported : List ReportLine)
+    × IsPlayed agreed number line old (Ok reported) new
+    × Adds (IsBlock shown line old reported new) before after
+IsCarried shown number line old before new after (Some fault) =
+    IsPlayed agreed number line old (Err (stops.Fault fault)) new × (after ≡ before)
 
 -- the state of a machine on lists
 pub record IsStateOf (m : Machine) (g : GhostLists) : Type 0 where
@@ -39,5 +45,6 @@ HasFrames g machine = Unit {0}
 
 -- what changed from a state to that of a machine
 abbrev pub TellsFrom : Option GhostLists → Option (ℕ × Step) → Option Machine → List ℕ → Type 0
-TellsFrom (Some g) (Some (cpu, step)) (Some n) text = TellsAll (contents_in g) n.state.contents cpu text
+TellsFrom (Some g) (Some (cpu, step)) (Some n) text =
+    TellsAll (contents_in g) n.state.contents cpu text
 TellsFrom g asked machine text = text ≡ []

@@ -1,4 +1,5 @@
--- Why a call is refused, in words: those of the test of its rule that fails, and those of what no rule tests (profile).
+-- Why a call is refused, in words: those of the test of its rule that fails, and those of what no
+-- rule tests (profile).
 use Rattle.std.specs.Prelude.{ℕ, List, [], codes, unwrap_or, None}
 use Rattle.call_table.specs.declared.reply.Refusal.{Refusal}
 use Rattle.call_table.specs.declared.reply.Refusal.TheVariants as refusals
@@ -13,7 +14,12 @@ use Rattle.reference_model.specs.model.Used.{guest_alone}
 -- a rule's words are the same whatever it reads, so they are asked for on nothing
 abbrev pub nothing : Reads
 nothing = record {
-  layout = record { memory = memory_of [] no_range; config = record { cpus = 0; log = 0; geometry = 0 }; depth = 0 };
+  layout =
+      record {
+        memory = memory_of [] no_range;
+        config = record { cpus = 0; log = 0; geometry = 0 };
+        depth = 0;
+      };
   id = 0;
   slot = None;
   used = guest_alone no_guest no_cpu;
@@ -29,7 +35,9 @@ cause_of step refusals.Invalid = (tests_of step).valid.failing
 cause_of step refusals.NoVm = unwrap_or (step_rule step).lacking (tests_of step).has_vm.failing
 cause_of step refusals.Busy = (tests_of step).ready.failing
 cause_of step refusals.Perm = (tests_of step).allowed.failing
-cause_of step refusals.NoPool = codes "a pool has fewer free frames than the tables that the call needs"
-cause_of step refusals.LogFull = codes "the log of the CPU, or that of a part that the call uses, is full"
+cause_of step refusals.NoPool =
+    codes "a pool has fewer free frames than the tables that the call needs"
+cause_of step refusals.LogFull =
+    codes "the log of the CPU, or that of a part that the call uses, is full"
 cause_of step refusals.NoMemory = codes "this machine refused memory"
 cause_of step refusals.Contended = codes "a part that the call uses was taken"

@@ -21,22 +21,30 @@ abbrev pub told_at : Machine → ℕ → Place → List ℕ
 told_at m cpu (Host page) = text_of_entry (m.state.contents.shared.host.map page)
 told_at m cpu (Hyp page) = text_of_entry (m.state.contents.shared.hyp.map page)
 told_at m cpu (GuestPage slot page) = text_of_entry ((m.state.contents.guest slot).tree.map page)
-told_at m cpu (Owner frame) = if has_memory m.layout.memory frame then text_of_row (m.state.contents.shared.row frame) else codes "no memory"
+told_at m cpu (Owner frame) =
+    if has_memory m.layout.memory frame then text_of_row (m.state.contents.shared.row frame)
+    else codes "no memory"
 told_at m cpu FreeShared = decimal (free_told m)
 told_at m cpu (Guest slot) = text_of_guest (m.state.contents.guest slot)
-told_at m cpu (Vm slot) = if nat_lt slot 64 then text_of_slot (m.state.contents.vms.slot slot) else codes "no slot"
-told_at m cpu (Vcpu slot vcpu) = if nat_lt slot 64 then text_of_vcpu (m.state.contents.vms.slot slot) vcpu else codes "no slot"
+told_at m cpu (Vm slot) =
+    if nat_lt slot 64 then text_of_slot (m.state.contents.vms.slot slot) else codes "no slot"
+told_at m cpu (Vcpu slot vcpu) =
+    if nat_lt slot 64 then text_of_vcpu (m.state.contents.vms.slot slot) vcpu else codes "no slot"
 told_at m cpu LoadedPlace = text_of_loaded (m.state.contents.cpu cpu).loaded
 told_at m cpu Hand = text_of_hand (m.state.contents.cpu cpu).hand
 told_at m cpu Ticket = text_of_ticket (m.state.contents.cpu cpu).ticket
 
 -- a memory frame: the host's entry of it, the hypervisor's, and its owner row
 abbrev pub frame_places : Memory → ℕ → List Place
-frame_places memory frame = if has_memory memory frame then Host frame ∷ Hyp (hyp_page frame) ∷ Owner frame ∷ FreeShared ∷ [] else []
+frame_places memory frame =
+    if has_memory memory frame then Host frame ∷ Hyp (hyp_page frame) ∷ Owner frame ∷ FreeShared
+    ∷ []
+    else []
 
 -- one that host and guest share or give each other: the host's entry and the row
 abbrev pub lent_places : Memory → ℕ → List Place
-lent_places memory frame = if has_memory memory frame then Host frame ∷ Owner frame ∷ FreeShared ∷ [] else []
+lent_places memory frame =
+    if has_memory memory frame then Host frame ∷ Owner frame ∷ FreeShared ∷ [] else []
 
 -- the first frame of a hand
 abbrev pub hand_places : Memory → Option PageRange → List Place
@@ -64,11 +72,15 @@ in_slot slot places = if nat_lt slot 64 then places else []
 
 -- a page of a guest, and the frame that it gets
 abbrev pub given_places : Memory → ℕ → ℕ → ℕ → List Place
-given_places memory slot page frame = in_slot slot (Guest slot ∷ GuestPage slot page ∷ lent_places memory frame)
+given_places memory slot page frame =
+    in_slot slot (Guest slot ∷ GuestPage slot page ∷ lent_places memory frame)
 
 -- a page of a guest, and the frame that it maps
 abbrev pub page_places : Machine → ℕ → ℕ → List Place
-page_places m slot page = in_slot slot (Guest slot ∷ GuestPage slot page ∷ leaf_places m.layout.memory ((m.state.contents.guest slot).tree.map page))
+page_places m slot page =
+    in_slot slot
+    (Guest slot ∷ GuestPage slot page
+    ∷ leaf_places m.layout.memory ((m.state.contents.guest slot).tree.map page))
 
 -- a guest, a VM slot, and a vCPU
 abbrev pub guest_places : ℕ → List Place
@@ -100,9 +112,11 @@ module _ (m : Machine) (cpu : ℕ) where
   places_of (steps.OwnerOf pfn) = Owner pfn ∷ []
   places_of (steps.Fund pfn n) = Hand ∷ frame_places m.layout.memory pfn
   places_of steps.Unfund = Hand ∷ hand_places m.layout.memory (m.state.contents.cpu cpu).hand
-  places_of (steps.ShareGuest pfn gfn prot n) = LoadedPlace ∷ given_places m.layout.memory loaded_slot gfn pfn
+  places_of (steps.ShareGuest pfn gfn prot n) =
+      LoadedPlace ∷ given_places m.layout.memory loaded_slot gfn pfn
   places_of (steps.UnshareGuest vm gfn) = page_places m vm.slot gfn
-  places_of (steps.DonateGuest pfn gfn n) = LoadedPlace ∷ given_places m.layout.memory loaded_slot gfn pfn
+  places_of (steps.DonateGuest pfn gfn n) =
+      LoadedPlace ∷ given_places m.layout.memory loaded_slot gfn pfn
   places_of (steps.GuestShareHost gfn) = LoadedPlace ∷ page_places m loaded_slot gfn
   places_of (steps.GuestUnshareHost gfn) = LoadedPlace ∷ page_places m loaded_slot gfn
   places_of steps.Install = Ticket ∷ Hand ∷ guest_places ticket_slot
@@ -139,7 +153,8 @@ seen machine asked = []
 -- a line for each of these that is so in a machine after it
 abbrev pub look_lines : Machine → ℕ → List Look → List ℕ
 look_lines m cpu [] = []
-look_lines m cpu ((place, before) ∷ more) = look_line (name_of place) before (told_at m cpu place) ++ look_lines m cpu more
+look_lines m cpu ((place, before) ∷ more) =
+    look_line (name_of place) before (told_at m cpu place) ++ look_lines m cpu more
 
 -- the same, where there is a machine and a step
 abbrev pub looked : Option Machine → Option (ℕ × Step) → List Look → List ℕ

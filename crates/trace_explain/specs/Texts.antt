@@ -11,7 +11,8 @@ pub use Rattle.state_changes.specs.Texts.{guest_line, text_of_guest, text_of_han
 abbrev pub name_of : Place → List ℕ
 name_of (places.Host page) = codes "host " ++ text_of_page page
 name_of (places.Hyp page) = codes "hyp " ++ text_of_page page
-name_of (places.GuestPage slot page) = codes "guest " ++ decimal slot ++ codes " " ++ text_of_page page
+name_of (places.GuestPage slot page) =
+    codes "guest " ++ decimal slot ++ codes " " ++ text_of_page page
 name_of (places.Owner frame) = codes "owner " ++ text_of_page frame
 name_of places.FreeShared = codes "free shared"
 name_of (places.Guest slot) = codes "guest " ++ decimal slot
@@ -23,4 +24,5 @@ name_of places.Ticket = codes "ticket"
 
 -- a line of an item that a step looks at, if it is as before
 abbrev pub look_line : List ℕ → List ℕ → List ℕ → List ℕ
-look_line name before after = if bytes_eq before after then codes "    " ++ name ++ codes ": " ++ before ++ 10 ∷ [] else []
+look_line name before after =
+    if bytes_eq before after then codes "    " ++ name ++ codes ": " ++ before ++ 10 ∷ [] else []

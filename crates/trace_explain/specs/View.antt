@@ -26,16 +26,43 @@ abbrev pub line_at : List (Bor (List ℕ)) → ℕ → List ℕ
 line_at lines place = slice_index_or (lines_in lines) place []
 
 -- the line at a place was carried out by a session, with this result
-abbrev pub IsPlayedAt : {A : Type 0} → List (Bor (List ℕ)) → ℕ → Session A → Result Reported Stop → Session A → Type 0
-IsPlayedAt lines place old result new = IsPlayed agreed (place + 1) (line_at lines place) (standing_of old) (answer_of new result) (standing_of new)
+abbrev pub IsPlayedAt : {A : Type 0}
+    → List (Bor (List ℕ))
+    → ℕ
+    → Session A
+    → Result Reported Stop
+    → Session A
+    → Type 0
+IsPlayedAt lines place old result new =
+    IsPlayed agreed (place + 1) (line_at lines place) (standing_of old) (answer_of new result)
+    (standing_of new)
 
 -- the same, and a text got its shown part
-abbrev pub IsCarriedAt : {A : Type 0} → Bool → List (Bor (List ℕ)) → ℕ → Session A → List ℕ → Session A → List ℕ → Option Fault → Type 0
-IsCarriedAt shown lines place old before new after fault = IsCarried shown (place + 1) (line_at lines place) (standing_of old) before (standing_of new) after fault
+abbrev pub IsCarriedAt : {A : Type 0}
+    → Bool
+    → List (Bor (List ℕ))
+    → ℕ
+    → Session A
+    → List ℕ
+    → Session A
+    → List ℕ
+    → Option Fault
+    → Type 0
+IsCarriedAt shown lines place old before new after fault =
+    IsCarried shown (place + 1) (line_at lines place) (standing_of old) before
+    (standing_of new) after fault
 
 -- the explanation of a line that a session carried out
-abbrev pub told_line : {A : Type 0} → Session A → List ℕ → Option (ℕ × Step) → List Look → Reported → List ℕ
-told_line session line asked looks reported = line_with line asked (looks_in looks) (lines_reported session reported) (standing_of session).machine
+abbrev pub told_line : {A : Type 0}
+    → Session A
+    → List ℕ
+    → Option (ℕ × Step)
+    → List Look
+    → Reported
+    → List ℕ
+told_line session line asked looks reported =
+    line_with line asked (looks_in looks) (lines_reported session reported)
+    (standing_of session).machine
 
 -- the report of a line with a fault
 abbrev pub told_fault : List ℕ → List (Bor (List ℕ)) → ℕ → Fault → List ℕ

@@ -56,7 +56,9 @@ pub fn explain<A: Allocator + Copy>(
     trace: &[u8],
     only: Option<u64>,
 ) -> Result<Explained, AllocError>
-    ensures { IfOk result (λ explained. ExplainsAll only name.now (lines_of trace.now) explained.text.items explained.outcome) }
+    ensures { IfOk result
+        (λ explained. ExplainsAll only name.now
+        (lines_of trace.now) explained.text.items explained.outcome) }
 {
     let lines = lines(global, trace)?;
     let mut text = Vec::new(global);
@@ -110,7 +112,10 @@ fn carry_line<A: Allocator + Copy>(
     requires place { place < length lines.now }
     requires few { (standing_of session.old).steps ≤ place }
     requires ready { IsReady session.old }
-    ensures done { IfOk result (IsCarriedAt (is_shown only (place + 1)) lines.now place session.old text.old.items session.new text.new.items) }
+    ensures done { IfOk result
+        (IsCarriedAt
+        (is_shown only (place + 1)) lines.now place session.old text.old.items session.new
+        text.new.items) }
     ensures steps { (standing_of session.new).steps ≤ place + 1 }
     ensures ready { IsReady session.new }
 {
@@ -140,7 +145,8 @@ fn pass_line<A: Allocator + Copy>(
     requires place { place < length lines.now }
     requires few { (standing_of session.old).steps ≤ place }
     requires ready { IsReady session.old }
-    ensures done { (text : List ℕ) → IfOk result (IsCarriedAt false lines.now place session.old text session.new text) }
+    ensures done { (text : List ℕ)
+        → IfOk result (IsCarriedAt false lines.now place session.old text session.new text) }
     ensures steps { (standing_of session.new).steps ≤ place + 1 }
     ensures ready { IsReady session.new }
 {
@@ -162,7 +168,8 @@ fn show_line<A: Allocator + Copy>(
     requires place { place < length lines.now }
     requires few { (standing_of session.old).steps ≤ place }
     requires ready { IsReady session.old }
-    ensures done { IfOk result (IsCarriedAt true lines.now place session.old text.old.items session.new text.new.items) }
+    ensures done { IfOk result
+        (IsCarriedAt true lines.now place session.old text.old.items session.new text.new.items) }
     ensures steps { (standing_of session.new).steps ≤ place + 1 }
     ensures ready { IsReady session.new }
 {
@@ -200,7 +207,8 @@ fn show_run<A: Allocator + Copy>(
     requires asked { asked ≡ step_at (standing_of session.old) (line_at lines.now place) }
     requires looks { looks_in looks.now ≡ seen (standing_of session.old).machine asked }
     requires before { IsBefore (standing_of session.old).machine asked before.now }
-    ensures done { IfOk result (IsCarriedAt true lines.now place session.old text.old.items session.new text.new.items) }
+    ensures done { IfOk result
+        (IsCarriedAt true lines.now place session.old text.old.items session.new text.new.items) }
     ensures steps { (standing_of session.new).steps ≤ place + 1 }
     ensures ready { IsReady session.new }
 {
@@ -242,7 +250,10 @@ fn add_changed<A: Allocator + Copy>(
     before: &Option<Ghost>,
 ) -> Result<(), AllocError>
     requires frames { HasFrames before.now (standing_of session.now).machine }
-    ensures { OnOk result (Adds (TellsFrom before.now asked (standing_of session.now).machine) text.old.items text.new.items) }
+    ensures { OnOk result
+        (Adds
+        (TellsFrom before.now asked (standing_of session.now).machine) text.old.items
+        text.new.items) }
 {
     let Some(before) = before else {
         return Ok(());
@@ -265,7 +276,10 @@ fn add_changed_to<A: Allocator>(
     world: &World<A>,
 ) -> Result<(), AllocError>
     requires frames { HasRowsOf (machine_of world.now).layout before.now }
-    ensures { OnOk result (Adds (TellsAll (contents_in before.now) (machine_of world.now).state.contents cpu) text.old.items text.new.items) }
+    ensures { OnOk result
+        (Adds
+        (TellsAll (contents_in before.now)
+        (machine_of world.now).state.contents cpu) text.old.items text.new.items) }
 {
     let after = world.to_ghost(global)?;
     let told = add_changes(text, global, cpu, before, &after);
@@ -305,7 +319,9 @@ fn step_said<A: Allocator + Copy>(session: &Session<A>, line: &[u8]) -> Option<(
 
 /// What `replay` allows at this point of a session.
 fn allowed<A: Allocator + Copy>(session: &Session<A>) -> Allows
-    ensures { result ≡ allowed_by (is_some (standing_of session.now).machine) (standing_of session.now).started }
+    ensures { result
+        ≡ allowed_by (is_some (standing_of session.now).machine)
+        (standing_of session.now).started }
 {
     if session.has_booted() {
         Allows::of_replay(session.has_started())
@@ -373,7 +389,9 @@ fn add_line<A: Allocator + Copy>(
     looks: &[Look],
     reported: Reported,
 ) -> Result<(), AllocError>
-    ensures { OnOk result (text.new.items ≡ text.old.items ++ told_line session.now line.now asked looks.now reported) }
+    ensures { OnOk result
+        (text.new.items
+        ≡ text.old.items ++ told_line session.now line.now asked looks.now reported) }
 {
     add_ended(text, line)?;
     let told = told_lines(global, session, reported)?;
@@ -473,7 +491,10 @@ fn add_looked<A: Allocator + Copy>(
     asked: Option<(u64, Step)>,
     looks: &[Look],
 ) -> Result<(), AllocError>
-    ensures { OnOk result (text.new.items ≡ text.old.items ++ looked (standing_of session.now).machine asked (looks_in looks.now)) }
+    ensures { OnOk result
+        (text.new.items
+        ≡ text.old.items
+        ++ looked (standing_of session.now).machine asked (looks_in looks.now)) }
 {
     let Some(world) = session.world() else {
         return Ok(());
@@ -491,7 +512,9 @@ fn add_looks<A: Allocator>(
     cpu: u64,
     looks: &[Look],
 ) -> Result<(), AllocError>
-    ensures { OnOk result (text.new.items ≡ text.old.items ++ look_lines (machine_of world.now) cpu (looks_in looks.now)) }
+    ensures { OnOk result
+        (text.new.items
+        ≡ text.old.items ++ look_lines (machine_of world.now) cpu (looks_in looks.now)) }
 {
     for look in looks {
         let after = told_at(global, world, cpu, look.place)?;
@@ -514,7 +537,8 @@ fn add_look(
     before: &[u8],
     after: &[u8],
 ) -> Result<(), AllocError>
-    ensures { OnOk result (text.new.items ≡ text.old.items ++ look_line (name_of place) before.now after.now) }
+    ensures { OnOk result
+        (text.new.items ≡ text.old.items ++ look_line (name_of place) before.now after.now) }
 {
     if before != after {
         return Ok(());

@@ -51,7 +51,8 @@ pub(crate) fn own_of<A: Allocator>(world: &World<A>, cpu: u64) -> Own
 
 /// What the guest in a slot holds. None where it is Empty, and of a slot past the last.
 fn guest_body<A: Allocator>(world: &World<A>, slot: u64) -> Option<&Body<A>>
-    ensures { MatchOption result (body_at world.now slot ≡ None) (λ body. body_at world.now slot ≡ Some body.now) }
+    ensures { MatchOption result (body_at world.now slot ≡ None)
+        (λ body. body_at world.now slot ≡ Some body.now) }
 {
     let part = world.parts().guests.get(slot as usize)?;
     part.guest.body()
@@ -100,7 +101,8 @@ fn told_row<A: Allocator>(
     world: &World<A>,
     frame: u64,
 ) -> Result<String, AllocError>
-    ensures { IfOk result (λ text. string_bytes text ≡ told_by (machine_of world.now) 0 (Place.Owner frame)) }
+    ensures { IfOk result
+        (λ text. string_bytes text ≡ told_by (machine_of world.now) 0 (Place.Owner frame)) }
 {
     let parts = world.parts();
     if !parts.layout.map.is_memory(Page(frame)) {
@@ -115,7 +117,9 @@ fn told_guest<A: Allocator>(
     world: &World<A>,
     slot: u64,
 ) -> Result<String, AllocError>
-    ensures { IfOk result (λ text. string_bytes text ≡ text_of_guest ((machine_of world.now).state.contents.guest slot)) }
+    ensures { IfOk result
+        (λ text. string_bytes text
+        ≡ text_of_guest ((machine_of world.now).state.contents.guest slot)) }
 {
     match guest_body(world, slot) {
         Some(body) => told_body(global, body),
@@ -142,7 +146,8 @@ fn told_holder<A: Allocator>(
     slot: u64,
     vcpu: u64,
 ) -> Result<String, AllocError>
-    ensures { IfOk result (λ text. string_bytes text ≡ told_by (machine_of world.now) 0 (Place.Vcpu slot vcpu)) }
+    ensures { IfOk result
+        (λ text. string_bytes text ≡ told_by (machine_of world.now) 0 (Place.Vcpu slot vcpu)) }
 {
     if slot >= SLOTS {
         return String::from_str(global, "no slot");

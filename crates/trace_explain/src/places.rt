@@ -21,7 +21,8 @@ pub(crate) fn add_places<A: Allocator>(
     cpu: u64,
     step: Step,
 ) -> Result<(), AllocError>
-    ensures { OnOk result (places.new.items ≡ places.old.items ++ places_of (machine_of world.now) cpu step) }
+    ensures { OnOk result
+        (places.new.items ≡ places.old.items ++ places_of (machine_of world.now) cpu step) }
 {
     let map = &world.parts().layout.map;
     let own = own_of(world, cpu);
@@ -185,7 +186,8 @@ fn add_page<A: Allocator>(
     slot: u64,
     page: u64,
 ) -> Result<(), AllocError>
-    ensures { OnOk result (places.new.items ≡ places.old.items ++ page_places (machine_of world.now) slot page) }
+    ensures { OnOk result
+        (places.new.items ≡ places.old.items ++ page_places (machine_of world.now) slot page) }
 {
     if slot < SLOTS {
         add(places, Place::Guest(slot))?;

@@ -16,19 +16,25 @@ use Rattle.world.specs.declared.boot.BootFault.TheVariants as boots
 abbrev pub file_line : List ℕ → List ℕ → List ℕ
 file_line name said = name ++ codes ": " ++ said ++ 10 ∷ []
 
--- the text for lines without a fault: that none says anything, that there is no boot, or of a race that there is no start
+-- the text for lines without a fault: that none says anything, that there is no boot, or of a race
+-- that there is no start
 abbrev pub remark : List ℕ → List (List ℕ) → Bool → List ℕ
 remark name lines races =
     if list_all is_silent lines then file_line name (codes "the trace says nothing")
     else (if not (has_booted lines) then file_line name (codes "no boot, so no step is made")
-    else (if races && not (list_any (λ line. bytes_eq line (codes "start")) lines) then file_line name (codes "no start, so all steps are made in order")
+    else (if races
+    && not (list_any (λ line. bytes_eq line (codes "start")) lines)
+    then file_line name (codes "no start, so all steps are made in order")
     else []))
 
 -- the place of a fault at the line of a number, where there is such a line
 abbrev pub place_of : List ℕ → List (List ℕ) → ℕ → Fault → List ℕ
-place_of name lines number fault = if number == 0 || nat_lt (length lines) number then [] else place_line name lines (number - 1) fault
+place_of name lines number fault =
+    if number == 0 || nat_lt (length lines) number then []
+    else place_line name lines (number - 1) fault
 
--- the text beside the report of these lines, whose run had this fault at the line of this number, or none
+-- the text beside the report of these lines, whose run had this fault at the line of this number,
+-- or none
 abbrev pub said_beside : List ℕ → List (List ℕ) → Option (ℕ × Fault) → Bool → List ℕ
 said_beside name lines (Some (number, fault)) races = place_of name lines number fault
 said_beside name lines None races = remark name lines races
@@ -36,8 +42,10 @@ said_beside name lines None races = remark name lines races
 -- the fault of a line, by its name
 abbrev pub line_fault : List ℕ → Option LineFault
 line_fault name = named (
-    (codes "long", line_faults.Long) ∷ (codes "byte", line_faults.Byte) ∷ (codes "space", line_faults.Space) ∷ (codes "word", line_faults.Word)
-    ∷ (codes "place", line_faults.Place) ∷ (codes "count", line_faults.Count) ∷ (codes "form", line_faults.Form) ∷ []) name
+    (codes "long", line_faults.Long) ∷ (codes "byte", line_faults.Byte)
+    ∷ (codes "space", line_faults.Space) ∷ (codes "word", line_faults.Word)
+    ∷ (codes "place", line_faults.Place) ∷ (codes "count", line_faults.Count)
+    ∷ (codes "form", line_faults.Form) ∷ []) name
 
 -- that of a name without a number
 abbrev pub plain_fault : List ℕ → Option Fault
@@ -65,7 +73,9 @@ boot_fault number =
 
 -- that of a name, and of the number after it, if there is one
 abbrev pub numbered_fault : List ℕ → ℕ → Option Fault
-numbered_fault name number = if bytes_eq name (codes "layout") then layout_fault number else (if bytes_eq name (codes "boot") then boot_fault number else None)
+numbered_fault name number =
+    if bytes_eq name (codes "layout") then layout_fault number
+    else (if bytes_eq name (codes "boot") then boot_fault number else None)
 
 abbrev pub fault_named : List ℕ → Option (List ℕ) → Option Fault
 fault_named name None = plain_fault name
@@ -74,11 +84,15 @@ fault_named name (Some number) = option_and_then (numbered_fault name) (decimal_
 -- the fault of a report's line, and the number of the trace's line
 abbrev pub fault_in_words : List (List ℕ) → Option (ℕ × Fault)
 fault_in_words words =
-    option_and_then (λ number. option_and_then (λ name. option_map (λ fault. (number, fault)) (fault_named name (slice_get words 3))) (slice_get words 2))
+    option_and_then
+    (λ number. option_and_then
+    (λ name. option_map (λ fault. (number, fault)) (fault_named name (slice_get words 3)))
+    (slice_get words 2))
     (option_and_then decimal_of (slice_get words 0))
 
 abbrev pub is_told : List (List ℕ) → Bool
-is_told words = elim (slice_get words 1) [ Some word ↦ bytes_eq word (codes "fault") | None ↦ false ]
+is_told words =
+    elim (slice_get words 1) [ Some word ↦ bytes_eq word (codes "fault") | None ↦ false ]
 
 abbrev pub fault_told : List ℕ → Option (ℕ × Fault)
 fault_told told = if is_told (words_of told) then fault_in_words (words_of told) else None

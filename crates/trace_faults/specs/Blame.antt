@@ -18,7 +18,8 @@ number_in line place = unwrap_or (number_of_word line place) 0
 
 -- whether the first word of a line is this
 abbrev pub begins : List ℕ → List ℕ → Bool
-begins line name = elim (slice_get (words_of line) 0) [ Some first ↦ bytes_eq first name | None ↦ false ]
+begins line name =
+    elim (slice_get (words_of line) 0) [ Some first ↦ bytes_eq first name | None ↦ false ]
 
 -- a region, and the carve-out
 abbrev pub is_region : List ℕ → Bool
@@ -45,7 +46,8 @@ is_before_end one other = nat_lt (number_in one 1) (number_in other 1 + number_i
 
 -- two regions that share a page
 abbrev pub meets : List ℕ → List ℕ → Bool
-meets one other = is_region one && is_region other && is_before_end one other && is_before_end other one
+meets one other =
+    is_region one && is_region other && is_before_end one other && is_before_end other one
 
 -- a region that shares a page with one before it
 abbrev pub meets_one : List (List ℕ) → List ℕ → Bool
@@ -54,7 +56,8 @@ meets_one earlier line = list_any (λ other. meets other line) earlier
 -- a number that no machine can have
 abbrev pub is_other_config : List ℕ → Bool
 is_other_config line =
-    if begins line (codes "geometry") then not (number_in line 1 == 39) && not (number_in line 1 == 48)
+    if begins line (codes "geometry") then not (number_in line 1 == 39)
+    && not (number_in line 1 == 48)
     else (if begins line (codes "cpus") then number_in line 1 == 0 || nat_lt 64 (number_in line 1)
     else begins line (codes "log") && (number_in line 1 == 0 || nat_lt 1048576 (number_in line 1)))
 
@@ -72,7 +75,9 @@ is_blamed other earlier line = false
 -- the place of the first line that it blames, after earlier ones that it doesn't
 abbrev pub blamed : Fault → List (List ℕ) → List (List ℕ) → Option ℕ
 blamed fault earlier [] = None
-blamed fault earlier (line ∷ rest) = if is_blamed fault earlier line then Some (length earlier) else blamed fault (earlier ++ line ∷ []) rest
+blamed fault earlier (line ∷ rest) =
+    if is_blamed fault earlier line then Some (length earlier)
+    else blamed fault (earlier ++ line ∷ []) rest
 
 -- the form wanted of a number of the machine, by its name
 abbrev pub config_wanted : List ℕ → List ℕ

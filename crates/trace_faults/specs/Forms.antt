@@ -48,11 +48,13 @@ is_of words place (Argument form) = is_some (argument_at form words place blank)
 -- the first place, from one on, whose word isn't of its form
 abbrev pub first_wrong : List (List ℕ) → List Form → ℕ → ℕ
 first_wrong words [] place = place
-first_wrong words (form ∷ more) place = if is_of words place form then first_wrong words more (place + 1) else place
+first_wrong words (form ∷ more) place =
+    if is_of words place form then first_wrong words more (place + 1) else place
 
 -- whether the word at a place is of the form that a list has at one: yes where it has none
 abbrev pub is_right : List (List ℕ) → List Form → ℕ → ℕ → Bool
-is_right words forms at place = elim (slice_get forms at) [ Some form ↦ is_of words place form | None ↦ true ]
+is_right words forms at place =
+    elim (slice_get forms at) [ Some form ↦ is_of words place form | None ↦ true ]
 
 -- a line's own forms, and those of a call's arguments after them
 abbrev pub all_forms : LineForms → List Form
@@ -60,15 +62,23 @@ all_forms forms = forms.own.now ++ map Argument forms.arguments.now
 
 -- those of a step line whose call has this name: of its CPU, the name and the arguments
 abbrev pub call_forms : List ℕ → List Form
-call_forms name = elim (call_named name) [ Some call ↦ Cpu ∷ Name ∷ map Argument (row call).forms | None ↦ [] ]
+call_forms name =
+    elim (call_named name) [ Some call ↦ Cpu ∷ Name ∷ map Argument (row call).forms | None ↦ [] ]
 
 -- those of a line that names a tree
 abbrev pub tree_forms : List Form → List Form → List ℕ → List Form
-tree_forms plain guest name = unwrap_or (named ((codes "host", plain) ∷ (codes "hyp", plain) ∷ (codes "guest", guest) ∷ []) name) []
+tree_forms plain guest name =
+    unwrap_or
+    (named ((codes "host", plain) ∷ (codes "hyp", plain) ∷ (codes "guest", guest) ∷ []) name) []
 
 -- and a pool
 abbrev pub pool_forms : List ℕ → List Form
-pool_forms name = unwrap_or (named ((codes "shared", Name ∷ Name ∷ []) ∷ (codes "guest", Name ∷ Name ∷ Slot ∷ []) ∷ []) name) []
+pool_forms name =
+    unwrap_or
+    (named
+    ((codes "shared", Name ∷ Name ∷ []) ∷ (codes "guest", Name ∷ Name ∷ Slot ∷ [])
+    ∷ []) name)
+    []
 
 -- a range of pages
 abbrev pub range_forms : List Form
@@ -77,23 +87,32 @@ range_forms = Name ∷ Argument Page ∷ Argument Count ∷ []
 -- those of a line whose first word says the whole request
 abbrev pub header_forms : List ℕ → List Form
 header_forms name = unwrap_or (named (
-    (codes "geometry", Name ∷ Number ∷ []) ∷ (codes "cpus", Name ∷ Number ∷ []) ∷ (codes "log", Name ∷ Number ∷ [])
+    (codes "geometry", Name ∷ Number ∷ []) ∷ (codes "cpus", Name ∷ Number ∷ [])
+    ∷ (codes "log", Name ∷ Number ∷ [])
     ∷ (codes "memory", range_forms) ∷ (codes "device", range_forms) ∷ (codes "carve", range_forms)
     ∷ (codes "boot", Name ∷ []) ∷ (codes "start", Name ∷ []) ∷ []) name) []
 
 -- those of a line that is no step line, by its first words
 abbrev pub own_forms : List ℕ → List ℕ → List Form
 own_forms first second =
-    if bytes_eq first (codes "word") then tree_forms (Name ∷ Name ∷ Argument Page ∷ Level ∷ []) (Name ∷ Name ∷ Slot ∷ Argument Page ∷ Level ∷ []) second
+    if bytes_eq first (codes "word")
+    then tree_forms (Name ∷ Name ∷ Argument Page ∷ Level ∷ [])
+    (Name ∷ Name ∷ Slot ∷ Argument Page ∷ Level ∷ []) second
     else (if bytes_eq first (codes "free") then pool_forms second
-    else (if bytes_eq first (codes "show") then tree_forms (Name ∷ Name ∷ []) (Name ∷ Name ∷ Slot ∷ []) second
-    else (if bytes_eq first (codes "poke") then tree_forms (Name ∷ Name ∷ Argument Page ∷ Level ∷ Word ∷ []) (Name ∷ Name ∷ Slot ∷ Argument Page ∷ Level ∷ Word ∷ []) second
+    else (if bytes_eq first (codes "show")
+    then tree_forms (Name ∷ Name ∷ []) (Name ∷ Name ∷ Slot ∷ []) second
+    else (if bytes_eq first (codes "poke")
+    then tree_forms (Name ∷ Name ∷ Argument Page ∷ Level ∷ Word ∷ [])
+    (Name ∷ Name ∷ Slot ∷ Argument Page ∷ Level ∷ Word ∷ []) second
     else header_forms first)))
 
 -- and of any line
 abbrev pub forms_from : List ℕ → List ℕ → List Form
-forms_from first second = if begins_with_digit first then call_forms second else own_forms first second
+forms_from first second =
+    if begins_with_digit first then call_forms second else own_forms first second
 
 -- those of the words of a line: none where they ask for nothing
 unfoldable pub forms : List (List ℕ) → List Form
-forms words = elim (slice_get words 0) [ Some first ↦ forms_from first (unwrap_or (slice_get words 1) []) | None ↦ [] ]
+forms words =
+    elim (slice_get words 0)
+    [ Some first ↦ forms_from first (unwrap_or (slice_get words 1) []) | None ↦ [] ]

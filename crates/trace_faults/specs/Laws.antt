@@ -17,4 +17,7 @@ pub record IsWrong (words : List (List ℕ)) (forms : List Form) : Type 0 where
 
 -- a line whose fault is one of form has such a word
 abbrev pub FormIsFound : Type 0
-FormIsFound = (allows : Allows) (told : Told) (line : List ℕ) → said allows told line ≡ Err WrongForm → IsWrong (words_of line) (forms (words_of line))
+FormIsFound =
+    (allows : Allows) (told : Told) (line : List ℕ)
+    → said allows told line ≡ Err WrongForm
+    → IsWrong (words_of line) (forms (words_of line))

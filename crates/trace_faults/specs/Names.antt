@@ -9,10 +9,13 @@ use Rattle.trace_lines.specs.Asked.{begins_with_digit}
 abbrev pub edits : List ℕ → List ℕ → ℕ
 edits name word = levenshtein_row nat_eq name word (length word)
 
--- the first of the names with the fewest edits to a word, where these are fewer than `least`; else `found`
+-- the first of the names with the fewest edits to a word, where these are fewer than `least`; else
+-- `found`
 abbrev pub nearest : List ℕ → ℕ → List ℕ → List (List ℕ) → List ℕ
 nearest word least found [] = found
-nearest word least found (name ∷ more) = if nat_lt (edits name word) least then nearest word (edits name word) name more else nearest word least found more
+nearest word least found (name ∷ more) =
+    if nat_lt (edits name word) least then nearest word (edits name word) name more
+    else nearest word least found more
 
 -- the calls, in the order of their table
 abbrev pub call_names : List (List ℕ)
@@ -24,11 +27,13 @@ first_names =
     codes "geometry" ∷ codes "cpus" ∷ codes "log" ∷ codes "memory" ∷ codes "device" ∷ codes "carve"
     ∷ codes "boot" ∷ codes "start" ∷ codes "word" ∷ codes "free" ∷ codes "show" ∷ codes "poke" ∷ []
 
--- the names that the unknown word of a line that is no step line may be meant for, by the line's first word
+-- the names that the unknown word of a line that is no step line may be meant for, by the line's
+-- first word
 abbrev pub other_names : List ℕ → List (List ℕ)
 other_names first =
     if bytes_eq first (codes "free") then codes "shared" ∷ codes "guest" ∷ []
-    else (if bytes_eq first (codes "word") || bytes_eq first (codes "show") || bytes_eq first (codes "poke") then codes "host" ∷ codes "hyp" ∷ codes "guest" ∷ []
+    else (if bytes_eq first (codes "word") || bytes_eq first (codes "show")
+    || bytes_eq first (codes "poke") then codes "host" ∷ codes "hyp" ∷ codes "guest" ∷ []
     else first_names)
 
 -- and of any line

@@ -57,7 +57,10 @@ fn add_fault(
     number: u64,
     fault: Fault,
 ) -> Result<(), AllocError>
-    ensures { OnOk result (text.new.items ≡ text.old.items ++ place_of_by name.now (map (λ line. line.now) lines.now) number fault) }
+    ensures { OnOk result
+        (text.new.items
+        ≡ text.old.items
+        ++ place_of_by name.now (map (λ line. line.now) lines.now) number fault) }
 {
     if number == 0 || number > lines.len() as u64 {
         return Ok(());
@@ -72,7 +75,9 @@ fn add_remark(
     lines: &[&[u8]],
     races: bool,
 ) -> Result<(), AllocError>
-    ensures { OnOk result (text.new.items ≡ text.old.items ++ remark_by name.now (map (λ line. line.now) lines.now) races) }
+    ensures { OnOk result
+        (text.new.items
+        ≡ text.old.items ++ remark_by name.now (map (λ line. line.now) lines.now) races) }
 {
     if are_silent(lines) {
         return add_file_line(text, name, b"the trace says nothing");

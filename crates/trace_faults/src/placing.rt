@@ -20,7 +20,10 @@ pub fn add_place(
     fault: Fault,
 ) -> Result<(), AllocError>
     requires { place < length lines.now }
-    ensures { OnOk result (text.new.items ≡ text.old.items ++ place_line name.now (map (λ line. line.now) lines.now) place fault) }
+    ensures { OnOk result
+        (text.new.items
+        ≡ text.old.items
+        ++ place_line name.now (map (λ line. line.now) lines.now) place fault) }
 {
     let spot = spot(global, lines, place, fault)?;
     let named = with_fault(global, fault, &spot)?;
@@ -70,7 +73,8 @@ fn boot_spot(
     fault: Fault,
 ) -> Result<Spot, AllocError>
     requires { place < length lines.now }
-    ensures { IfOk result (λ spot. spot_in spot ≡ boot_spot_by (map (λ line. line.now) lines.now) place fault) }
+    ensures { IfOk result
+        (λ spot. spot_in spot ≡ boot_spot_by (map (λ line. line.now) lines.now) place fault) }
 {
     match blamed(&lines[..place], fault) {
         Some(at_fault) => {

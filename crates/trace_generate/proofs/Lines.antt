@@ -36,7 +36,8 @@ abbrev argument_words : List Form → Arguments → List (List ℕ)
 argument_words [] a = []
 argument_words (form ∷ more) a = text_of_argument form a ∷ argument_words more a
 
-spaced_arguments : (w : List ℕ) (forms : List Form) (a : Arguments) → w ++ text_of_arguments forms a ≡ spaced w (argument_words forms a)
+spaced_arguments : (w : List ℕ) (forms : List Form) (a : Arguments)
+    → w ++ text_of_arguments forms a ≡ spaced w (argument_words forms a)
 spaced_arguments w [] a = append-nil w
 spaced_arguments w (form ∷ more) a = ap (λ t. w ++ (32 ∷ t)) (spaced_arguments (text_of_argument form a) more a)
 
@@ -78,7 +79,10 @@ of_test w e =
     most : (n : ℕ) → nat_le n 41 ≡ true → n ≤ 41
     most n e = grind (arith, nat_tests)
 
-found_passes : {X : Type 0} (p q : X → Bool) (xs : List X) (x : X) → find p xs ≡ Some x → list_all q xs ≡ true → q x ≡ true
+found_passes : {X : Type 0} (p q : X → Bool) (xs : List X) (x : X)
+    → find p xs ≡ Some x
+    → list_all q xs ≡ true
+    → q x ≡ true
 found_passes p q [] x e h = absurd (cc)
 found_passes p q (y ∷ ys) x e h =
     (elim (p y) as (λ b. cond b (Some y) (find p ys) ≡ Some x → q x ≡ true) [
@@ -89,7 +93,9 @@ found_passes p q (y ∷ ys) x e h =
 word_of-call : (call : CallName) → IsWord (row call).word
 unfolding named
 word_of-call call =
-    of_test (row call).word (found_passes (λ c. bytes_eq (row call).word (row c).word) (λ c. is_word (row c).word) calls call (rows_differ call).0 refl)
+    of_test (row call).word
+    (found_passes (λ c. bytes_eq (row call).word (row c).word) (λ c. is_word (row c).word) calls call
+    (rows_differ call).0 refl)
 
 -- from a place on stand these words
 abbrev AreAt : List (List ℕ) → ℕ → List (List ℕ) → Type 0
@@ -107,33 +113,55 @@ behind_name a n (w ∷ x ∷ y ∷ z ∷ v ∷ more) h = absurd (omega (arith, h
 mapped : {X Y : Type 0} {o : Option X} {x : X} (f : X → Y) → o ≡ Some x → option_map f o ≡ Some (f x)
 mapped f e = ap (option_map f) e
 
-chained : {X Y : Type 0} {x : X} {y : Y} (f : X → Option Y) (o : Option X) → o ≡ Some x → f x ≡ Some y → option_and_then f o ≡ Some y
+chained : {X Y : Type 0} {x : X} {y : Y} (f : X → Option Y) (o : Option X)
+    → o ≡ Some x
+    → f x ≡ Some y
+    → option_and_then f o ≡ Some y
 chained f o e h = ap (option_and_then f) e ∙ h
 
-counted : {w : List ℕ} {n : ℕ} (o : Option (List ℕ)) → o ≡ Some w → number_of w ≡ Some n → elim o [ None ↦ Some 1 | Some word ↦ number_of word ] ≡ Some n
+counted : {w : List ℕ} {n : ℕ} (o : Option (List ℕ))
+    → o ≡ Some w
+    → number_of w ≡ Some n
+    → elim o [ None ↦ Some 1 | Some word ↦ number_of word ] ≡ Some n
 counted o e h = ap (λ p. elim p [ None ↦ Some 1 | Some word ↦ number_of word ]) e ∙ h
 
 -- an argument is read as what it was written for, and so are those of these forms
-read_one : (form : Form) (a to : Arguments) (words : List (List ℕ)) (place : ℕ) → slice_get words place ≡ Some (text_of_argument form a) → FitsForm form a
+read_one : (form : Form) (a to : Arguments) (words : List (List ℕ)) (place : ℕ)
+    → slice_get words place ≡ Some (text_of_argument form a)
+    → FitsForm form a
     → argument_at form words place to ≡ Some (taken form a to)
-read_one Frame a to words place e h = mapped (λ n. record to { frame = n }) (chained number_of (slice_get words place) e (number_of-page a.frame h))
-read_one Page a to words place e h = mapped (λ n. record to { page = n }) (chained number_of (slice_get words place) e (number_of-page a.page h))
-read_one Count a to words place e h = mapped (λ n. record to { count = n }) (chained number_of (slice_get words place) e (number_of-decimal a.count h))
-read_one LastCount a to words place e h = mapped (λ n. record to { count = n }) (counted (slice_get words place) e (number_of-decimal a.count h))
-read_one Vcpus a to words place e h = mapped (λ n. record to { vcpus = n }) (chained number_of (slice_get words place) e (number_of-decimal a.vcpus h))
-read_one Vcpu a to words place e h = mapped (λ n. record to { vcpu = n }) (chained number_of (slice_get words place) e (number_of-decimal a.vcpu h))
-read_one Vm a to words place e h = mapped (λ v. record to { vm = v }) (chained vm_of (slice_get words place) e (vm_of-vm a.vm h))
-read_one Kind a to words place e h = mapped (λ k. record to { kind = k }) (chained vm_kind_named (slice_get words place) e (named-kind a.kind))
-read_one Rights a to words place e h = mapped (λ r. record to { rights = r }) (chained rights_named (slice_get words place) e (named-rights a.rights))
+read_one Frame a to words place e h =
+    mapped (λ n. record to { frame = n }) (chained number_of (slice_get words place) e (number_of-page a.frame h))
+read_one Page a to words place e h =
+    mapped (λ n. record to { page = n }) (chained number_of (slice_get words place) e (number_of-page a.page h))
+read_one Count a to words place e h =
+    mapped (λ n. record to { count = n }) (chained number_of (slice_get words place) e (number_of-decimal a.count h))
+read_one LastCount a to words place e h =
+    mapped (λ n. record to { count = n }) (counted (slice_get words place) e (number_of-decimal a.count h))
+read_one Vcpus a to words place e h =
+    mapped (λ n. record to { vcpus = n }) (chained number_of (slice_get words place) e (number_of-decimal a.vcpus h))
+read_one Vcpu a to words place e h =
+    mapped (λ n. record to { vcpu = n }) (chained number_of (slice_get words place) e (number_of-decimal a.vcpu h))
+read_one Vm a to words place e h =
+    mapped (λ v. record to { vm = v }) (chained vm_of (slice_get words place) e (vm_of-vm a.vm h))
+read_one Kind a to words place e h =
+    mapped (λ k. record to { kind = k }) (chained vm_kind_named (slice_get words place) e (named-kind a.kind))
+read_one Rights a to words place e h =
+    mapped (λ r. record to { rights = r }) (chained rights_named (slice_get words place) e (named-rights a.rights))
 
-read_all : (forms : List Form) (a to : Arguments) (words : List (List ℕ)) (place : ℕ) → AreAt words place (argument_words forms a) → FitForms forms a
+read_all : (forms : List Form) (a to : Arguments) (words : List (List ℕ)) (place : ℕ)
+    → AreAt words place (argument_words forms a)
+    → FitForms forms a
     → arguments_from forms words place to ≡ Some (kept forms a to)
 read_all [] a to words place e h = refl
 read_all (form ∷ more) a to words place e h =
-    ap (option_and_then (arguments_from more words (place + 1))) (read_one form a to words place e.0 h.0) ∙ read_all more a (taken form a to) words (place + 1) e.1 h.1
+    ap (option_and_then (arguments_from more words (place + 1))) (read_one form a to words place e.0 h.0)
+    ∙ read_all more a (taken form a to) words (place + 1) e.1 h.1
 
 -- each counts as one word
-count_one : (form : Form) (words : List (List ℕ)) (place : ℕ) (w : List ℕ) → slice_get words place ≡ Some w → words_of form words place ≡ 1
+count_one : (form : Form) (words : List (List ℕ)) (place : ℕ) (w : List ℕ)
+    → slice_get words place ≡ Some w
+    → words_of form words place ≡ 1
 count_one Frame words place w e = refl
 count_one Page words place w e = refl
 count_one Count words place w e = refl
@@ -144,7 +172,9 @@ count_one Vm words place w e = refl
 count_one Kind words place w e = refl
 count_one Rights words place w e = refl
 
-count_all : (forms : List Form) (a : Arguments) (words : List (List ℕ)) (place : ℕ) → AreAt words place (argument_words forms a) → words_from forms words place ≡ length (argument_words forms a)
+count_all : (forms : List Form) (a : Arguments) (words : List (List ℕ)) (place : ℕ)
+    → AreAt words place (argument_words forms a)
+    → words_from forms words place ≡ length (argument_words forms a)
 count_all [] a words place e = refl
 count_all (form ∷ more) a words place e =
     let one = count_one form words place (text_of_argument form a) e.0 in
@@ -152,27 +182,38 @@ count_all (form ∷ more) a words place e =
     omega arith
 
 -- the arguments that are kept make the step
-kept_makes : (step : Step) → step_by (named_by step).call (kept (row (named_by step).call).forms (named_by step).arguments blank) ≡ step
+kept_makes : (step : Step)
+    → step_by (named_by step).call (kept (row (named_by step).call).forms (named_by step).arguments blank) ≡ step
 kept_makes step =
     let n = named_by step in
     let made : step_by n.call n.arguments ≡ step = steps_made step in
-    let same : n.arguments ≡ kept (row n.call).forms n.arguments blank = ap (λ s. (named_by s).arguments) (sym made) ∙ ap (λ m. m.arguments) (calls_named n.call n.arguments) in
+    let same : n.arguments ≡ kept (row n.call).forms n.arguments blank =
+    ap (λ s. (named_by s).arguments) (sym made) ∙ ap (λ m. m.arguments) (calls_named n.call n.arguments) in
     ap (step_by n.call) (sym same) ∙ made
 
 -- what the words of a step ask for
-asked_by : (a w : List ℕ) (ws : List (List ℕ)) (call : CallName) (cpu : ℕ) (given : Arguments) (step : Step) → begins_with_digit a ≡ true → number_of a ≡ Some cpu → named w ≡ Some call
-    → words_from (row call).forms (a ∷ w ∷ ws) 2 ≡ length ws → arguments_from (row call).forms (a ∷ w ∷ ws) 2 blank ≡ Some given → step_by call given ≡ step
-    → asked (a ∷ w ∷ ws) ≡ Some (record { verb = verbs.Step; words = length (a ∷ w ∷ ws); line = Some (lines.Step cpu step) })
+asked_by : (a w : List ℕ) (ws : List (List ℕ)) (call : CallName) (cpu : ℕ) (given : Arguments) (step : Step)
+    → begins_with_digit a ≡ true
+    → number_of a ≡ Some cpu
+    → named w ≡ Some call
+    → words_from (row call).forms (a ∷ w ∷ ws) 2 ≡ length ws
+    → arguments_from (row call).forms (a ∷ w ∷ ws) 2 blank ≡ Some given
+    → step_by call given ≡ step
+    → asked (a ∷ w ∷ ws)
+    ≡ Some (record { verb = verbs.Step; words = length (a ∷ w ∷ ws); line = Some (lines.Step cpu step) })
 unfolding asked called
 asked_by a w ws call cpu given step b e n count read made =
-    rw (b, n, e, count, read, made) (ap (λ k. Some (record { verb = verbs.Step; words = k; line = Some (lines.Step cpu step) })) (omega arith))
+    rw (b, n, e, count, read, made)
+    (ap (λ k. Some (record { verb = verbs.Step; words = k; line = Some (lines.Step cpu step) })) (omega arith))
 
 -- the words of a step behind its CPU, as they are read
 abbrev step_words : Step → List (List ℕ)
-step_words step = (row (named_by step).call).word ∷ argument_words (row (named_by step).call).forms (named_by step).arguments
+step_words step =
+    (row (named_by step).call).word ∷ argument_words (row (named_by step).call).forms (named_by step).arguments
 
 asks : (a : List ℕ) (cpu : ℕ) (step : Step) → begins_with_digit a ≡ true → number_of a ≡ Some cpu → IsIn64Bits step
-    → asked (a ∷ step_words step) ≡ Some (record { verb = verbs.Step; words = length (a ∷ step_words step); line = Some (lines.Step cpu step) })
+    → asked (a ∷ step_words step)
+    ≡ Some (record { verb = verbs.Step; words = length (a ∷ step_words step); line = Some (lines.Step cpu step) })
 asks a cpu step b e h =
     let n = named_by step in
     let forms = (row n.call).forms in
@@ -180,14 +221,16 @@ asks a cpu step b e h =
     let ws = argument_words forms n.arguments in
     let few : length ws ≤ 4 = omega (arith, as_many forms n.arguments, (rows_differ n.call).2) in
     let at = behind_name a word ws few in
-    asked_by a word ws n.call cpu (kept forms n.arguments blank) step b e (rows_differ n.call).0 (count_all forms n.arguments (a ∷ word ∷ ws) 2 at)
+    asked_by a word ws n.call cpu (kept forms n.arguments blank) step b e (rows_differ n.call).0
+    (count_all forms n.arguments (a ∷ word ∷ ws) 2 at)
     (read_all forms n.arguments blank (a ∷ word ∷ ws) 2 at h) (kept_makes step)
 
 line_spaced : (line : StepLine) → text_of_line line ≡ spaced (decimal line.cpu) (step_words line.step)
 unfolding text_of_call
 line_spaced line =
     let n = named_by line.step in
-    append_assoc (decimal line.cpu) (codes " ") (text_of_call line.step) ∙ ap (λ t. decimal line.cpu ++ (32 ∷ t)) (spaced_arguments (row n.call).word (row n.call).forms n.arguments)
+    append_assoc (decimal line.cpu) (codes " ") (text_of_call line.step)
+    ∙ ap (λ t. decimal line.cpu ++ (32 ∷ t)) (spaced_arguments (row n.call).word (row n.call).forms n.arguments)
 
 words_few : (step : Step) → length (step_words step) ≤ 5
 words_few step = let n = named_by step in omega (arith, as_many (row n.call).forms n.arguments, (rows_differ n.call).2)
@@ -198,9 +241,13 @@ words_are step f = let n = named_by step in (word_of-call n.call, are_words (row
 pub lines_are_read : LinesAreRead
 lines_are_read started told line h f =
     ap (said (of_replay started) told) (line_spaced line)
-    ∙ said-spaced (of_replay started) told (decimal line.cpu) (step_words line.step) (begins-decimal line.cpu h) (word_of-decimal line.cpu h) (words_are line.step f) (words_few line.step)
-    ∙ said-step started told (decimal line.cpu ∷ step_words line.step) line.cpu line.step (asks (decimal line.cpu) line.cpu line.step (begins-decimal line.cpu h) (number_of-decimal line.cpu h) f)
+    ∙ said-spaced (of_replay started) told (decimal line.cpu) (step_words line.step) (begins-decimal line.cpu h)
+    (word_of-decimal line.cpu h) (words_are line.step f) (words_few line.step)
+    ∙ said-step started told (decimal line.cpu ∷ step_words line.step) line.cpu line.step
+    (asks (decimal line.cpu) line.cpu line.step (begins-decimal line.cpu h) (number_of-decimal line.cpu h) f)
 
 pub lines_are_short : LinesAreShort
 lines_are_short line h f =
-    subst (λ t. length t ≤ 256) (sym (line_spaced line)) (length-spaced (decimal line.cpu) (step_words line.step) (word_of-decimal line.cpu h) (words_are line.step f) (words_few line.step))
+    subst (λ t. length t ≤ 256) (sym (line_spaced line))
+    (length-spaced (decimal line.cpu) (step_words line.step) (word_of-decimal line.cpu h) (words_are line.step f)
+    (words_few line.step))

@@ -12,11 +12,13 @@ use Rattle.page_state.proofs.Cases.{by_lt}
 use Rattle.trace_words.specs.Numbers.{digit_of, value_of}
 
 -- the value of digits behind others
-value_of-append : (base : ℕ) (xs ys : List ℕ) → value_of base (xs ++ ys) ≡ value_of base xs * base ^ length ys + value_of base ys
+value_of-append : (base : ℕ) (xs ys : List ℕ)
+    → value_of base (xs ++ ys) ≡ value_of base xs * base ^ length ys + value_of base ys
 value_of-append base [] ys = omega arith
 value_of-append base (x ∷ xs) ys =
     let inner = value_of-append base xs ys in
-    let power : base ^ length (xs ++ ys) ≡ base ^ length xs * base ^ length ys = ap (λ n. base ^ n) (length-append xs ys) ∙ pow-add base (length xs) (length ys) in
+    let power : base ^ length (xs ++ ys) ≡ base ^ length xs * base ^ length ys =
+    ap (λ n. base ^ n) (length-append xs ys) ∙ pow-add base (length xs) (length ys) in
     let first : digit_of x * base ^ length (xs ++ ys) ≡ digit_of x * base ^ length xs * base ^ length ys =
     ap (λ n. digit_of x * n) power ∙ sym (mul_assoc (digit_of x) (base ^ length xs) (base ^ length ys)) in
     let all : (digit_of x * base ^ length xs + value_of base xs) * base ^ length ys ≡ digit_of x * base ^ length xs * base ^ length ys + value_of base xs * base ^ length ys =
@@ -29,7 +31,8 @@ pow_one n = pow-suc n 0 ∙ ap (λ m. m * n) (pow-zero n) ∙ one-mul n
 -- one more digit behind others
 value_of-last : (base : ℕ) (xs : List ℕ) (c : ℕ) → value_of base (xs ++ (c ∷ [])) ≡ value_of base xs * base + digit_of c
 value_of-last base xs c =
-    let last : value_of base xs * base ^ 1 + (digit_of c * base ^ 0 + 0) ≡ value_of base xs * base + digit_of c = simp (pow-zero, pow_one, mul-one) (omega arith) in
+    let last : value_of base xs * base ^ 1 + (digit_of c * base ^ 0 + 0) ≡ value_of base xs * base + digit_of c =
+    simp (pow-zero, pow_one, mul-one) (omega arith) in
     value_of-append base xs (c ∷ []) ∙ last
 
 value_of-one : (base c : ℕ) → value_of base (c ∷ []) ≡ digit_of c
@@ -58,7 +61,8 @@ first_stays (x ∷ xs) ys h = refl
 not_zero : (n : ℕ) → 0 < n → (n == 0) ≡ false
 not_zero n h = grind (arith, nat_tests)
 
-module _ (base : ℕ) (low : 2 ≤ base) (high : base ≤ 16) (test : ℕ → Bool) (told : (d : ℕ) → d < base → test (digit_glyph false d) ≡ true) where
+module _ (base : ℕ) (low : 2 ≤ base) (high : base ≤ 16) (test : ℕ → Bool)
+    (told : (d : ℕ) → d < base → test (digit_glyph false d) ≡ true) where
   one_digit : (n k : ℕ) → n < base → IsSpelled base test n (suc k) (digit_glyph false n ∷ [])
   one_digit n k h = record {
     some = omega arith;
@@ -72,17 +76,23 @@ module _ (base : ℕ) (low : 2 ≤ base) (high : base ≤ 16) (test : ℕ → Bo
   div_some : (n : ℕ) → base ≤ n → 0 < n / base
   div_some n h = le-div 1 n base (omega (arith, low)) (omega (arith, h))
 
-  more_digits : (n k : ℕ) (ds : List ℕ) → base ≤ n → IsSpelled base test (n / base) k ds → IsSpelled base test n (suc k) (ds ++ (digit_glyph false (n % base) ∷ []))
+  more_digits : (n k : ℕ) (ds : List ℕ)
+      → base ≤ n
+      → IsSpelled base test (n / base) k ds
+      → IsSpelled base test n (suc k) (ds ++ (digit_glyph false (n % base) ∷ []))
   more_digits n k ds h s =
       let few : n % base < base = mod_below n base (omega (arith, low)) in
-      let last : digit_of (digit_glyph false (n % base)) ≡ n % base = digit_of-glyph (n % base) (omega (arith, few, high)) in
+      let last : digit_of (digit_glyph false (n % base)) ≡ n % base =
+      digit_of-glyph (n % base) (omega (arith, few, high)) in
       let whole : n / base * base + n % base ≡ n = div-add-mod' n base in
       record {
         some = omega (arith, length-append ds (digit_glyph false (n % base) ∷ []), s.some);
         short = omega (arith, length-append ds (digit_glyph false (n % base) ∷ []), s.short);
         tests = list_all-append test ds (digit_glyph false (n % base) ∷ []) ∙ rw (s.tests, told (n % base) few) refl;
         value = value_of-last base ds (digit_glyph false (n % base)) ∙ rw (s.value, last) whole;
-        first = λ p. subst (λ m. 48 < m) (sym (first_stays ds (digit_glyph false (n % base) ∷ []) s.some)) (s.first (div_some n h));
+        first =
+            λ p. subst (λ m. 48 < m) (sym (first_stays ds (digit_glyph false (n % base) ∷ []) s.some))
+            (s.first (div_some n h));
         alone = λ e. absurd (omega (arith, e, h, low));
       }
 
@@ -92,7 +102,10 @@ module _ (base : ℕ) (low : 2 ≤ base) (high : base ≤ 16) (test : ℕ → Bo
     pub spelled : IsSpelled base test n k spelled_by
     pub whole : all ≡ spelled_by ++ acc
 
-  pub digits_of_all : (k fuel n : ℕ) (acc : List ℕ) → k ≤ fuel → n < base ^ suc k → HasDigits n (suc k) acc (digits_onto (suc fuel) base false n acc)
+  pub digits_of_all : (k fuel n : ℕ) (acc : List ℕ)
+      → k ≤ fuel
+      → n < base ^ suc k
+      → HasDigits n (suc k) acc (digits_onto (suc fuel) base false n acc)
   digits_of_all zero fuel n acc le h =
       let small : n < base = subst (λ m. n < m) (pow_one base) h in
       let none : n / base ≡ 0 = div-eq_of_lt small in
@@ -103,13 +116,23 @@ module _ (base : ℕ) (low : 2 ≤ base) (high : base ≤ 16) (test : ℕ → Bo
       (λ small.
       let none : n / base ≡ 0 = div-eq_of_lt small in
       let rest : n % base ≡ n = mod-eq_of_lt small in
-      record { spelled_by = digit_glyph false n ∷ []; spelled = one_digit n (suc k) small; whole = rw (none, rest) refl })
+      record {
+        spelled_by = digit_glyph false n
+            ∷ [];
+        spelled = one_digit n (suc k) small;
+        whole = rw (none, rest) refl;
+      })
       (λ large.
-      let fewer : n / base < base ^ suc k = (div-lt_iff_lt-mul (omega (arith, low))).1 (subst (λ m. n < m) (pow-suc base (suc k)) h) in
+      let fewer : n / base < base ^ suc k =
+      (div-lt_iff_lt-mul (omega (arith, low))).1 (subst (λ m. n < m) (pow-suc base (suc k)) h) in
       let inner = digits_of_all k fuel (n / base) (digit_glyph false (n % base) ∷ acc) (omega (arith, le)) fewer in
       let some : (n / base == 0) ≡ false = not_zero (n / base) (div_some n large) in
       record {
         spelled_by = inner.spelled_by ++ (digit_glyph false (n % base) ∷ []);
         spelled = more_digits n (suc k) inner.spelled_by large inner.spelled;
-        whole = ap (λ b. if b then digit_glyph false (n % base) ∷ acc else digits_onto (suc fuel) base false (n / base) (digit_glyph false (n % base) ∷ acc)) some ∙ inner.whole ∙ sym (append_assoc inner.spelled_by (digit_glyph false (n % base) ∷ []) acc);
+        whole =
+            ap
+            (λ b. if b then digit_glyph false (n % base) ∷ acc
+            else digits_onto (suc fuel) base false (n / base) (digit_glyph false (n % base) ∷ acc)) some
+            ∙ inner.whole ∙ sym (append_assoc inner.spelled_by (digit_glyph false (n % base) ∷ []) acc);
       })

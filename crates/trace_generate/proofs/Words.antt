@@ -42,9 +42,14 @@ pub and_right : (a b : Bool) → (a && b) ≡ true → b ≡ true
 and_right true b e = e
 and_right false b e = absurd (cc)
 
-weaker : (p q : ℕ → Bool) → ((b : ℕ) → p b ≡ true → q b ≡ true) → (xs : List ℕ) → list_all p xs ≡ true → list_all q xs ≡ true
+weaker : (p q : ℕ → Bool)
+    → ((b : ℕ) → p b ≡ true → q b ≡ true)
+    → (xs : List ℕ)
+    → list_all p xs ≡ true
+    → list_all q xs ≡ true
 weaker p q h [] e = refl
-weaker p q h (x ∷ xs) e = rw (h x (and_left (p x) (list_all p xs) e), weaker p q h xs (and_right (p x) (list_all p xs) e)) refl
+weaker p q h (x ∷ xs) e =
+    rw (h x (and_left (p x) (list_all p xs) e), weaker p q h xs (and_right (p x) (list_all p xs) e)) refl
 
 plain_decimal : (b : ℕ) → is_decimal_digit b ≡ true → is_plain b ≡ true
 plain_decimal b e = grind (arith, nat_tests)
@@ -68,13 +73,17 @@ below_sixteens n h = omega (arith, h)
 decimal_spelled : (n : ℕ) → n < 2 ^ 64 → IsSpelled 10 is_decimal_digit n 20 (decimal n)
 unfolding digits
 decimal_spelled n h =
-    let d = digits_of_all 10 (omega arith) (omega arith) is_decimal_digit decimal_glyph 19 63 n [] (omega arith) (below_tens n h) in
+    let d =
+    digits_of_all 10 (omega arith) (omega arith) is_decimal_digit decimal_glyph 19 63 n [] (omega arith)
+    (below_tens n h) in
     subst (IsSpelled 10 is_decimal_digit n 20) (sym (d.whole ∙ append-nil d.spelled_by)) d.spelled
 
 hexadecimal_spelled : (n : ℕ) → n < 2 ^ 64 → IsSpelled 16 is_hexadecimal_digit n 16 (digits 16 false n)
 unfolding digits
 hexadecimal_spelled n h =
-    let d = digits_of_all 16 (omega arith) (omega arith) is_hexadecimal_digit hexadecimal_glyph 15 63 n [] (omega arith) (below_sixteens n h) in
+    let d =
+    digits_of_all 16 (omega arith) (omega arith) is_hexadecimal_digit hexadecimal_glyph 15 63 n [] (omega arith)
+    (below_sixteens n h) in
     subst (IsSpelled 16 is_hexadecimal_digit n 16) (sym (d.whole ∙ append-nil d.spelled_by)) d.spelled
 
 fits : (n : ℕ) → n < 2 ^ 64 → in_64_bits n ≡ Some n
@@ -87,8 +96,12 @@ or_true false = refl
 decimal_test : (n k : ℕ) (ds : List ℕ) → IsSpelled 10 is_decimal_digit n k ds → is_decimal ds ≡ true
 decimal_test n k [] s = absurd (omega (arith, s.some))
 decimal_test n k (d ∷ ds) s = by_lt 0 n
-    (λ more. let first : 48 < d = s.first more in let high : nat_lt 48 d ≡ true = grind (arith, nat_tests) in rw (s.tests, high) refl)
-    (λ none. let one : length ds ≡ 0 = omega (arith, s.alone (omega (arith, none))) in let alone : (length ds == 0) ≡ true = rw one refl in rw (s.tests, alone) (ap (λ b. b && true) (or_true (nat_lt 48 d))))
+    (λ more. let first : 48 < d = s.first more in
+    let high : nat_lt 48 d ≡ true = grind (arith, nat_tests) in
+    rw (s.tests, high) refl)
+    (λ none. let one : length ds ≡ 0 = omega (arith, s.alone (omega (arith, none))) in
+    let alone : (length ds == 0) ≡ true = rw one refl in
+    rw (s.tests, alone) (ap (λ b. b && true) (or_true (nat_lt 48 d))))
 
 -- a decimal number is read as itself, and a page
 decimal_is : (n : ℕ) → Fits n → decimal_of (decimal n) ≡ Some n
@@ -105,7 +118,11 @@ number_of-decimal n h =
 not_decimal : (ds : List ℕ) → is_decimal (48 ∷ 120 ∷ ds) ≡ false
 not_decimal ds = grind (arith, nat_tests)
 
-is_hexadecimal_by : (ds : List ℕ) → 0 < length ds → length ds ≤ 16 → list_all is_hexadecimal_digit ds ≡ true → is_hexadecimal (48 ∷ 120 ∷ ds) ≡ true
+is_hexadecimal_by : (ds : List ℕ)
+    → 0 < length ds
+    → length ds ≤ 16
+    → list_all is_hexadecimal_digit ds ≡ true
+    → is_hexadecimal (48 ∷ 120 ∷ ds) ≡ true
 is_hexadecimal_by ds some short all =
     let low : nat_le 3 (length (48 ∷ 120 ∷ ds)) ≡ true = grind (arith, nat_tests) in
     let high : nat_le (length (48 ∷ 120 ∷ ds)) 18 ≡ true = grind (arith, nat_tests) in
@@ -115,13 +132,18 @@ pub number_of-page : (n : ℕ) → Fits n → number_of (text_of_page n) ≡ Som
 unfolding number_of
 number_of-page n h =
     let s = hexadecimal_spelled n h in
-    rw (not_decimal (digits 16 false n), is_hexadecimal_by (digits 16 false n) s.some s.short s.tests, s.value) (fits n h)
+    rw (not_decimal (digits 16 false n), is_hexadecimal_by (digits 16 false n) s.some s.short s.tests, s.value)
+    (fits n h)
 
 -- what is written are words
 pub word_of-decimal : (n : ℕ) → Fits n → IsWord (decimal n)
 word_of-decimal n h =
     let s = decimal_spelled n h in
-    record { some = s.some; short = omega (arith, s.short); plain = weaker is_decimal_digit is_plain plain_decimal (decimal n) s.tests }
+    record {
+      some = s.some;
+      short = omega (arith, s.short);
+      plain = weaker is_decimal_digit is_plain plain_decimal (decimal n) s.tests;
+    }
 
 pub word_of-page : (n : ℕ) → Fits n → IsWord (text_of_page n)
 word_of-page n h =
@@ -144,9 +166,15 @@ begins-decimal n h = begins n 20 (decimal n) (decimal_spelled n h)
 no_dot : (b : ℕ) → is_decimal_digit b ≡ true → (b == 0x2e) ≡ false
 no_dot b e = grind (arith, nat_tests)
 
-all_no : (p q : ℕ → Bool) → ((b : ℕ) → p b ≡ true → q b ≡ false) → (xs : List ℕ) → list_all p xs ≡ true → All (λ b. q b ≡ false) xs
+all_no : (p q : ℕ → Bool)
+    → ((b : ℕ) → p b ≡ true → q b ≡ false)
+    → (xs : List ℕ)
+    → list_all p xs ≡ true
+    → All (λ b. q b ≡ false) xs
 all_no p q h [] e = λ k d l. absurd (omega (arith, l))
-all_no p q h (x ∷ xs) e = All-cons (λ b. q b ≡ false) x xs (h x (and_left (p x) (list_all p xs) e)) (all_no p q h xs (and_right (p x) (list_all p xs) e))
+all_no p q h (x ∷ xs) e =
+    All-cons (λ b. q b ≡ false) x xs (h x (and_left (p x) (list_all p xs) e))
+    (all_no p q h xs (and_right (p x) (list_all p xs) e))
 
 vm_parts : (vm : VmId) → FitsVm vm → dotted (text_of_vm vm) ≡ decimal vm.slot ∷ decimal vm.generation ∷ []
 vm_parts vm h =
@@ -154,8 +182,11 @@ vm_parts vm h =
     let generation = decimal_spelled vm.generation h.1 in
     let no_dots = all_no is_decimal_digit (λ byte. byte == 0x2e) no_dot in
     ap dotted (append_assoc (decimal vm.slot) (codes ".") (decimal vm.generation))
-    ∙ slice_split_at (λ byte. byte == 0x2e) (decimal vm.slot) 46 (decimal vm.generation) (no_dots (decimal vm.slot) slot.tests) refl
-    ∙ ap (λ rest. decimal vm.slot ∷ rest) (slice_split_none (λ byte. byte == 0x2e) (decimal vm.generation) (no_dots (decimal vm.generation) generation.tests))
+    ∙ slice_split_at (λ byte. byte == 0x2e) (decimal vm.slot) 46 (decimal vm.generation)
+    (no_dots (decimal vm.slot) slot.tests) refl
+    ∙ ap (λ rest. decimal vm.slot ∷ rest)
+    (slice_split_none (λ byte. byte == 0x2e) (decimal vm.generation)
+    (no_dots (decimal vm.generation) generation.tests))
 
 pub vm_of-vm : (vm : VmId) → FitsVm vm → vm_of (text_of_vm vm) ≡ Some vm
 unfolding vm_of
@@ -172,7 +203,9 @@ word_of-vm vm h =
     record {
       some = omega (arith, first, all, s.some);
       short = omega (arith, first, all, s.short, g.short);
-      plain = list_all-append is_plain (decimal vm.slot ++ codes ".") (decimal vm.generation) ∙ rw (list_all-append is_plain (decimal vm.slot) (codes "."), slot.plain, generation.plain) refl;
+      plain =
+          list_all-append is_plain (decimal vm.slot ++ codes ".") (decimal vm.generation)
+          ∙ rw (list_all-append is_plain (decimal vm.slot) (codes "."), slot.plain, generation.plain) refl;
     }
 
 -- kinds and rights

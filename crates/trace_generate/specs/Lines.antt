@@ -1,4 +1,5 @@
--- How the lines of a generated trace are written (profile): pages and frames in hexadecimal, all else in decimal, one space between words.
+-- How the lines of a generated trace are written (profile): pages and frames in hexadecimal, all
+-- else in decimal, one space between words.
 use Rattle.std.specs.Prelude.{ℕ, List, [], ◌∷◌, ◌++◌, codes}
 use Rattle.std.specs.Fmt.{decimal}
 use Rattle.page_state.specs.declared.entry.PageRange.{PageRange}
@@ -29,11 +30,14 @@ text_of_argument Rights a = text_of_prot a.rights
 -- and those of such forms, each behind a space
 abbrev pub text_of_arguments : List Form → Arguments → List ℕ
 text_of_arguments [] a = []
-text_of_arguments (form ∷ more) a = codes " " ++ (text_of_argument form a ++ text_of_arguments more a)
+text_of_arguments (form ∷ more) a =
+    codes " " ++ (text_of_argument form a ++ text_of_arguments more a)
 
 -- a call's name and its arguments; a range always with its count
 unfoldable pub text_of_call : Step → List ℕ
-text_of_call step = (row (named_by step).call).word ++ text_of_arguments (row (named_by step).call).forms (named_by step).arguments
+text_of_call step =
+    (row (named_by step).call).word
+    ++ text_of_arguments (row (named_by step).call).forms (named_by step).arguments
 
 -- a step line, without its end
 abbrev pub text_of_line : StepLine → List ℕ
@@ -45,9 +49,12 @@ text_of_range range = text_of_page range.first.0 ++ codes " " ++ decimal range.c
 
 -- the lines of settings that are numbers, without the end of the last
 abbrev pub text_of_numbers : ℕ → ℕ → ℕ → List ℕ
-text_of_numbers geometry cpus log = codes "geometry " ++ decimal geometry ++ codes "\ncpus " ++ decimal cpus ++ codes "\nlog " ++ decimal log
+text_of_numbers geometry cpus log =
+    codes "geometry " ++ decimal geometry ++ codes "\ncpus " ++ decimal cpus ++ codes "\nlog "
+    ++ decimal log
 
 -- the lines before the steps, without the end of the last
 abbrev pub text_of_settings : SettingLines → List ℕ
 text_of_settings s =
-    text_of_numbers s.geometry s.cpus s.log ++ codes "\nmemory " ++ text_of_range s.memory ++ codes "\ncarve " ++ text_of_range s.carve ++ codes "\nboot"
+    text_of_numbers s.geometry s.cpus s.log ++ codes "\nmemory " ++ text_of_range s.memory
+    ++ codes "\ncarve " ++ text_of_range s.carve ++ codes "\nboot"

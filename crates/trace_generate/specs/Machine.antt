@@ -22,11 +22,17 @@ carve_count o = min (max (o.pages / 32) 16) 1024
 
 -- the carve-out: the last pages of memory
 abbrev pub carve_range : Options → PageRange
-carve_range o = record { first = record { 0 = 0x40000 + (o.pages - carve_count o) }; count = carve_count o }
+carve_range o =
+    record { first = record { 0 = 0x40000 + (o.pages - carve_count o) }; count = carve_count o }
 
 -- the memory: one region
 abbrev pub memory_told : Options → Memory
-memory_told o = record { regions = record { kind = kinds.Memory; pages = memory_range o } ∷ []; carve = carve_range o }
+memory_told o =
+    record {
+      regions = record { kind = kinds.Memory; pages = memory_range o }
+          ∷ [];
+      carve = carve_range o;
+    }
 
 -- the configuration: logs with room for every step
 abbrev pub config_told : ℕ → Options → Config
@@ -34,7 +40,14 @@ config_told steps o = record { cpus = o.cpus; log = max steps 1; geometry = o.ge
 
 -- the settings that a trace begins with
 abbrev pub settings_of : ℕ → Options → SettingLines
-settings_of steps o = record { geometry = o.geometry; cpus = o.cpus; log = max steps 1; memory = memory_range o; carve = carve_range o }
+settings_of steps o =
+    record {
+      geometry = o.geometry;
+      cpus = o.cpus;
+      log = max steps 1;
+      memory = memory_range o;
+      carve = carve_range o;
+    }
 
 -- the layout of the machine that these settings boot
 pub record IsLayoutOf (steps : ℕ) (o : Options) (l : Layout) : Type 0 where
@@ -62,9 +75,11 @@ pub record IsInRange (steps : ℕ) (o : Options) : Type 0 where
   pub hostile : o.hostile ≤ 100
   pub pages : o.pages ≤ 524288
 
--- no machine boots on these settings: the memory isn't accepted, or the carve-out has too few frames
+-- no machine boots on these settings: the memory isn't accepted, or the carve-out has too few
+-- frames
 abbrev pub CannotBoot : ℕ → Options → Type 0
-CannotBoot steps o = ¬ IsAccepted (memory_told o) ⊎ ((l : Layout) × IsLayoutOf steps o l × ¬ IsCarveEnough l)
+CannotBoot steps o =
+    ¬ IsAccepted (memory_told o) ⊎ ((l : Layout) × IsLayoutOf steps o l × ¬ IsCarveEnough l)
 
 -- what each fault says
 abbrev pub IsFault : GenerateFault → ℕ → Options → Type 0
@@ -72,6 +87,7 @@ IsFault Steps steps o = ¬ HasFewSteps steps
 IsFault Cpus steps o = HasFewSteps steps × ¬ HasCpus o
 IsFault Geometry steps o = HasFewSteps steps × HasCpus o × ¬ HasGeometry o
 IsFault Hostile steps o = HasFewSteps steps × HasCpus o × HasGeometry o × (100 < o.hostile)
-IsFault Pages steps o = HasFewSteps steps × HasCpus o × HasGeometry o × (o.hostile ≤ 100) × (524288 < o.pages)
+IsFault Pages steps o =
+    HasFewSteps steps × HasCpus o × HasGeometry o × (o.hostile ≤ 100) × (524288 < o.pages)
 IsFault NoBoot steps o = IsInRange steps o × CannotBoot steps o
 IsFault NoMemory steps o = IsInRange steps o

@@ -17,18 +17,23 @@ abbrev pub text_of_calls : List StepLine → List ℕ
 text_of_calls [] = []
 text_of_calls (c ∷ cs) = text_of_line c ++ codes "\n" ++ text_of_calls cs
 
--- a number of calls so far: a walk of the model from a state to another, and their lines behind bytes
-pub record IsSoFar (l : Layout) (hostile : ℕ) (start : Reference) (begun : List ℕ) (number : ℕ) (state : Reference) (bytes : List ℕ) : Type 0 where
+-- a number of calls so far: a walk of the model from a state to another, and their lines behind
+-- bytes
+pub record IsSoFar (l : Layout) (hostile : ℕ) (start : Reference) (begun : List ℕ) (number : ℕ)
+    (state : Reference) (bytes : List ℕ) : Type 0 where
   pub calls : List StepLine
   pub count : length calls ≡ number
   pub walk : IsWalk l hostile 0 start calls state
   pub text : bytes ≡ begun ++ text_of_calls calls
 
--- just so many calls were made, from lists that say a state to others, and their lines written behind bytes
+-- just so many calls were made, from lists that say a state to others, and their lines written
+-- behind bytes
 abbrev pub AreCallsMade : ℕ → ℕ → GhostLists → GhostLists → List ℕ → List ℕ → Type 0
-AreCallsMade hostile count old new begun bytes = IsSoFar (layout_of old.layout) hostile (ghost_state old) begun count (ghost_state new) bytes
+AreCallsMade hostile count old new begun bytes =
+    IsSoFar (layout_of old.layout) hostile (ghost_state old) begun count (ghost_state new) bytes
 
--- the bytes of a trace of these options: the settings, and then just as many calls, which are a walk of the model from the boot of these settings
+-- the bytes of a trace of these options: the settings, and then just as many calls, which are a
+-- walk of the model from the boot of these settings
 pub record IsTrace (steps : ℕ) (o : Options) (bytes : List ℕ) : Type 0 where
   pub layout : Layout
   pub of_options : IsLayoutOf steps o layout

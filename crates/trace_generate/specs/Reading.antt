@@ -42,11 +42,14 @@ FitForms (form ∷ more) a = FitsForm form a × FitForms more a
 abbrev pub IsIn64Bits : Step → Type 0
 IsIn64Bits step = FitForms (row (named_by step).call).forms (named_by step).arguments
 
--- after any boot, whatever lines came before it and with or without `start`, the line of a step says exactly that step
+-- after any boot, whatever lines came before it and with or without `start`, the line of a step
+-- says exactly that step
 abbrev pub LinesAreRead : Type 0
-LinesAreRead = (started : Bool) (told : Told) (line : StepLine) → Fits line.cpu → IsIn64Bits line.step
+LinesAreRead =
+    (started : Bool) (told : Told) (line : StepLine) → Fits line.cpu → IsIn64Bits line.step
     → said (of_replay started) told (text_of_line line) ≡ Ok (Some (lines.Step line.cpu line.step))
 
 -- and so it has at most 256 bytes
 abbrev pub LinesAreShort : Type 0
-LinesAreShort = (line : StepLine) → Fits line.cpu → IsIn64Bits line.step → length (text_of_line line) ≤ 256
+LinesAreShort =
+    (line : StepLine) → Fits line.cpu → IsIn64Bits line.step → length (text_of_line line) ≤ 256

@@ -1,4 +1,5 @@
--- Walks along the reference step, but for want of memory: which calls they have, and which of these the model refuses (profile).
+-- Walks along the reference step, but for want of memory: which calls they have, and which of these
+-- the model refuses (profile).
 use Rattle.std.specs.Prelude.{◌≡◌, ◌⊎◌, ℕ, ◌+◌, ◌*◌, ◌/◌, ◌<◌, Bool, true, false, not, ◌==◌, List, [], ◌∷◌}
 use Rattle.page_state.specs.Layouts.{Layout}
 use Rattle.reference_model.specs.model.State.{Reference}
@@ -9,7 +10,8 @@ use Rattle.call_table.specs.declared.step.Step.TheVariants.{OwnerOf}
 use Rattle.trace_generate.specs.declared.line.StepLine.{StepLine}
 use Rattle.trace_generate.specs.Reading.{IsIn64Bits}
 
--- whether the call of a number, counted from 0, is to be refused: of the first n calls n * hostile / 100 are
+-- whether the call of a number, counted from 0, is to be refused: of the first n calls n * hostile
+-- / 100 are
 abbrev pub is_hostile : ℕ → ℕ → Bool
 is_hostile hostile number = not ((number + 1) * hostile / 100 == number * hostile / 100)
 
@@ -39,4 +41,5 @@ pub record IsCallOf (l : Layout) (hostile : Bool) (s : Reference) (c : StepLine)
 -- calls from a number on lead by the model from one state to another, each as wanted
 abbrev pub IsWalk : Layout → ℕ → ℕ → Reference → List StepLine → Reference → Type 0
 IsWalk l hostile number s [] t = s ≡ t
-IsWalk l hostile number s (c ∷ cs) t = IsCallOf l (is_hostile hostile number) s c × IsWalk l hostile (number + 1) (after l s c) cs t
+IsWalk l hostile number s (c ∷ cs) t =
+    IsCallOf l (is_hostile hostile number) s c × IsWalk l hostile (number + 1) (after l s c) cs t

@@ -45,7 +45,8 @@ pub fn generate<P: Progress>(
 /// The lines of the settings.
 fn settings(global: Global, steps: u64, options: Options) -> Result<String, GenerateFault>
     requires { IsInRange steps options }
-    ensures text { IfOk result (λ text. string_bytes text ≡ text_of_settings (settings_of steps options) ++ codes "\n") }
+    ensures text { IfOk result
+        (λ text. string_bytes text ≡ text_of_settings (settings_of steps options) ++ codes "\n") }
     ensures fault { IfErr result (λ f. IsFault f steps options) }
 {
     let lines = SettingLines {
@@ -73,7 +74,9 @@ fn walked<P: Progress>(
 ) -> Result<(), AllocError>
     requires range { IsInRange steps options }
     requires layout { IsLayoutOf steps options (layout_of state.old.layout) }
-    ensures { OnOk result (AreCallsMade options.hostile steps state.old state.new (string_bytes text.old) (string_bytes text.new)) }
+    ensures { OnOk result
+        (AreCallsMade options.hostile steps state.old state.new (string_bytes text.old)
+        (string_bytes text.new)) }
 {
     let mut chance = seeded(seed);
     let mut made = Made::NONE;
@@ -90,7 +93,8 @@ fn walked<P: Progress>(
 }
 
 fn write_call(text: &mut String, call: StepLine) -> Result<(), AllocError>
-    ensures { OnOk result (string_bytes text.new ≡ string_bytes text.old ++ (text_of_line call ++ codes "\n")) }
+    ensures { OnOk result
+        (string_bytes text.new ≡ string_bytes text.old ++ (text_of_line call ++ codes "\n")) }
 {
     writeln!(text, "{call}")
 }

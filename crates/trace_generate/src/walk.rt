@@ -81,8 +81,11 @@ fn goes_on(
 ) -> Result<bool, AllocError>
     requires { call.cpu < state.old.layout.config.cpus }
     ensures no { result ≡ Ok false → state.new ≡ state.old }
-    ensures wanted { result ≡ Ok true → is_refused (layout_of state.old.layout) (ghost_state state.old) call ≡ hostile }
-    ensures state { result ≡ Ok true → ghost_state state.new ≡ after_call (layout_of state.old.layout) (ghost_state state.old) call }
+    ensures wanted { result ≡ Ok true
+        → is_refused (layout_of state.old.layout) (ghost_state state.old) call ≡ hostile }
+    ensures state { result ≡ Ok true
+        → ghost_state state.new
+        ≡ after_call (layout_of state.old.layout) (ghost_state state.old) call }
     ensures layout { OnOk result (layout_of state.new.layout ≡ layout_of state.old.layout) }
 {
     if !has_next_generation(state, call.cpu, call.step) {
@@ -125,9 +128,15 @@ pub(crate) fn tried(
     requires { 0 < state.old.layout.config.cpus }
     ensures none { result ≡ Ok None → state.new ≡ state.old }
     ensures drawn { IfOk result (λ o. IfSome o (λ c. c.cpu ≡ drawn chance.old state.old.layout.config.cpus)) }
-    ensures call { IfOk result (λ o. IfSome o (IsCallOf (layout_of state.old.layout) hostile (ghost_state state.old))) }
-    ensures wanted { IfOk result (λ o. IfSome o (λ c. is_refused (layout_of state.old.layout) (ghost_state state.old) c ≡ hostile)) }
-    ensures state { IfOk result (λ o. IfSome o (λ c. ghost_state state.new ≡ after_call (layout_of state.old.layout) (ghost_state state.old) c)) }
+    ensures call { IfOk result
+        (λ o. IfSome o (IsCallOf (layout_of state.old.layout) hostile (ghost_state state.old))) }
+    ensures wanted { IfOk result
+        (λ o. IfSome o
+        (λ c. is_refused (layout_of state.old.layout) (ghost_state state.old) c ≡ hostile)) }
+    ensures state { IfOk result
+        (λ o. IfSome o
+        (λ c. ghost_state state.new
+        ≡ after_call (layout_of state.old.layout) (ghost_state state.old) c)) }
     ensures layout { OnOk result (layout_of state.new.layout ≡ layout_of state.old.layout) }
 {
     let cpu = below(chance, state.lists().layout.config.cpus);
@@ -149,7 +158,9 @@ fn surely(
     requires { 0 < state.old.layout.config.cpus }
     ensures drawn { IfOk result (λ c. c.cpu ≡ drawn chance.old state.old.layout.config.cpus) }
     ensures call { IfOk result (IsCallOf (layout_of state.old.layout) hostile (ghost_state state.old)) }
-    ensures state { IfOk result (λ c. ghost_state state.new ≡ after_call (layout_of state.old.layout) (ghost_state state.old) c) }
+    ensures state { IfOk result
+        (λ c. ghost_state state.new
+        ≡ after_call (layout_of state.old.layout) (ghost_state state.old) c) }
     ensures layout { OnOk result (layout_of state.new.layout ≡ layout_of state.old.layout) }
 {
     let layout = &state.lists().layout;
@@ -180,7 +191,9 @@ pub(crate) fn next_call(
 ) -> Result<StepLine, AllocError>
     requires { 0 < state.old.layout.config.cpus }
     ensures call { IfOk result (IsCallOf (layout_of state.old.layout) hostile (ghost_state state.old)) }
-    ensures state { IfOk result (λ c. ghost_state state.new ≡ after_call (layout_of state.old.layout) (ghost_state state.old) c) }
+    ensures state { IfOk result
+        (λ c. ghost_state state.new
+        ≡ after_call (layout_of state.old.layout) (ghost_state state.old) c) }
     ensures layout { OnOk result (layout_of state.new.layout ≡ layout_of state.old.layout) }
 {
     for _ in 0..TRIES {

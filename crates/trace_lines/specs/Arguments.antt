@@ -14,7 +14,8 @@ number_at words place = option_and_then number_of (slice_get words place)
 
 -- the number at a place, and 1 where the line ends before it
 abbrev pub count_word_at : List (List ℕ) → ℕ → Option ℕ
-count_word_at words place = elim (slice_get words place) [ None ↦ Some 1 | Some word ↦ number_of word ]
+count_word_at words place =
+    elim (slice_get words place) [ None ↦ Some 1 | Some word ↦ number_of word ]
 
 -- 1 where the line has a word at the place
 abbrev pub one_more : List (List ℕ) → ℕ → ℕ
@@ -23,7 +24,10 @@ one_more words place = if is_some (slice_get words place) then 1 else 0
 -- the range that the second and third word tell: its first page and how many pages
 abbrev pub range_of : List (List ℕ) → Option PageRange
 range_of words =
-    option_and_then (λ first. option_map (λ count. record { first = record { 0 = first }; count = count }) (number_at words 2)) (number_at words 1)
+    option_and_then
+    (λ first. option_map (λ count. record { first = record { 0 = first }; count = count })
+    (number_at words 2))
+    (number_at words 1)
 
 -- a level of a tree
 abbrev pub in_levels : ℕ → Option ℕ
@@ -53,7 +57,10 @@ decimal_part word place = option_and_then decimal_of (slice_get (dotted word) pl
 unfoldable pub vm_of : List ℕ → Option VmId
 vm_of word =
     if is_some (slice_get (dotted word) 2) then None
-    else option_and_then (λ slot. option_map (λ generation. record { slot = slot; generation = generation }) (decimal_part word 1)) (decimal_part word 0)
+    else option_and_then
+    (λ slot. option_map (λ generation. record { slot = slot; generation = generation })
+    (decimal_part word 1))
+    (decimal_part word 0)
 
 -- the VM at a place
 abbrev pub vm_word_at : List (List ℕ) → ℕ → Option VmId

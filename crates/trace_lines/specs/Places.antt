@@ -11,23 +11,63 @@ use Rattle.trace_lines.specs.Settings.{Told}
 
 -- what each program allows before the boot
 abbrev pub before_boot : Allows
-before_boot = record { settings = true; boot = true; steps = false; queries = false; pokes = false; start = false }
+before_boot =
+    record {
+      settings = true;
+      boot = true;
+      steps = false;
+      queries = false;
+      pokes = false;
+      start = false;
+    }
 
 -- what `replay` allows after it, and whether `start` came already, which comes at most once
 abbrev pub of_replay : Bool → Allows
-of_replay started = record { settings = false; boot = false; steps = true; queries = true; pokes = false; start = not started }
+of_replay started =
+    record {
+      settings = false;
+      boot = false;
+      steps = true;
+      queries = true;
+      pokes = false;
+      start = not started;
+    }
 
 -- `race`: no question
 abbrev pub of_race : Bool → Allows
-of_race started = record { settings = false; boot = false; steps = true; queries = false; pokes = false; start = not started }
+of_race started =
+    record {
+      settings = false;
+      boot = false;
+      steps = true;
+      queries = false;
+      pokes = false;
+      start = not started;
+    }
 
 -- `audit`, up to the first poke
 abbrev pub of_audit : Bool → Allows
-of_audit started = record { settings = false; boot = false; steps = true; queries = true; pokes = true; start = not started }
+of_audit started =
+    record {
+      settings = false;
+      boot = false;
+      steps = true;
+      queries = true;
+      pokes = true;
+      start = not started;
+    }
 
 -- and after it: further pokes
 abbrev pub after_poke : Allows
-after_poke = record { settings = false; boot = false; steps = false; queries = false; pokes = true; start = false }
+after_poke =
+    record {
+      settings = false;
+      boot = false;
+      steps = false;
+      queries = false;
+      pokes = true;
+      start = false;
+    }
 
 -- whether a setting may come after these: any number of regions, and all else once
 abbrev pub may_tell : Told → SettingName → Bool
@@ -38,7 +78,8 @@ may_tell told Memory = true
 may_tell told Device = true
 may_tell told Carve = is_none told.carve
 
--- whether a line may come after these settings where the program allows these lines: the boot after the carve-out
+-- whether a line may come after these settings where the program allows these lines: the boot after
+-- the carve-out
 abbrev pub may_stand : Allows → Told → Verb → Bool
 may_stand allows told (Setting name) = allows.settings && may_tell told name
 may_stand allows told Boot = allows.boot && is_some told.carve

@@ -1,4 +1,5 @@
--- What a line of a trace says after what was said before it, or the first fault that it has (profile).
+-- What a line of a trace says after what was said before it, or the first fault that it has
+-- (profile).
 use Rattle.std.specs.Prelude.{ℕ, not, nat_lt, ◌==◌, List, length, Option, Some, None, Result, Ok, Err, ok_or, option_map, if◌then◌else◌}
 use Rattle.trace_lines.specs.declared.asked.Asked.{Asked}
 use Rattle.trace_lines.specs.declared.fault.LineFault.{LineFault}

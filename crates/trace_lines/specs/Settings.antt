@@ -9,7 +9,8 @@ use Rattle.trace_lines.specs.declared.line.Setting.{Setting}
 use Rattle.trace_lines.specs.declared.line.Setting.TheVariants as settings
 use Rattle.trace_lines.specs.declared.settings.Settings.{Settings}
 
--- the settings: the width of input addresses, the CPUs, the calls of a log, the regions in order, and the carve-out
+-- the settings: the width of input addresses, the CPUs, the calls of a log, the regions in order,
+-- and the carve-out
 pub record Told : Type 0 where
   pub geometry : Option ℕ
   pub cpus : Option ℕ
@@ -19,7 +20,14 @@ pub record Told : Type 0 where
 
 -- what settings hold
 abbrev pub told_of : Settings → Told
-told_of s = record { geometry = s.geometry; cpus = s.cpus; log = s.log; regions = s.regions.items; carve = s.carve }
+told_of s =
+    record {
+      geometry = s.geometry;
+      cpus = s.cpus;
+      log = s.log;
+      regions = s.regions.items;
+      carve = s.carve;
+    }
 
 -- no settings
 abbrev pub nothing_told : Told
@@ -27,7 +35,8 @@ nothing_told = record { geometry = None; cpus = None; log = None; regions = []; 
 
 -- the settings with one more region, after the others
 abbrev pub with_region : RegionKind → PageRange → Told → Told
-with_region kind pages told = record told { regions = told.regions ++ record { kind = kind; pages = pages } ∷ [] }
+with_region kind pages told =
+    record told { regions = told.regions ++ record { kind = kind; pages = pages } ∷ [] }
 
 -- the settings after one more
 abbrev pub told_after : Setting → Told → Told
@@ -40,4 +49,9 @@ told_after (settings.Carve pages) told = record told { carve = Some pages }
 
 -- the given configuration: by default one CPU, logs of 1,024 calls, and 39 bits
 abbrev pub config_of : Told → Config
-config_of told = record { cpus = unwrap_or told.cpus 1; log = unwrap_or told.log 1024; geometry = unwrap_or told.geometry 39 }
+config_of told =
+    record {
+      cpus = unwrap_or told.cpus 1;
+      log = unwrap_or told.log 1024;
+      geometry = unwrap_or told.geometry 39;
+    }

@@ -1,4 +1,5 @@
--- How a report names the faults of lines, and writes what lines report (profile): words are separated by one space each.
+-- How a report names the faults of lines, and writes what lines report (profile): words are
+-- separated by one space each.
 use Rattle.std.specs.Prelude.{ℕ, ◌-◌, List, ◌++◌, length, codes, replicate, false}
 use Rattle.std.specs.Fmt.{digits, decimal}
 use Rattle.page_state.specs.Entries.{entry_of_target}
@@ -25,8 +26,13 @@ digits_16 word = replicate (16 - length (digits 16 false word)) 48 ++ digits 16 
 
 -- what a line reports, without its end
 abbrev pub text_of_response : Response → List ℕ
-text_of_response (responses.Boot host hyp free) = codes "boot host " ++ decimal host ++ codes " hyp " ++ decimal hyp ++ codes " free " ++ decimal free
-text_of_response (responses.Step line cpu reply) = decimal line ++ codes " " ++ decimal cpu ++ codes " " ++ text_of_reply reply
+text_of_response (responses.Boot host hyp free) =
+    codes "boot host " ++ decimal host ++ codes " hyp " ++ decimal hyp ++ codes " free "
+    ++ decimal free
+text_of_response (responses.Step line cpu reply) =
+    decimal line ++ codes " " ++ decimal cpu ++ codes " " ++ text_of_reply reply
 text_of_response (responses.Word word) = codes "word 0x" ++ digits_16 word
 text_of_response (responses.Free free) = codes "free " ++ decimal free
-text_of_response (responses.Run run) = codes "run " ++ text_of_page run.pages.first.0 ++ codes " " ++ decimal run.pages.count ++ codes " " ++ text_of_entry (entry_of_target run.target)
+text_of_response (responses.Run run) =
+    codes "run " ++ text_of_page run.pages.first.0 ++ codes " " ++ decimal run.pages.count
+    ++ codes " " ++ text_of_entry (entry_of_target run.target)

@@ -117,7 +117,12 @@ fn header(first: &[u8], words: &Words<'_>) -> Option<Asked>
 
 /// A line that gives a setting.
 fn setting_line(name: SettingName, words: usize, setting: Option<Setting>) -> Asked
-    ensures { result ≡ record { verb = Verb.Setting name; words = words; line = option_map Line.Setting setting } }
+    ensures { result
+        ≡ record {
+          verb = Verb.Setting name;
+          words = words;
+          line = option_map Line.Setting setting;
+        } }
 {
     Asked {
         verb: Verb::Setting(name),
@@ -139,7 +144,8 @@ fn call(name: &[u8], words: &Words<'_>) -> Option<Asked>
 }
 
 fn step_line(words: &Words<'_>, step: Option<Step>) -> Option<Line>
-    ensures { result ≡ option_and_then (λ cpu. option_map (Line.Step cpu) step) (number_at_place words.now 0) }
+    ensures { result
+        ≡ option_and_then (λ cpu. option_map (Line.Step cpu) step) (number_at_place words.now 0) }
 {
     let cpu = number_at(words, 0)?;
     let step = step?;

@@ -15,14 +15,20 @@ use Rattle.trace_outcomes.specs.Texts.{all_said, end_said, too_many_said}
 use Rattle.trace_outcomes.specs.Told.{IsBoot, IsNoBoot, TellsClean, TellsFault, TellsOutcomes, TellsRaced, TellsUnclean}
 
 -- what is told where a boot is refused, where nothing boots, and where a machine does
-on_boot : {T U : Type 0} (F : ℕ → Fault → T → Type 0) (I : T → Type 0) (P : Machine → T → Type 0) (G : ℕ → Fault → U → Type 0) (J : U → Type 0) (Q : Machine → U → Type 0) (a : Asking) (t : T) (u : U)
-    → ((n : ℕ) (fault : Fault) → F n fault t → G n fault u) → (I t → J u) → ((m : Machine) → P m t → Q m u) → (b : Option ℕ) (k : Option PageRange)
+on_boot : {T U : Type 0} (F : ℕ → Fault → T → Type 0) (I : T → Type 0) (P : Machine → T → Type 0)
+    (G : ℕ → Fault → U → Type 0) (J : U → Type 0) (Q : Machine → U → Type 0) (a : Asking) (t : T) (u : U)
+    → ((n : ℕ) (fault : Fault) → F n fault t → G n fault u)
+    → (I t → J u)
+    → ((m : Machine) → P m t → Q m u)
+    → (b : Option ℕ) (k : Option PageRange)
     → MatchOption b (I t) (λ number. MatchOption k (I t) (λ carve. IsNoBoot F a carve number t ⊎ IsBoot P a carve t))
     → MatchOption b (J u) (λ number. MatchOption k (J u) (λ carve. IsNoBoot G a carve number u ⊎ IsBoot Q a carve u))
 on_boot F I P G J Q a t u f i p None k h = i h
 on_boot F I P G J Q a t u f i p (Some n) None h = i h
-on_boot F I P G J Q a t u f i p (Some n) (Some c) (inl x) = inl (record { fault = x.fault; refused = x.refused; tells = f n x.fault x.tells })
-on_boot F I P G J Q a t u f i p (Some n) (Some c) (inr x) = inr (record { machine = x.machine; booted = x.booted; tells = p x.machine x.tells })
+on_boot F I P G J Q a t u f i p (Some n) (Some c) (inl x) =
+    inl (record { fault = x.fault; refused = x.refused; tells = f n x.fault x.tells })
+on_boot F I P G J Q a t u f i p (Some n) (Some c) (inr x) =
+    inr (record { machine = x.machine; booted = x.booted; tells = p x.machine x.tells })
 
 fault_number : {m n : ℕ} {f g : Fault} → founds.Fault m f ≡ founds.Fault n g → m ≡ n
 fault_number e = let same = e in cc
@@ -49,34 +55,64 @@ all_idle : {P : Type 0} {o : Outcomes} → founds.All o ≡ founds.Idle → P
 all_idle e = let same = e in cc
 
 module _ (limit : ℕ) (a : Asking) (t : Told) where
-  told_by : (f : Found) → ((n : ℕ) (fault : Fault) → f ≡ founds.Fault n fault → TellsFault n fault t) → (f ≡ founds.Idle → TellsClean (end_said 0 0) t) → ((m : Machine) → FindsOn limit a m f → TellsRaced limit a m t)
+  told_by : (f : Found)
+      → ((n : ℕ) (fault : Fault) → f ≡ founds.Fault n fault → TellsFault n fault t)
+      → (f ≡ founds.Idle → TellsClean (end_said 0 0) t)
+      → ((m : Machine) → FindsOn limit a m f → TellsRaced limit a m t)
       → Finds limit a f → TellsOutcomes limit (Ok a) t
   told_by f faults idle on h =
-      on_boot (λ number fault f. f ≡ founds.Fault number fault) (λ f. f ≡ founds.Idle) (FindsOn limit a) TellsFault (TellsClean (end_said 0 0)) (TellsRaced limit a) a f t faults idle on a.boot a.told.carve h
+      on_boot (λ number fault f. f ≡ founds.Fault number fault) (λ f. f ≡ founds.Idle) (FindsOn limit a) TellsFault
+      (TellsClean (end_said 0 0)) (TellsRaced limit a) a f t faults idle on a.boot a.told.carve h
 
   pub idle_told : Finds limit a founds.Idle → TellsClean (end_said 0 0) t → TellsOutcomes limit (Ok a) t
   idle_told h tells = told_by founds.Idle (λ n fault e. no_fault e) (λ _. tells) (λ m no. absurd no) h
 
-  pub fault_told : (line : ℕ) (fault : Fault) → Finds limit a (founds.Fault line fault) → TellsFault line fault t → TellsOutcomes limit (Ok a) t
+  pub fault_told : (line : ℕ) (fault : Fault)
+      → Finds limit a (founds.Fault line fault)
+      → TellsFault line fault t
+      → TellsOutcomes limit (Ok a) t
   fault_told line fault h tells =
-      told_by (founds.Fault line fault) (λ n other e. subst (λ f. TellsFault n f t) (fault_same e) (subst (λ n. TellsFault n fault t) (fault_number e) tells)) (λ e. no_idle e) (λ m no. absurd no) h
+      told_by (founds.Fault line fault)
+      (λ n other e. subst (λ f. TellsFault n f t) (fault_same e)
+      (subst (λ n. TellsFault n fault t) (fault_number e) tells))
+      (λ e. no_idle e) (λ m no. absurd no) h
 
-  pub many_told : (made : ℕ) → Finds limit a (founds.TooMany made) → TellsUnclean (too_many_said made) t → TellsOutcomes limit (Ok a) t
-  many_told made h tells = told_by (founds.TooMany made) (λ n fault e. many_fault e) (λ e. many_idle e) (λ m more. inr (record { made = made; more = more; tells = tells })) h
+  pub many_told : (made : ℕ)
+      → Finds limit a (founds.TooMany made)
+      → TellsUnclean (too_many_said made) t
+      → TellsOutcomes limit (Ok a) t
+  many_told made h tells =
+      told_by (founds.TooMany made) (λ n fault e. many_fault e) (λ e. many_idle e)
+      (λ m more. inr (record { made = made; more = more; tells = tells })) h
 
-  pub all_told : (o : Outcomes) → Finds limit a (founds.All o) → TellsClean (all_said (first_of a) o.replies.items (raced_of a) o.found.items) t → TellsOutcomes limit (Ok a) t
+  pub all_told : (o : Outcomes)
+      → Finds limit a (founds.All o)
+      → TellsClean (all_said (first_of a) o.replies.items (raced_of a) o.found.items) t
+      → TellsOutcomes limit (Ok a) t
   all_told o h tells =
       told_by (founds.All o) (λ n fault e. all_fault e) (λ e. all_idle e)
-      (λ m all. inl (record { found = o.found.items; all = all.all; tells = subst (λ rs. TellsClean (all_said (first_of a) rs (raced_of a) o.found.items) t) all.replies tells })) h
+      (λ m all. inl
+      (record {
+        found = o.found.items;
+        all = all.all;
+        tells =
+            subst
+            (λ rs. TellsClean (all_said (first_of a) rs (raced_of a) o.found.items) t) all.replies tells;
+      })) h
 
 -- as many replies as there are steps before `start`
 count_by : (limit : ℕ) (a : Asking) (o : Outcomes) (b : Option ℕ) (k : Option PageRange)
-    → MatchOption b (founds.All o ≡ founds.Idle) (λ number. MatchOption k (founds.All o ≡ founds.Idle) (λ carve. IsNoBoot (λ number fault f. f ≡ founds.Fault number fault) a carve number (founds.All o) ⊎ IsBoot (FindsOn limit a) a carve (founds.All o)))
+    → MatchOption b (founds.All o ≡ founds.Idle)
+    (λ number. MatchOption k (founds.All o ≡ founds.Idle)
+    (λ carve. IsNoBoot (λ number fault f. f ≡ founds.Fault number fault) a carve number (founds.All o)
+    ⊎ IsBoot (FindsOn limit a) a carve (founds.All o)))
     → length o.replies.items ≡ length (first_of a)
 count_by limit a o None k h = all_idle h
 count_by limit a o (Some n) None h = all_idle h
 count_by limit a o (Some n) (Some c) (inl x) = all_fault x.tells
 count_by limit a o (Some n) (Some c) (inr x) = x.tells.count
 
-pub found_count : (limit : ℕ) (a : Asking) (o : Outcomes) → Finds limit a (founds.All o) → length o.replies.items ≡ length (first_of a)
+pub found_count : (limit : ℕ) (a : Asking) (o : Outcomes)
+    → Finds limit a (founds.All o)
+    → length o.replies.items ≡ length (first_of a)
 found_count limit a o h = count_by limit a o a.boot a.told.carve h

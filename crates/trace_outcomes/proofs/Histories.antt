@@ -49,25 +49,38 @@ plain_stored (Refused refusals.LogFull) h = absurd h
 
 module _ (cpu : ℕ) where
   -- so all answers are
-  all_stored : (steps : List Asked) (rs : List Reply) → All IsPlain rs → filter (λ (a : Step × Reply). is_stored a.1) (answers_asked cpu steps rs) ≡ answers_of cpu (turns_told steps rs) rs
+  all_stored : (steps : List Asked) (rs : List Reply)
+      → All IsPlain rs
+      → filter (λ (a : Step × Reply). is_stored a.1) (answers_asked cpu steps rs)
+      ≡ answers_of cpu (turns_told steps rs) rs
   all_stored [] rs h = refl
   all_stored (a ∷ steps) [] h = refl
   all_stored (a ∷ steps) (r ∷ rs) h = by_own (both (a.cpu == cpu)) (all_stored steps rs (All-tail IsPlain r rs h))
     where
-      by_own : ((a.cpu == cpu) ≡ true) ⊎ ((a.cpu == cpu) ≡ false) → filter (λ (x : Step × Reply). is_stored x.1) (answers_asked cpu steps rs) ≡ answers_of cpu (turns_told steps rs) rs
-          → filter (λ (x : Step × Reply). is_stored x.1) (answers_asked cpu (a ∷ steps) (r ∷ rs)) ≡ answers_of cpu (turns_told (a ∷ steps) (r ∷ rs)) (r ∷ rs)
+      by_own : ((a.cpu == cpu) ≡ true) ⊎ ((a.cpu == cpu) ≡ false)
+          → filter (λ (x : Step × Reply). is_stored x.1) (answers_asked cpu steps rs)
+          ≡ answers_of cpu (turns_told steps rs) rs
+          → filter (λ (x : Step × Reply). is_stored x.1) (answers_asked cpu (a ∷ steps) (r ∷ rs))
+          ≡ answers_of cpu (turns_told (a ∷ steps) (r ∷ rs)) (r ∷ rs)
       by_own (inl own) rest =
           let kept = plain_stored r (All-head IsPlain r rs h) in
           rw own (rw kept (ap (λ (xs : List (Step × Reply)). (a.step, r) ∷ xs) rest))
       by_own (inr other) rest = rw other rest
 
   -- a CPU that isn't there has none
-  none_asked : (n : ℕ) → n ≤ cpu → (steps : List Asked) (rs : List Reply) → All (λ a. a.cpu < n) steps → answers_of cpu (turns_told steps rs) rs ≡ []
+  none_asked : (n : ℕ)
+      → n ≤ cpu
+      → (steps : List Asked) (rs : List Reply)
+      → All (λ a. a.cpu < n) steps
+      → answers_of cpu (turns_told steps rs) rs ≡ []
   none_asked n less [] rs h = refl
   none_asked n less (a ∷ steps) [] h = refl
-  none_asked n less (a ∷ steps) (r ∷ rs) h = by_own (both (a.cpu == cpu)) (none_asked n less steps rs (All-tail (λ (x : Asked). x.cpu < n) a steps h))
+  none_asked n less (a ∷ steps) (r ∷ rs) h =
+      by_own (both (a.cpu == cpu)) (none_asked n less steps rs (All-tail (λ (x : Asked). x.cpu < n) a steps h))
     where
-      by_own : ((a.cpu == cpu) ≡ true) ⊎ ((a.cpu == cpu) ≡ false) → answers_of cpu (turns_told steps rs) rs ≡ [] → answers_of cpu (turns_told (a ∷ steps) (r ∷ rs)) (r ∷ rs) ≡ []
+      by_own : ((a.cpu == cpu) ≡ true) ⊎ ((a.cpu == cpu) ≡ false)
+          → answers_of cpu (turns_told steps rs) rs ≡ []
+          → answers_of cpu (turns_told (a ∷ steps) (r ∷ rs)) (r ∷ rs) ≡ []
       by_own (inl own) rest =
           let there : a.cpu < n = All-head (λ (x : Asked). x.cpu < n) a steps h in
           let same = eq-same a.cpu cpu own in
@@ -76,7 +89,8 @@ module _ (cpu : ℕ) where
 
   none_called : (n : ℕ) → n ≤ cpu → (log : List Call) → All (λ c. c.cpu < n) log → calls_by cpu log ≡ []
   none_called n less [] h = refl
-  none_called n less (c ∷ log) h = by_own (both (c.cpu == cpu)) (none_called n less log (All-tail (λ (x : Call). x.cpu < n) c log h))
+  none_called n less (c ∷ log) h =
+      by_own (both (c.cpu == cpu)) (none_called n less log (All-tail (λ (x : Call). x.cpu < n) c log h))
     where
       by_own : ((c.cpu == cpu) ≡ true) ⊎ ((c.cpu == cpu) ≡ false) → calls_by cpu log ≡ [] → calls_by cpu (c ∷ log) ≡ []
       by_own (inl own) rest =
@@ -85,7 +99,9 @@ module _ (cpu : ℕ) where
           absurd (omega arith)
       by_own (inr other) rest = rw other rest
 
-same_count : (steps : List Asked) (rs : List Reply) → length rs ≡ length steps → length (turns_told steps rs) ≡ length steps
+same_count : (steps : List Asked) (rs : List Reply)
+    → length rs ≡ length steps
+    → length (turns_told steps rs) ≡ length steps
 same_count [] rs n = refl
 same_count (a ∷ steps) [] n = absurd (omega arith)
 same_count (a ∷ steps) (r ∷ rs) n = ap suc (same_count steps rs (omega (arith, n)))
@@ -96,49 +112,80 @@ all_theirs (a ∷ steps) [] h = tt
 all_theirs (a ∷ steps) (r ∷ rs) h = (refl, All-head IsPlain r rs h, all_theirs steps rs (All-tail IsPlain r rs h))
 
 -- a refusal that a test gives is plain
-plain_test : (a b c d e : Bool) (why : Refusal) → or_else (if a then Some refusals.Invalid else if b then Some refusals.NoVm else if c then Some refusals.Busy else if d then Some refusals.Perm else None) (if e then Some refusals.NoPool else None) ≡ Some why → IsPlain (Refused why)
+plain_test : (a b c d e : Bool) (why : Refusal)
+    → or_else
+    (if a then Some refusals.Invalid
+    else if b then Some refusals.NoVm
+    else if c then Some refusals.Busy
+    else if d then Some refusals.Perm
+    else None)
+    (if e then Some refusals.NoPool else None)
+    ≡ Some why
+    → IsPlain (Refused why)
 plain_test true b c d e why h = subst (λ (w : Refusal). IsPlain (Refused w)) (same_Some refusals.Invalid why h) tt
 plain_test false true c d e why h = subst (λ (w : Refusal). IsPlain (Refused w)) (same_Some refusals.NoVm why h) tt
 plain_test false false true d e why h = subst (λ (w : Refusal). IsPlain (Refused w)) (same_Some refusals.Busy why h) tt
-plain_test false false false true e why h = subst (λ (w : Refusal). IsPlain (Refused w)) (same_Some refusals.Perm why h) tt
-plain_test false false false false true why h = subst (λ (w : Refusal). IsPlain (Refused w)) (same_Some refusals.NoPool why h) tt
+plain_test false false false true e why h =
+    subst (λ (w : Refusal). IsPlain (Refused w)) (same_Some refusals.Perm why h) tt
+plain_test false false false false true why h =
+    subst (λ (w : Refusal). IsPlain (Refused w)) (same_Some refusals.NoPool why h) tt
 plain_test false false false false false why h = absurd cc
 
-plain_why : (l : Layout) (cpu : ℕ) (slot : Option ℕ) (step : Step) (x : Used) (why : Refusal) → fails l cpu slot step x ≡ Some why → IsPlain (Refused why)
+plain_why : (l : Layout) (cpu : ℕ) (slot : Option ℕ) (step : Step) (x : Used) (why : Refusal)
+    → fails l cpu slot step x ≡ Some why
+    → IsPlain (Refused why)
 unfolding fails refusal
 plain_why l cpu slot step x why h =
     let r = rule_of l cpu slot step x in
-    plain_test (not r.valid.passes) (lacks_slot (names step) slot || not r.has_vm.passes) (not r.ready.passes) (not r.allowed.passes) (is_short l.depth r.changes x) why h
+    plain_test (not r.valid.passes) (lacks_slot (names step) slot || not r.has_vm.passes) (not r.ready.passes)
+    (not r.allowed.passes) (is_short l.depth r.changes x) why h
 
 -- an answer is plain
-plain_answer : (l : Layout) (cpu : ℕ) (slot : Option ℕ) (step : Step) (reply : Reply) (x y : Used) → Answered l cpu slot step true x reply y → IsPlain reply
+plain_answer : (l : Layout) (cpu : ℕ) (slot : Option ℕ) (step : Step) (reply : Reply) (x y : Used)
+    → Answered l cpu slot step true x reply y
+    → IsPlain reply
 plain_answer l cpu slot step reply x y (inl m) = subst IsPlain (sym m.reply_is) tt
-plain_answer l cpu slot step reply x y (inr (inl r)) = subst IsPlain (sym r.reply_is) (plain_why l cpu slot step x r.why r.fail)
+plain_answer l cpu slot step reply x y (inr (inl r)) =
+    subst IsPlain (sym r.reply_is) (plain_why l cpu slot step x r.why r.fail)
 plain_answer l cpu slot step reply x y (inr (inr w)) = subst IsPlain (sym w.reply_is) tt
 
-slot_found : (l : Layout) (s t : Reference) (c : Call) → Steps l s c t → c.slot ≡ guest_slot (s.contents.cpu c.cpu) c.step
+slot_found : (l : Layout) (s t : Reference) (c : Call)
+    → Steps l s c t
+    → c.slot ≡ guest_slot (s.contents.cpu c.cpu) c.step
 unfolding used_of
 slot_found l s t c h = h.on.slot
 
 -- a call is told what its step is told, also where a log is full
-told_by_call : (l : Layout) (s t : Reference) (c : Call) → Steps l s c t → ◌≡◌ {A = Reply × Reference} (told_to l s (record { cpu = c.cpu; step = c.step; wants = is_want c.reply })) (c.reply, t)
+told_by_call : (l : Layout) (s t : Reference) (c : Call)
+    → Steps l s c t
+    → ◌≡◌ {A = Reply × Reference} (told_to l s (record { cpu = c.cpu; step = c.step; wants = is_want c.reply }))
+    (c.reply, t)
 told_by_call l s t c h = elim h.on.answers [
   | inl f ↦ full f
-  | inr a ↦ call_told l s t c (is_want c.reply) h refl (plain_answer l c.cpu c.slot c.step c.reply (used_by c s) h.after a.answered)
+  | inr a ↦ call_told l s t c (is_want c.reply) h refl
+      (plain_answer l c.cpu c.slot c.step c.reply (used_by c s) h.after a.answered)
 ]
   where
     same_pair : (r q : Reply) (u v : Reference) → r ≡ q → u ≡ v → ◌≡◌ {A = Reply × Reference} (r, u) (q, v)
     same_pair r q u v e f = cc
 
-    full : FindsFull c (used_by c s) (rooms_by c s) h.after h.left → ◌≡◌ {A = Reply × Reference} (told_to l s (record { cpu = c.cpu; step = c.step; wants = is_want c.reply })) (c.reply, t)
+    full : FindsFull c (used_by c s) (rooms_by c s) h.after h.left
+        → ◌≡◌ {A = Reply × Reference} (told_to l s (record { cpu = c.cpu; step = c.step; wants = is_want c.reply }))
+        (c.reply, t)
     full f =
         let none : is_want c.reply ≡ false = ap is_want f.reply in
-        let is : foretell l s c.cpu c.step ≡ (Refused refusals.LogFull, s) = foretold-full l s c.cpu c.step c.slot (slot_found l s t c h) f.full in
+        let is : foretell l s c.cpu c.step ≡ (Refused refusals.LogFull, s) =
+        foretold-full l s c.cpu c.step c.slot (slot_found l s t c h) f.full in
         let stays : t ≡ s = log_full_keeps l s t c h f.reply in
-        ap (λ (b : Bool). told_to l s (record { cpu = c.cpu; step = c.step; wants = b })) none ∙ told_plain l s (record { cpu = c.cpu; step = c.step; wants = false }) refl ∙ is ∙ same_pair (Refused refusals.LogFull) c.reply s t (sym f.reply) (sym stays)
+        ap (λ (b : Bool). told_to l s (record { cpu = c.cpu; step = c.step; wants = b })) none
+        ∙ told_plain l s (record { cpu = c.cpu; step = c.step; wants = false }) refl ∙ is
+        ∙ same_pair (Refused refusals.LogFull) c.reply s t (sym f.reply) (sym stays)
 
 -- the steps of a run, made in order, are told its replies
-told_run : (l : Layout) (calls : List Call) (s t : Reference) (steps : List Asked) (rs : List Reply) → length rs ≡ length steps → told_of calls ≡ asked_with steps rs → Runs (Steps l) s calls t
+told_run : (l : Layout) (calls : List Call) (s t : Reference) (steps : List Asked) (rs : List Reply)
+    → length rs ≡ length steps
+    → told_of calls ≡ asked_with steps rs
+    → Runs (Steps l) s calls t
     → ◌≡◌ {A = List Reply × Reference} (told_along l s (turns_told steps rs)) (rs, t)
 told_run l [] s t [] [] n e run = λ i. ([], run i)
 told_run l [] s t [] (r ∷ rs) n e run = absurd (omega (arith, n))
@@ -147,28 +194,35 @@ told_run l [] s t (a ∷ steps) (r ∷ rs) n e run = absurd cc
 told_run l (c ∷ calls) s t [] rs n e run = absurd cc
 told_run l (c ∷ calls) s t (a ∷ steps) [] n e run = absurd cc
 told_run l (c ∷ calls) s t (a ∷ steps) (r ∷ rs) n e run =
-    let head : (c.cpu, c.step, c.reply) ≡ (a.cpu, a.step, r) = ap (λ (z : List (ℕ × Step × Reply)). get_or z 0 (c.cpu, c.step, c.reply)) e in
+    let head : (c.cpu, c.step, c.reply) ≡ (a.cpu, a.step, r) =
+    ap (λ (z : List (ℕ × Step × Reply)). get_or z 0 (c.cpu, c.step, c.reply)) e in
     let tail : told_of calls ≡ asked_with steps rs = ap (λ (z : List (ℕ × Step × Reply)). drop 1 z) e in
     let turn : Turn = record { cpu = a.cpu; step = a.step; wants = is_want r } in
     let one : told_to l s turn ≡ (r, run.0) =
-    sym (ap (λ (z : ℕ × Step × Reply). told_to l s (record { cpu = z.0; step = z.1; wants = is_want z.2 })) head) ∙ told_by_call l s run.0 c run.1 ∙ ap (λ (z : ℕ × Step × Reply). (z.2, run.0)) head in
+    sym (ap (λ (z : ℕ × Step × Reply). told_to l s (record { cpu = z.0; step = z.1; wants = is_want z.2 })) head)
+    ∙ told_by_call l s run.0 c run.1 ∙ ap (λ (z : ℕ × Step × Reply). (z.2, run.0)) head in
     let rest = told_run l calls run.0 t steps rs (omega (arith, n)) tail run.2 in
     let more : List Turn = turns_told steps rs in
-    ap (λ (z : Reply × Reference). (z.0 ∷ (told_along l z.1 more).0, (told_along l z.1 more).1)) one ∙ ap (λ (z : List Reply × Reference). (r ∷ z.0, z.1)) rest
+    ap (λ (z : Reply × Reference). (z.0 ∷ (told_along l z.1 more).0, (told_along l z.1 more).1)) one
+    ∙ ap (λ (z : List Reply × Reference). (r ∷ z.0, z.1)) rest
 
 dropped_below : (n k : ℕ) (steps : List Asked) → All (λ a. a.cpu < n) steps → All (λ a. a.cpu < n) (drop k steps)
 dropped_below n zero steps h = h
 dropped_below n (suc k) [] h = h
 dropped_below n (suc k) (a ∷ steps) h = dropped_below n k steps (All-tail (λ (x : Asked). x.cpu < n) a steps h)
 
-same_drop : {X Y : Type 0} (n : ℕ) (xs : List X) (ys : List Y) → length xs ≡ length ys → length (drop n xs) ≡ length (drop n ys)
+same_drop : {X Y : Type 0} (n : ℕ) (xs : List X) (ys : List Y)
+    → length xs ≡ length ys
+    → length (drop n xs) ≡ length (drop n ys)
 same_drop zero xs ys e = e
 same_drop (suc n) [] [] e = refl
 same_drop (suc n) [] (y ∷ ys) e = absurd (omega (arith, e))
 same_drop (suc n) (x ∷ xs) [] e = absurd (omega (arith, e))
 same_drop (suc n) (x ∷ xs) (y ∷ ys) e = same_drop n xs ys (omega (arith, e))
 
-same_take : {X Y : Type 0} (n : ℕ) (xs : List X) (ys : List Y) → length xs ≡ length ys → length (take n xs) ≡ length (take n ys)
+same_take : {X Y : Type 0} (n : ℕ) (xs : List X) (ys : List Y)
+    → length xs ≡ length ys
+    → length (take n xs) ≡ length (take n ys)
 same_take zero xs ys e = refl
 same_take (suc n) [] [] e = refl
 same_take (suc n) [] (y ∷ ys) e = absurd (omega (arith, e))
@@ -176,7 +230,11 @@ same_take (suc n) (x ∷ xs) [] e = absurd (omega (arith, e))
 same_take (suc n) (x ∷ xs) (y ∷ ys) e = ap suc (same_take n xs ys (omega (arith, e)))
 
 pub histories_are_outcomes : HistoriesAreOutcomes
-histories_are_outcomes l start steps rs count below h plain = (ap (λ (z : List Reply × Reference). z.0) first, subst (λ (s : Reference). IsOutcome l s (turns_told raced told) told) (sym (ap (λ (z : List Reply × Reference). z.1) first)) outcome)
+histories_are_outcomes l start steps rs count below h plain = (
+  ap (λ (z : List Reply × Reference). z.0) first,
+  subst (λ (s : Reference). IsOutcome l s (turns_told raced told) told)
+      (sym (ap (λ (z : List Reply × Reference). z.1) first)) outcome,
+)
   where
     raced : List Asked
     raced = drop start steps
@@ -184,29 +242,47 @@ histories_are_outcomes l start steps rs count below h plain = (ap (λ (z : List 
     told : List Reply
     told = drop start rs
 
-    first : ◌≡◌ {A = List Reply × Reference} (told_along l (boot l) (turns_told (take start steps) (take start rs))) (take start rs, h.at)
-    first = told_run l h.first (boot l) h.at (take start steps) (take start rs) (same_take start rs steps count) h.asked h.begins.leads
+    first : ◌≡◌ {A = List Reply × Reference} (told_along l (boot l) (turns_told (take start steps) (take start rs)))
+        (take start rs, h.at)
+    first =
+        told_run l h.first (boot l) h.at (take start steps) (take start rs)
+        (same_take start rs steps count) h.asked h.begins.leads
 
     inside : All (λ c. c.cpu < l.config.cpus) h.log
     inside = behind_all (λ (c : Call). c.cpu < l.config.cpus) (stored_in h.first) h.log h.run.cpus
 
-    each : (cpu : ℕ) → map (λ (c : Call). (c.step, c.reply)) (calls_by cpu h.log) ≡ answers_of cpu (turns_told raced told) told
+    each : (cpu : ℕ)
+        → map (λ (c : Call). (c.step, c.reply)) (calls_by cpu h.log) ≡ answers_of cpu (turns_told raced told) told
     each cpu = by_place (cases_lt cpu l.config.cpus)
       where
-        by_place : (cpu < l.config.cpus) ⊎ (l.config.cpus ≤ cpu) → map (λ (c : Call). (c.step, c.reply)) (calls_by cpu h.log) ≡ answers_of cpu (turns_told raced told) told
+        by_place : (cpu < l.config.cpus) ⊎ (l.config.cpus ≤ cpu)
+            → map (λ (c : Call). (c.step, c.reply)) (calls_by cpu h.log) ≡ answers_of cpu (turns_told raced told) told
         by_place (inl less) = (h.each cpu less).calls ∙ all_stored cpu raced told plain
-        by_place (inr more) = ap (map (λ (c : Call). (c.step, c.reply))) (none_called cpu l.config.cpus more h.log inside) ∙ sym (none_asked cpu l.config.cpus more raced told (dropped_below l.config.cpus start steps below))
+        by_place (inr more) =
+            ap (map (λ (c : Call). (c.step, c.reply))) (none_called cpu l.config.cpus more h.log inside)
+            ∙ sym (none_asked cpu l.config.cpus more raced told (dropped_below l.config.cpus start steps below))
 
     outcome : IsOutcome l h.at (turns_told raced told) told
-    outcome = runs_are_outcomes l h.at h.end (turns_told raced told) told h.log h.goes (record { count = same_drop start rs steps count ∙ sym (same_count raced told (same_drop start rs steps count)); each = each }) (all_theirs raced told plain)
+    outcome =
+        runs_are_outcomes l h.at h.end (turns_told raced told) told h.log h.goes
+        (record {
+          count = same_drop start rs steps count
+              ∙ sym (same_count raced told (same_drop start rs steps count));
+          each = each;
+        })
+        (all_theirs raced told plain)
 
 -- ---- where no step is told `nomemory`
 
-none_want : (steps : List Asked) (rs : List Reply) → length rs ≡ length steps → All (λ r. is_want r ≡ false) rs → turns_told steps rs ≡ turns_of steps (nothing_told steps)
+none_want : (steps : List Asked) (rs : List Reply)
+    → length rs ≡ length steps
+    → All (λ r. is_want r ≡ false) rs
+    → turns_told steps rs ≡ turns_of steps (nothing_told steps)
 none_want [] rs n h = refl
 none_want (a ∷ steps) [] n h = absurd (omega (arith, n))
 none_want (a ∷ steps) (r ∷ rs) n h =
-    (λ i. record { cpu = a.cpu; step = a.step; wants = All-head (λ (x : Reply). is_want x ≡ false) r rs h i } ∷ none_want steps rs (omega (arith, n)) (All-tail (λ (x : Reply). is_want x ≡ false) r rs h) i)
+    (λ i. record { cpu = a.cpu; step = a.step; wants = All-head (λ (x : Reply). is_want x ≡ false) r rs h i }
+    ∷ none_want steps rs (omega (arith, n)) (All-tail (λ (x : Reply). is_want x ≡ false) r rs h) i)
 
 told_drop : (n : ℕ) (steps : List Asked) → nothing_told (drop n steps) ≡ drop n (nothing_told steps)
 told_drop zero steps = refl
@@ -226,7 +302,9 @@ dropped_all (suc n) (r ∷ rs) h = dropped_all n rs (All-tail (λ (x : Reply). i
 taken_all : (n : ℕ) (rs : List Reply) → All (λ r. is_want r ≡ false) rs → All (λ r. is_want r ≡ false) (take n rs)
 taken_all zero rs h = All-nil (λ (x : Reply). is_want x ≡ false)
 taken_all (suc n) [] h = h
-taken_all (suc n) (r ∷ rs) h = All-cons (λ (x : Reply). is_want x ≡ false) r (take n rs) (All-head (λ (x : Reply). is_want x ≡ false) r rs h) (taken_all n rs (All-tail (λ (x : Reply). is_want x ≡ false) r rs h))
+taken_all (suc n) (r ∷ rs) h =
+    All-cons (λ (x : Reply). is_want x ≡ false) r (take n rs) (All-head (λ (x : Reply). is_want x ≡ false) r rs h)
+    (taken_all n rs (All-tail (λ (x : Reply). is_want x ≡ false) r rs h))
 
 all_wanted : (steps : List Asked) (told : List (Option Reply)) → AreWanted (nothing_wanted steps) told
 all_wanted [] told = tt
@@ -234,7 +312,8 @@ all_wanted (a ∷ steps) [] = tt
 all_wanted (a ∷ steps) (t ∷ told) = (tt, all_wanted steps told)
 
 pub races_are_told : RacesAreTold
-races_are_told m a rs found booted count below h wants plain all = (told, all.complete raced outcome (all_wanted (raced_of a) (map Some raced)))
+races_are_told m a rs found booted count below h wants plain all =
+    (told, all.complete raced outcome (all_wanted (raced_of a) (map Some raced)))
   where
     n : ℕ
     n = in_order_of a
@@ -249,16 +328,25 @@ races_are_told m a rs found booted count below h wants plain all = (told, all.co
     base = histories_are_outcomes m.layout n a.steps rs count below h plain
 
     first_turns : turns_told (take n a.steps) (take n rs) ≡ turns_of (first_of a) (take n (nothing_told a.steps))
-    first_turns = none_want (take n a.steps) (take n rs) (same_take n rs a.steps count) (taken_all n rs wants) ∙ ap (turns_of (first_of a)) (told_take n a.steps)
+    first_turns =
+        none_want (take n a.steps) (take n rs) (same_take n rs a.steps count) (taken_all n rs wants)
+        ∙ ap (turns_of (first_of a)) (told_take n a.steps)
 
     raced_turns : turns_told (drop n a.steps) raced ≡ turns_raced a (nothing_told a.steps)
-    raced_turns = none_want (drop n a.steps) raced (same_drop n rs a.steps count) (dropped_all n rs wants) ∙ ap (turns_of (raced_of a)) (told_drop n a.steps)
+    raced_turns =
+        none_want (drop n a.steps) raced (same_drop n rs a.steps count) (dropped_all n rs wants)
+        ∙ ap (turns_of (raced_of a)) (told_drop n a.steps)
 
     along : ◌≡◌ {A = List Reply × Reference} from (told_first m a (nothing_told a.steps))
-    along = ap (told_along m.layout (boot m.layout)) first_turns ∙ ap (λ (s : Reference). told_along m.layout s (turns_of (first_of a) (take n (nothing_told a.steps)))) (sym booted)
+    along =
+        ap (told_along m.layout (boot m.layout)) first_turns
+        ∙ ap (λ (s : Reference). told_along m.layout s (turns_of (first_of a) (take n (nothing_told a.steps))))
+        (sym booted)
 
     told : (told_first m a (nothing_told a.steps)).0 ≡ take n rs
     told = sym (ap (λ (z : List Reply × Reference). z.0) along) ∙ base.0
 
     outcome : IsOutcome m.layout (told_first m a (nothing_told a.steps)).1 (turns_raced a (nothing_told a.steps)) raced
-    outcome = subst (λ (z : Reference × List Turn). IsOutcome m.layout z.0 z.1 raced) (λ i. ((along i).1, raced_turns i)) base.1
+    outcome =
+        subst (λ (z : Reference × List Turn). IsOutcome m.layout z.0 z.1 raced)
+        (λ i. ((along i).1, raced_turns i)) base.1

@@ -11,17 +11,27 @@ not-past n few = grind (arith)
 
 module _ (ls : List (List ℕ)) (place number : ℕ) (less : place < length ls) (few : number ≤ 1048576) where
   -- one line more
-  pub one_line : (a b : Asking) (line : List ℕ) → line ≡ get_or ls place [] → taken number line a ≡ Ok b → course_of number a (drop place ls) ≡ course_of (number + 1) b (drop (place + 1) ls)
+  pub one_line : (a b : Asking) (line : List ℕ)
+      → line ≡ get_or ls place []
+      → taken number line a ≡ Ok b
+      → course_of number a (drop place ls) ≡ course_of (number + 1) b (drop (place + 1) ls)
   one_line a b line at e =
       let past : nat_lt 1048576 number ≡ false = not-past number few in
       let there : taken number (get_or ls place []) a ≡ Ok b = ap (λ x. taken number x a) (sym at) ∙ e in
       ap (course_of number a) (drop_more ls place [] less) ∙ rw (past, there) refl
 
-  pub fault_line : (a : Asking) (fault : Fault) (line : List ℕ) → line ≡ get_or ls place [] → taken number line a ≡ Err fault → course_of number a (drop place ls) ≡ Err (number, fault)
+  pub fault_line : (a : Asking) (fault : Fault) (line : List ℕ)
+      → line ≡ get_or ls place []
+      → taken number line a ≡ Err fault
+      → course_of number a (drop place ls) ≡ Err (number, fault)
   fault_line a fault line at e =
       let past : nat_lt 1048576 number ≡ false = not-past number few in
       let there : taken number (get_or ls place []) a ≡ Err fault = ap (λ x. taken number x a) (sym at) ∙ e in
       ap (course_of number a) (drop_more ls place [] less) ∙ rw (past, there) refl
 
-pub past_line : (ls : List (List ℕ)) (place number : ℕ) (a : Asking) → place < length ls → 1048576 < number → course_of number a (drop place ls) ≡ Err (number, faults.Lines)
-past_line ls place number a less many = let past : nat_lt 1048576 number ≡ true = lt-ltb 1048576 number many in ap (course_of number a) (drop_more ls place [] less) ∙ rw past refl
+pub past_line : (ls : List (List ℕ)) (place number : ℕ) (a : Asking)
+    → place < length ls
+    → 1048576 < number
+    → course_of number a (drop place ls) ≡ Err (number, faults.Lines)
+past_line ls place number a less many = let past : nat_lt 1048576 number ≡ true = lt-ltb 1048576 number many in
+    ap (course_of number a) (drop_more ls place [] less) ∙ rw past refl

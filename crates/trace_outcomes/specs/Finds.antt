@@ -12,11 +12,13 @@ use Rattle.trace_outcomes.specs.Races.{Texts, first_of, nothing_told, nothing_wa
 use Rattle.trace_outcomes.specs.Texts.{all_said}
 use Rattle.trace_outcomes.specs.Told.{OnBoot}
 
--- what the steps before `start` are told, and all outcomes of those after it, from the state that those lead to
+-- what the steps before `start` are told, and all outcomes of those after it, from the state that
+-- those lead to
 pub record FindsAll (m : Machine) (a : Asking) (o : Outcomes) : Type 0 where
   pub replies : o.replies.items ≡ (told_first m a (nothing_told a.steps)).0
   pub count : length o.replies.items ≡ length (first_of a)
-  pub all : AllOutcomes m.layout (told_first m a (nothing_told a.steps)).1 (turns_raced a (nothing_told a.steps)) (nothing_wanted (raced_of a)) o.found.items
+  pub all : AllOutcomes m.layout (told_first m a (nothing_told a.steps)).1
+      (turns_raced a (nothing_told a.steps)) (nothing_wanted (raced_of a)) o.found.items
 
 -- the lines that tell of it
 abbrev pub found_said : Asking → Outcomes → List ℕ
@@ -24,7 +26,9 @@ found_said a o = all_said (first_of a) o.replies.items (raced_of a) o.found.item
 
 -- orders of so many steps lead to more points than the limit
 abbrev pub HasTooMany : ℕ → Machine → Asking → ℕ → Type 0
-HasTooMany limit m a made = HasMorePoints m.layout (told_first m a (nothing_told a.steps)).1 (turns_raced a (nothing_told a.steps)) (nothing_wanted (raced_of a)) limit made
+HasTooMany limit m a made =
+    HasMorePoints m.layout (told_first m a (nothing_told a.steps)).1
+    (turns_raced a (nothing_told a.steps)) (nothing_wanted (raced_of a)) limit made
 
 -- what is found of the steps that are made on a machine
 abbrev pub FindsOn : ℕ → Asking → Machine → Found → Type 0
@@ -35,7 +39,9 @@ FindsOn limit a m (founds.Fault line fault) = ⊥
 
 -- and of what a trace asks for
 abbrev pub Finds : ℕ → Asking → Found → Type 0
-Finds limit a = OnBoot (λ number fault f. f ≡ founds.Fault number fault) (λ f. f ≡ founds.Idle) (FindsOn limit a) a
+Finds limit a =
+    OnBoot (λ number fault f. f ≡ founds.Fault number fault) (λ f. f ≡ founds.Idle)
+    (FindsOn limit a) a
 
 -- what is found of each machine at whose state before the steps after `start` a race stands
 abbrev pub FindsMade : ℕ → Asking → Texts → Race → Found → Type 0

@@ -22,25 +22,56 @@ use Rattle.trace_outcomes.specs.Reports.{is_reply, place_of, told_with}
 abbrev pub turns_told : List Asked → List Reply → List Turn
 turns_told [] replies = []
 turns_told (a ∷ more) [] = []
-turns_told (a ∷ more) (reply ∷ replies) = record { cpu = a.cpu; step = a.step; wants = is_want reply } ∷ turns_told more replies
+turns_told (a ∷ more) (reply ∷ replies) =
+    record { cpu = a.cpu; step = a.step; wants = is_want reply } ∷ turns_told more replies
 
--- Replies of which there is one legal history: these are what the model tells the steps before `start`, made in order. From the state that they lead to, the others are an outcome of the steps behind `start`, in any order of the CPUs, unless one of them tells of a full log or of a part that was taken
+-- Replies of which there is one legal history: these are what the model tells the steps before
+-- `start`, made in order. From the state that they lead to, the others are an outcome of the steps
+-- behind `start`, in any order of the CPUs, unless one of them tells of a full log or of a part
+-- that was taken
 abbrev pub HistoriesAreOutcomes : Type 0
-HistoriesAreOutcomes = (l : Layout) (start : ℕ) (steps : List Asked) (replies : List Reply) → length replies ≡ length steps → All (λ a. a.cpu < l.config.cpus) steps → OneHistory l start steps replies → All IsPlain (drop start replies) →
+HistoriesAreOutcomes =
+    (l : Layout) (start : ℕ) (steps : List Asked) (replies : List Reply)
+    → length replies ≡ length steps
+    → All (λ a. a.cpu < l.config.cpus) steps
+    → OneHistory l start steps replies
+    → All IsPlain (drop start replies)
+    →
     let first = told_along l (boot l) (turns_told (take start steps) (take start replies)) in
-    (first.0 ≡ take start replies) × IsOutcome l first.1 (turns_told (drop start steps) (drop start replies)) (drop start replies)
+    (first.0 ≡ take start replies)
+    × IsOutcome l first.1 (turns_told (drop start steps) (drop start replies))
+    (drop start replies)
 
--- So where none is `nomemory`, the steps before `start` have the replies that the outcomes of the trace begin with, and the others are among these
+-- So where none is `nomemory`, the steps before `start` have the replies that the outcomes of the
+-- trace begin with, and the others are among these
 abbrev pub RacesAreTold : Type 0
-RacesAreTold = (m : Machine) (a : Asking) (replies : List Reply) (found : List RaceOutcome) → m.state ≡ boot m.layout → length replies ≡ length a.steps → All (λ s. s.cpu < m.layout.config.cpus) a.steps → HasOneHistory m a replies
-    → All (λ r. is_want r ≡ false) replies → All IsPlain (drop (in_order_of a) replies) → AllOutcomes m.layout (told_first m a (nothing_told a.steps)).1 (turns_raced a (nothing_told a.steps)) (nothing_wanted (raced_of a)) found
-    → ((told_first m a (nothing_told a.steps)).0 ≡ take (in_order_of a) replies) × Contains (map (λ o. o.replies.items) found) (drop (in_order_of a) replies)
+RacesAreTold =
+    (m : Machine) (a : Asking) (replies : List Reply) (found : List RaceOutcome)
+    → m.state ≡ boot m.layout
+    → length replies ≡ length a.steps
+    → All (λ s. s.cpu < m.layout.config.cpus) a.steps
+    → HasOneHistory m a replies
+    → All (λ r. is_want r ≡ false) replies
+    → All IsPlain (drop (in_order_of a) replies)
+    → AllOutcomes m.layout (told_first m a (nothing_told a.steps)).1
+    (turns_raced a (nothing_told a.steps)) (nothing_wanted (raced_of a)) found
+    → ((told_first m a (nothing_told a.steps)).0 ≡ take (in_order_of a) replies)
+    × Contains (map (λ o. o.replies.items) found) (drop (in_order_of a) replies)
 
--- The text of each reply is read as that of a reply, and just `nomemory` as that of a step that finds no memory
+-- The text of each reply is read as that of a reply, and just `nomemory` as that of a step that
+-- finds no memory
 abbrev pub RepliesAreRead : Type 0
-RepliesAreRead = (r : Reply) → (is_reply (text_of_reply r) ≡ true) × (wants (Some (text_of_reply r)) ≡ is_want r)
+RepliesAreRead =
+    (r : Reply) → (is_reply (text_of_reply r) ≡ true) × (wants (Some (text_of_reply r)) ≡ is_want r)
 
--- The line of a step in a report is read as the reply to the step at the place of its line and CPU, which had none before
+-- The line of a step in a report is read as the reply to the step at the place of its line and CPU,
+-- which had none before
 abbrev pub LinesAreRead : Type 0
-LinesAreRead = (steps : List Asked) (texts : Texts) (line cpu place : ℕ) (reply : Reply) → line < 2 ^ 64 → cpu < 2 ^ 64 → place_of steps line cpu ≡ Some place → slice_get texts place ≡ Some None
-    → told_with steps texts (text_of_response (responses.Step line cpu reply)) ≡ Ok (slice_set texts place (Some (text_of_reply reply)))
+LinesAreRead =
+    (steps : List Asked) (texts : Texts) (line cpu place : ℕ) (reply : Reply)
+    → line < 2 ^ 64
+    → cpu < 2 ^ 64
+    → place_of steps line cpu ≡ Some place
+    → slice_get texts place ≡ Some None
+    → told_with steps texts (text_of_response (responses.Step line cpu reply))
+    ≡ Ok (slice_set texts place (Some (text_of_reply reply)))

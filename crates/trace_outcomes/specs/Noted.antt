@@ -7,7 +7,8 @@ use Rattle.trace_outcomes.specs.declared.observed.ReportFault.{ReportFault}
 use Rattle.trace_outcomes.specs.Races.{Texts, texts_in}
 
 -- the line is taken up, or has this fault
-abbrev pub IsNoted : Result Texts ReportFault → List (Option (Vec ℕ Global)) → Option ReportFault → Type 0
+abbrev pub IsNoted : Result Texts ReportFault → List (Option (Vec ℕ Global)) → Option ReportFault
+    → Type 0
 IsNoted told new None = told ≡ Ok (texts_in new)
 IsNoted told new (Some fault) = told ≡ Err fault
 

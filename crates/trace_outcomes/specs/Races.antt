@@ -34,7 +34,8 @@ wants (Some text) = bytes_eq text (codes "nomemory")
 abbrev pub turns_of : List Asked → Texts → List Turn
 turns_of [] texts = []
 turns_of (a ∷ more) [] = []
-turns_of (a ∷ more) (text ∷ texts) = record { cpu = a.cpu; step = a.step; wants = wants text } ∷ turns_of more texts
+turns_of (a ∷ more) (text ∷ texts) =
+    record { cpu = a.cpu; step = a.step; wants = wants text } ∷ turns_of more texts
 
 -- the steps before `start`, and those after it
 abbrev pub first_of : Asking → List Asked
@@ -49,4 +50,5 @@ turns_raced a texts = turns_of (raced_of a) (drop (in_order_of a) texts)
 
 -- the model's replies to the steps before `start`, made in order, and the state after them
 abbrev pub told_first : Machine → Asking → Texts → List Reply × Reference
-told_first m a texts = told_along m.layout m.state (turns_of (first_of a) (take (in_order_of a) texts))
+told_first m a texts =
+    told_along m.layout m.state (turns_of (first_of a) (take (in_order_of a) texts))

@@ -27,4 +27,5 @@ pub record IsReadOf (lines : List (List ℕ)) (r : Read) : Type 0 where
 
 -- the model's machine that boots on memory and a configuration, or why there is none
 abbrev pub BootsTo : Memory → Config → Result Ghost Stop → Type 0
-BootsTo memory config result = MatchResult result (λ g. IsBootOf memory config (machine_in g)) (StopsBoot memory config)
+BootsTo memory config result =
+    MatchResult result (λ g. IsBootOf memory config (machine_in g)) (StopsBoot memory config)

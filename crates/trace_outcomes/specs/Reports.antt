@@ -16,7 +16,9 @@ first_word line = unwrap_or (slice_get (words_of line) 0) []
 
 -- a line of no step: that of the boot, of a query or of the end
 abbrev pub is_passed : List ℕ → Bool
-is_passed line = bytes_eq (first_word line) (codes "boot") || bytes_eq (first_word line) (codes "word") || bytes_eq (first_word line) (codes "free") || bytes_eq (first_word line) (codes "end")
+is_passed line =
+    bytes_eq (first_word line) (codes "boot") || bytes_eq (first_word line) (codes "word")
+    || bytes_eq (first_word line) (codes "free") || bytes_eq (first_word line) (codes "end")
 
 -- the text behind the first space
 abbrev pub behind_space : List ℕ → List ℕ
@@ -29,17 +31,22 @@ both (Some number) (Some cpu) = Some (number, cpu)
 both number cpu = None
 
 abbrev pub step_said : List ℕ → Option (ℕ × ℕ)
-step_said line = both (option_and_then decimal_of (slice_get (words_of line) 0)) (option_and_then decimal_of (slice_get (words_of line) 1))
+step_said line =
+    both (option_and_then decimal_of (slice_get (words_of line) 0))
+    (option_and_then decimal_of (slice_get (words_of line) 1))
 
 -- a refusal
 abbrev pub is_refusal : List ℕ → Bool
 is_refusal text =
-    bytes_eq text (codes "perm") || bytes_eq text (codes "novm") || bytes_eq text (codes "nomemory") || bytes_eq text (codes "busy")
-    || bytes_eq text (codes "invalid") || bytes_eq text (codes "nopool") || bytes_eq text (codes "logfull") || bytes_eq text (codes "contended")
+    bytes_eq text (codes "perm") || bytes_eq text (codes "novm")
+    || bytes_eq text (codes "nomemory") || bytes_eq text (codes "busy")
+    || bytes_eq text (codes "invalid") || bytes_eq text (codes "nopool")
+    || bytes_eq text (codes "logfull") || bytes_eq text (codes "contended")
 
 -- a text that may be a reply: `ok`, the same with a value, or a refusal
 abbrev pub is_reply : List ℕ → Bool
-is_reply text = bytes_eq text (codes "ok") || starts_with nat_eq text (codes "ok ") || is_refusal text
+is_reply text =
+    bytes_eq text (codes "ok") || starts_with nat_eq text (codes "ok ") || is_refusal text
 
 -- the step of a line and a CPU, by its place
 abbrev pub place_of : List Asked → ℕ → ℕ → Option ℕ
@@ -51,7 +58,8 @@ put_at texts place text (Some None) = Ok (slice_set texts place (Some text))
 put_at texts place text other = Err Twice
 
 abbrev pub put : Texts → ℕ → List ℕ → Result Texts ReportFault
-put texts place text = if is_reply text then put_at texts place text (slice_get texts place) else Err NoReply
+put texts place text =
+    if is_reply text then put_at texts place text (slice_get texts place) else Err NoReply
 
 abbrev pub told_at : Texts → List ℕ → Option ℕ → Result Texts ReportFault
 told_at texts text None = Err NoStep
@@ -59,11 +67,13 @@ told_at texts text (Some place) = put texts place text
 
 abbrev pub told_by : List Asked → Texts → List ℕ → Option (ℕ × ℕ) → Result Texts ReportFault
 told_by steps texts line None = Err Form
-told_by steps texts line (Some (number, cpu)) = told_at texts (behind_space (behind_space line)) (place_of steps number cpu)
+told_by steps texts line (Some (number, cpu)) =
+    told_at texts (behind_space (behind_space line)) (place_of steps number cpu)
 
 -- the replies with one line more
 abbrev pub told_with : List Asked → Texts → List ℕ → Result Texts ReportFault
-told_with steps texts line = if is_passed line then Ok texts else told_by steps texts line (step_said line)
+told_with steps texts line =
+    if is_passed line then Ok texts else told_by steps texts line (step_said line)
 
 -- the form wanted of a line that can't be read
 abbrev pub wanted_of : ReportFault → List ℕ
@@ -83,10 +93,13 @@ abbrev pub fault_said : List ℕ → ℕ → List ℕ → ReportFault → List �
 fault_said name number line fault = place_said name number ++ found_said line (wanted_of fault)
 
 -- what lines tell, from a number on; or the place of the first fault
-abbrev pub onward : List ℕ → ℕ → List ℕ → Result Texts ReportFault → (Texts → Result Texts (List ℕ)) → Result Texts (List ℕ)
+abbrev pub onward : List ℕ → ℕ → List ℕ → Result Texts ReportFault → (Texts → Result Texts (List ℕ))
+    → Result Texts (List ℕ)
 onward name number line (Ok texts) more = more texts
 onward name number line (Err fault) more = Err (fault_said name number line fault)
 
 abbrev pub told_in : List ℕ → List Asked → ℕ → Texts → List (List ℕ) → Result Texts (List ℕ)
 told_in name steps number texts [] = Ok texts
-told_in name steps number texts (line ∷ rest) = onward name number line (told_with steps texts line) (λ next. told_in name steps (number + 1) next rest)
+told_in name steps number texts (line ∷ rest) =
+    onward name number line (told_with steps texts line)
+    (λ next. told_in name steps (number + 1) next rest)

@@ -41,16 +41,19 @@ kinds_said (kind ∷ more) = kind ++ behind_bars more
 
 -- the line of a step with all its replies
 abbrev pub step_line : Asked → List (List ℕ) → List ℕ
-step_line a kinds = (decimal a.line ++ codes " " ++ decimal a.cpu ++ codes " ") ++ kinds_said kinds ++ 10 ∷ []
+step_line a kinds =
+    (decimal a.line ++ codes " " ++ decimal a.cpu ++ codes " ") ++ kinds_said kinds ++ 10 ∷ []
 
 abbrev pub steps_said : List Outcome → ℕ → List Asked → List ℕ
 steps_said found place [] = []
-steps_said found place (a ∷ more) = step_line a (kinds_at found place) ++ steps_said found (place + 1) more
+steps_said found place (a ∷ more) =
+    step_line a (kinds_at found place) ++ steps_said found (place + 1) more
 
 -- whether the replies of each step vary
 abbrev pub varied_from : List Outcome → ℕ → List Asked → List Bool
 varied_from found place [] = []
-varied_from found place (a ∷ more) = nat_lt 1 (length (kinds_at found place)) ∷ varied_from found (place + 1) more
+varied_from found place (a ∷ more) =
+    nat_lt 1 (length (kinds_at found place)) ∷ varied_from found (place + 1) more
 
 -- the reply of a step, where it varies
 unfoldable pub varied_reply : Asked → Bool → List ℕ → List ℕ
@@ -60,7 +63,8 @@ varied_reply a false reply = []
 abbrev pub replies_said : List Reply → ℕ → List Asked → List Bool → List ℕ
 replies_said replies place [] varied = []
 replies_said replies place (a ∷ more) [] = []
-replies_said replies place (a ∷ more) (v ∷ vs) = varied_reply a v (text_at place replies) ++ replies_said replies (place + 1) more vs
+replies_said replies place (a ∷ more) (v ∷ vs) =
+    varied_reply a v (text_at place replies) ++ replies_said replies (place + 1) more vs
 
 -- an order, by the lines of its steps
 abbrev pub line_at : List Asked → ℕ → ℕ
@@ -78,20 +82,27 @@ order_said steps order = codes "order" ++ places_said steps order ++ 10 ∷ []
 
 -- the line of an outcome: the replies that vary, and an order that gives them
 abbrev pub outcome_line : List Asked → List Bool → Outcome → List ℕ
-outcome_line steps varied o = codes "outcome " ++ replies_said o.replies.items 0 steps varied ++ order_said steps o.order.items
+outcome_line steps varied o =
+    codes "outcome " ++ replies_said o.replies.items 0 steps varied
+    ++ order_said steps o.order.items
 
 abbrev pub outcomes_said : List Asked → List Bool → List Outcome → List ℕ
 outcomes_said steps varied [] = []
-outcomes_said steps varied (o ∷ more) = outcome_line steps varied o ++ outcomes_said steps varied more
+outcomes_said steps varied (o ∷ more) =
+    outcome_line steps varied o ++ outcomes_said steps varied more
 
 -- the last line: how many steps and outcomes there are
 abbrev pub end_said : ℕ → ℕ → List ℕ
-end_said steps outcomes = codes "end steps " ++ decimal steps ++ codes " outcomes " ++ decimal outcomes ++ 10 ∷ []
+end_said steps outcomes =
+    codes "end steps " ++ decimal steps ++ codes " outcomes " ++ decimal outcomes ++ 10 ∷ []
 
--- all lines: of the steps before `start`, as a replay has them, of those after it, and of all outcomes
+-- all lines: of the steps before `start`, as a replay has them, of those after it, and of all
+-- outcomes
 abbrev pub all_said : List Asked → List Reply → List Asked → List Outcome → List ℕ
 all_said first replies steps found =
-    text_of_report (step_lines first replies) ++ steps_said found 0 steps ++ outcomes_said steps (varied_from found 0 steps) found ++ end_said (length first + length steps) (length found)
+    text_of_report (step_lines first replies) ++ steps_said found 0 steps
+    ++ outcomes_said steps (varied_from found 0 steps) found
+    ++ end_said (length first + length steps) (length found)
 
 -- that there are too many points after some steps
 abbrev pub too_many_said : ℕ → List ℕ

@@ -131,7 +131,8 @@ fn found_of<P: Progress>(
 /// Why not all outcomes are found.
 fn not_found(fault: OutcomesFault) -> Result<Found, AllocError>
     requires { IsNoGeneration fault }
-    ensures { IfOk result (λ f. (made : ℕ) × (fault ≡ OutcomesFault.TooMany made) × (f ≡ Found.TooMany made)) }
+    ensures { IfOk result
+        (λ f. (made : ℕ) × (fault ≡ OutcomesFault.TooMany made) × (f ≡ Found.TooMany made)) }
 {
     match fault {
         OutcomesFault::TooMany(made) => Ok(Found::TooMany(made)),

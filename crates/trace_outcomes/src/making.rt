@@ -82,7 +82,8 @@ pub(crate) fn first_made(
     requires config { state.layout.config ≡ config_of (course_in course.now).told }
     requires low { HasGenerationsTo 1 (contents_in state) }
     requires count { length texts.now ≡ length course.now.steps.items }
-    ensures ready { IfOk result (IsReady (course_in course.now) (drop (in_order_of (course_in course.now)) texts.now)) }
+    ensures ready { IfOk result
+        (IsReady (course_in course.now) (drop (in_order_of (course_in course.now)) texts.now)) }
     ensures made { IfOk result (HasMade (machine_in state) (course_in course.now) (texts_in texts.now)) }
 {
     let count = course.in_order();
@@ -112,7 +113,9 @@ fn steps_made(
     requires cpus { All (λ t. t.cpu < state.layout.config.cpus) turns.now }
     requires few { length turns.now < 2 ^ 63 }
     requires low { HasGenerationsTo 1 (contents_in state) }
-    ensures told { IfOk result (λ r. (r.0.items, ghost_state r.1) ≡ told_along (layout_of state.layout) (ghost_state state) turns.now) }
+    ensures told { IfOk result
+        (λ r. (r.0.items, ghost_state r.1)
+        ≡ told_along (layout_of state.layout) (ghost_state state) turns.now) }
     ensures layout { IfOk result (λ r. layout_of r.1.layout ≡ layout_of state.layout) }
 {
     match first_steps(global, state, turns) {

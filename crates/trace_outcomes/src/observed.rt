@@ -104,7 +104,8 @@ fn read_line(
     texts: &mut Vec<Option<Vec<u8>>>,
 ) -> Result<Option<ReportFault>, AllocError>
     requires { length texts.old.items ≡ length steps.now }
-    ensures told { IfOk result (IsNoted (told_with steps.now (texts_in texts.old.items) line.now) texts.new.items) }
+    ensures told { IfOk result
+        (IsNoted (told_with steps.now (texts_in texts.old.items) line.now) texts.new.items) }
     ensures count { length texts.new.items ≡ length texts.old.items }
 {
     if is_passed(line) {
@@ -150,7 +151,8 @@ pub(crate) fn read_report(
     texts: Vec<Option<Vec<u8>>>,
 ) -> Result<Report, AllocError>
     requires { length texts.items ≡ length steps.now }
-    ensures told { IfOk result (IsReportOf (told_in name.now steps.now 1 (texts_in texts.items) (lines_of report.now))) }
+    ensures told { IfOk result
+        (IsReportOf (told_in name.now steps.now 1 (texts_in texts.items) (lines_of report.now))) }
     ensures count { IfOk result (IsCounted (length steps.now)) }
 {
     let lines = lines(global, report)?;
@@ -165,7 +167,10 @@ fn read_lines(
     texts: Vec<Option<Vec<u8>>>,
 ) -> Result<Report, AllocError>
     requires { length texts.items ≡ length steps.now }
-    ensures told { IfOk result (IsReportOf (told_in name.now steps.now 1 (texts_in texts.items) (map (λ line. line.now) lines.now))) }
+    ensures told { IfOk result
+        (IsReportOf
+        (told_in name.now steps.now 1 (texts_in texts.items)
+        (map (λ line. line.now) lines.now))) }
     ensures count { IfOk result (IsCounted (length steps.now)) }
 {
     let mut texts = texts;

@@ -77,7 +77,10 @@ fn unclean(text: Vec<u8>) -> Told
 /// Why there is no list of outcomes.
 fn too_many(global: Global, fault: OutcomesFault) -> Result<Told, AllocError>
     requires { IsNoGeneration fault }
-    ensures { IfOk result (λ t. (made : ℕ) × (fault ≡ OutcomesFault.TooMany made) × TellsUnclean (too_many_said made) t) }
+    ensures { IfOk result
+        (λ t. (made : ℕ)
+        × (fault ≡ OutcomesFault.TooMany made)
+        × TellsUnclean (too_many_said made) t) }
 {
     match fault {
         OutcomesFault::TooMany(made) => many_told(global, made),
@@ -171,7 +174,9 @@ pub fn tell_order<P: Progress>(
     limit: usize,
     progress: &P,
 ) -> Result<Told, AllocError>
-    ensures { IfOk result (TellsReported name.now (lines_of report.now) limit (course_of 1 nothing_asked (lines_of trace.now))) }
+    ensures { IfOk result
+        (TellsReported name.now (lines_of report.now) limit
+        (course_of 1 nothing_asked (lines_of trace.now))) }
 {
     match read_trace(global, trace)? {
         Read::Whole(course) => order_of(global, &course, name, report, limit, progress),
@@ -251,7 +256,8 @@ fn order_from<P: Progress>(
     requires config { state.layout.config ≡ config_of (course_in course.now).told }
     requires low { HasGenerationsTo 1 (contents_in state) }
     requires count { length texts.now ≡ length course.now.steps.items }
-    ensures { IfOk result (TellsObserved (machine_in state) (course_in course.now) (texts_in texts.now) limit) }
+    ensures { IfOk result
+        (TellsObserved (machine_in state) (course_in course.now) (texts_in texts.now) limit) }
 {
     match first_made(global, state, course, texts) {
         Ok(race) => order_in(global, &race, course, texts, limit, progress),
@@ -280,8 +286,11 @@ fn order_in<P: Progress>(
 ) -> Result<Told, AllocError>
     requires sound { IsSound (course_in course.now) }
     requires count { length texts.now ≡ length course.now.steps.items }
-    requires ready { IsReady (course_in course.now) (drop (in_order_of (course_in course.now)) texts.now) race.now }
-    ensures { IfOk result (OnMade (λ m a texts. TellsObserved m a texts limit) (course_in course.now) (texts_in texts.now) race.now) }
+    requires ready { IsReady (course_in course.now)
+        (drop (in_order_of (course_in course.now)) texts.now) race.now }
+    ensures { IfOk result
+        (OnMade (λ m a texts. TellsObserved m a texts limit) (course_in course.now)
+        (texts_in texts.now) race.now) }
 {
     let count = course.in_order();
     let steps = course.steps.as_slice();
@@ -307,8 +316,11 @@ fn order_behind<P: Progress>(
 ) -> Result<Told, AllocError>
     requires sound { IsSound (course_in course.now) }
     requires count { length texts.now ≡ length course.now.steps.items }
-    requires ready { IsReady (course_in course.now) (drop (in_order_of (course_in course.now)) texts.now) race.now }
-    ensures { IfOk result (OnMade (λ m a texts. TellsBehind m a texts limit) (course_in course.now) (texts_in texts.now) race.now) }
+    requires ready { IsReady (course_in course.now)
+        (drop (in_order_of (course_in course.now)) texts.now) race.now }
+    ensures { IfOk result
+        (OnMade (λ m a texts. TellsBehind m a texts limit) (course_in course.now)
+        (texts_in texts.now) race.now) }
 {
     let count = course.in_order();
     match explained(

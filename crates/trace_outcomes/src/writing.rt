@@ -52,7 +52,8 @@ pub(crate) fn add_fault(
     line: u64,
     fault: Fault,
 ) -> Result<(), AllocError>
-    ensures { OnOk result (text.new.items ≡ text.old.items ++ text_of_report (ReportLine.Fault line fault ∷ [])) }
+    ensures { OnOk result
+        (text.new.items ≡ text.old.items ++ text_of_report (ReportLine.Fault line fault ∷ [])) }
 {
     add_told(text, global, ReportLine::Fault { line, fault })
 }
@@ -65,7 +66,8 @@ fn add_first(
     replies: &[Reply],
 ) -> Result<(), AllocError>
     requires { length replies.now ≡ length steps.now }
-    ensures { OnOk result (text.new.items ≡ text.old.items ++ text_of_report (step_lines steps.now replies.now)) }
+    ensures { OnOk result
+        (text.new.items ≡ text.old.items ++ text_of_report (step_lines steps.now replies.now)) }
 {
     for place in 0..steps.len() {
         let Asked { line, cpu, .. } = steps[place];
@@ -111,7 +113,9 @@ pub fn is_among(texts: &[Vec<u8>], text: &[u8]) -> bool
 
 /// Adds a text, unless it is there.
 fn add_kind(kinds: &mut Vec<Vec<u8>>, text: Vec<u8>) -> Result<(), AllocError>
-    ensures { OnOk result (map (λ v. v.items) kinds.new.items ≡ with_kind (map (λ v. v.items) kinds.old.items) text.items) }
+    ensures { OnOk result
+        (map (λ v. v.items) kinds.new.items
+        ≡ with_kind (map (λ v. v.items) kinds.old.items) text.items) }
 {
     if is_among(kinds.as_slice(), text.as_slice()) {
         drop(text);
@@ -164,7 +168,8 @@ fn add_step(
     asked: Asked,
     kinds: &[Vec<u8>],
 ) -> Result<(), AllocError>
-    ensures { OnOk result (text.new.items ≡ text.old.items ++ step_line asked (map (λ v. v.items) kinds.now)) }
+    ensures { OnOk result
+        (text.new.items ≡ text.old.items ++ step_line asked (map (λ v. v.items) kinds.now)) }
 {
     let Asked { line, cpu, .. } = asked;
     let begin = format!(in global; "{line} {cpu} ")?;
@@ -204,7 +209,9 @@ fn add_varied(
     replies: &[Reply],
     place: usize,
 ) -> Result<(), AllocError>
-    ensures { OnOk result (text.new.items ≡ text.old.items ++ varied_reply asked varies (text_at_of place replies.now)) }
+    ensures { OnOk result
+        (text.new.items
+        ≡ text.old.items ++ varied_reply asked varies (text_at_of place replies.now)) }
 {
     if !varies {
         return Ok(());
@@ -227,7 +234,8 @@ fn add_replies(
     replies: &[Reply],
 ) -> Result<(), AllocError>
     requires { length varied.now ≡ length steps.now }
-    ensures { OnOk result (text.new.items ≡ text.old.items ++ replies_said replies.now 0 steps.now varied.now) }
+    ensures { OnOk result
+        (text.new.items ≡ text.old.items ++ replies_said replies.now 0 steps.now varied.now) }
 {
     for place in 0..steps.len() {
         add_varied(text, global, steps[place], varied[place], replies, place)?;
@@ -297,7 +305,8 @@ fn add_outcome(
     outcome: &Outcome,
 ) -> Result<(), AllocError>
     requires { length varied.now ≡ length steps.now }
-    ensures { OnOk result (text.new.items ≡ text.old.items ++ outcome_line steps.now varied.now outcome.now) }
+    ensures { OnOk result
+        (text.new.items ≡ text.old.items ++ outcome_line steps.now varied.now outcome.now) }
 {
     text.extend_from_slice(b"outcome ")?;
     add_replies(text, global, steps, varied, outcome.replies.as_slice())?;
@@ -312,7 +321,8 @@ fn add_outcomes(
     found: &[Outcome],
 ) -> Result<(), AllocError>
     requires { length varied.now ≡ length steps.now }
-    ensures { OnOk result (text.new.items ≡ text.old.items ++ outcomes_said steps.now varied.now found.now) }
+    ensures { OnOk result
+        (text.new.items ≡ text.old.items ++ outcomes_said steps.now varied.now found.now) }
 {
     for outcome in found {
         add_outcome(text, global, steps, varied, outcome)?;
@@ -344,7 +354,8 @@ pub(crate) fn add_all(
     found: &[Outcome],
 ) -> Result<(), AllocError>
     requires { length replies.now ≡ length first.now }
-    ensures { OnOk result (text.new.items ≡ text.old.items ++ all_said first.now replies.now steps.now found.now) }
+    ensures { OnOk result
+        (text.new.items ≡ text.old.items ++ all_said first.now replies.now steps.now found.now) }
 {
     add_first(text, global, first, replies)?;
     let varied = add_steps(text, global, steps, found)?;

@@ -23,11 +23,22 @@ machine_made : Layout → Reference → Machine
 machine_made l s = record { layout = l; state = s }
 
 -- what a world keeps is its machine
-same_machine : {A : Type 0} (g : Ghost) (w : World A) → layout_of g.layout ≡ parts_layout w.parts → ghost_state g ≡ state_of w.parts → machine_in g ≡ machine_of w
-same_machine g w layout state = ap (λ l. record { layout = l; state = ghost_state g }) layout ∙ ap (λ s. record { layout = parts_layout w.parts; state = s }) state
+same_machine : {A : Type 0} (g : Ghost) (w : World A)
+    → layout_of g.layout ≡ parts_layout w.parts
+    → ghost_state g ≡ state_of w.parts
+    → machine_in g ≡ machine_of w
+same_machine g w layout state =
+    ap (λ l. record { layout = l; state = ghost_state g }) layout
+    ∙ ap (λ s. record { layout = parts_layout w.parts; state = s }) state
 
-pub booted_of : (m n : Memory) (c d : Config) (b : Booted) → n ≡ m → d ≡ c → IsBooted n d b.world.parts → b.line ≡ boot_told (machine_of b.world)
-    → layout_of b.state.layout ≡ parts_layout b.world.parts → ghost_state b.state ≡ state_of b.world.parts → IsBootedOf m c b
+pub booted_of : (m n : Memory) (c d : Config) (b : Booted)
+    → n ≡ m
+    → d ≡ c
+    → IsBooted n d b.world.parts
+    → b.line ≡ boot_told (machine_of b.world)
+    → layout_of b.state.layout ≡ parts_layout b.world.parts
+    → ghost_state b.state ≡ state_of b.world.parts
+    → IsBootedOf m c b
 booted_of m n c d b memory config world line layout state =
     subst (λ x. IsBootedOf x c b) memory (subst (λ x. IsBootedOf n x b) config record {
       booted = subst (IsBootOf n d) (sym same) (boots n d b.world world);

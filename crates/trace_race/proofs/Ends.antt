@@ -41,11 +41,17 @@ abbrev pub told : Call → Step × Reply
 told c = (c.step, c.reply)
 
 -- a stored call is one more
-pub one_stored : (step : Step) (reply : Reply) (v w : Known) → StoresInTheEnd step reply v w → map told w.own.log.calls ≡ map told v.own.log.calls ++ (step, reply) ∷ []
+pub one_stored : (step : Step) (reply : Reply) (v w : Known)
+    → StoresInTheEnd step reply v w
+    → map told w.own.log.calls ≡ map told v.own.log.calls ++ (step, reply) ∷ []
 one_stored step reply v w s =
-    let calls : w.own.log.calls ≡ v.own.log.calls ++ s.stores.call ∷ [] = ap (λ l. l.calls) s.stores.added.own ∙ ap (λ (k : CpuState). k.log.calls ++ s.stores.call ∷ []) s.met.same.own in
-    let one : told s.stores.call ≡ (step, reply) = ap (λ x. (x, s.stores.call.reply)) s.stores.called.asked ∙ ap (λ x. (step, x)) s.stores.reply_is in
-    ap (map told) calls ∙ (map-append told v.own.log.calls (s.stores.call ∷ []) ∙ ap (λ x. map told v.own.log.calls ++ x ∷ []) one)
+    let calls : w.own.log.calls ≡ v.own.log.calls ++ s.stores.call ∷ [] =
+    ap (λ l. l.calls) s.stores.added.own
+    ∙ ap (λ (k : CpuState). k.log.calls ++ s.stores.call ∷ []) s.met.same.own in
+    let one : told s.stores.call ≡ (step, reply) =
+    ap (λ x. (x, s.stores.call.reply)) s.stores.called.asked ∙ ap (λ x. (step, x)) s.stores.reply_is in
+    ap (map told) calls
+    ∙ (map-append told v.own.log.calls (s.stores.call ∷ []) ∙ ap (λ x. map told v.own.log.calls ++ x ∷ []) one)
 
 -- where a log is full nothing is added
 none_stored : (step : Step) (v w : Known) → FullInTheEnd step v w → map told w.own.log.calls ≡ map told v.own.log.calls
@@ -55,7 +61,9 @@ abbrev kept : List (Step × Reply) → List (Step × Reply)
 kept answers = filter (λ a. is_stored a.1) answers
 
 -- so calls add those of them that are stored
-made_calls : (v w : Known) (answers : List (Step × Reply)) → Makes v answers w → map told w.own.log.calls ≡ map told v.own.log.calls ++ kept answers
+made_calls : (v w : Known) (answers : List (Step × Reply))
+    → Makes v answers w
+    → map told w.own.log.calls ≡ map told v.own.log.calls ++ kept answers
 made_calls v w [] made = ap (λ (k : Known). map told k.own.log.calls) made ∙ sym (append-nil (map told v.own.log.calls))
 made_calls v w (a ∷ more) made =
     let rest = made_calls made.0 w more made.2 in
@@ -63,7 +71,9 @@ made_calls v w (a ∷ more) made =
       | inl k ↦
           let one = one_stored a.0 a.1 v made.0 (made.1.stored k.0) in
           let first : kept (a ∷ more) ≡ a ∷ kept more = rw k.1 refl in
-          rest ∙ (ap (λ xs. xs ++ kept more) one ∙ ((rw append_assoc refl) ∙ ap (λ xs. map told v.own.log.calls ++ xs) (sym first)))
+          rest
+          ∙ (ap (λ xs. xs ++ kept more) one
+          ∙ ((rw append_assoc refl) ∙ ap (λ xs. map told v.own.log.calls ++ xs) (sym first)))
       | inr k ↦
           let one = none_stored a.0 v made.0 (made.1.full k.0) in
           let first : kept (a ∷ more) ≡ kept more = rw k.1 refl in
@@ -71,26 +81,38 @@ made_calls v w (a ∷ more) made =
     ]
 
 -- the passes are of the table
-pub are_of : (t : Opened) (steps : List Asked) (replies : List Reply) (passes : List Pass) → AreDone t steps replies passes → AreOf t passes
+pub are_of : (t : Opened) (steps : List Asked) (replies : List Reply) (passes : List Pass)
+    → AreDone t steps replies passes
+    → AreOf t passes
 are_of t steps replies passes done j p there = (done.each j p there).of
 
 -- each CPU's pass is given
-pub all_of : (t : Opened) (steps : List Asked) (replies : List Reply) (passes : List Pass) → AreDone t steps replies passes → AllGiven t.layout passes
+pub all_of : (t : Opened) (steps : List Asked) (replies : List Reply) (passes : List Pass)
+    → AreDone t steps replies passes
+    → AllGiven t.layout passes
 all_of t steps replies passes done cpu less =
     let there = at_place passes cpu (let n = done.count in omega (arith, n, less)) in
     record { place = cpu; pass = there.0; there = there.1; cpu = (done.each cpu there.0 there.1).cpu_is }
 
 -- calls in another order of the same parts and CPUs are full where these are
-module _ (l : Layout) (V W : List Call) (on : (p : Part) → calls_on p V ≡ calls_on p W) (by : (cpu : ℕ) → calls_by cpu V ≡ calls_by cpu W) where
+module _ (l : Layout) (V W : List Call) (on : (p : Part) → calls_on p V ≡ calls_on p W)
+    (by : (cpu : ℕ) → calls_by cpu V ≡ calls_by cpu W) where
   full_as : (step : Step) (v : Known) → FindsFull l W step v → FindsFull l V step v
   full_as step v (inl e) = inl (ap (λ (cs : List Call). length cs) (by v.cpu) ∙ e)
   full_as step v (inr e) = inr (e.0, e.1, ap (λ (cs : List Call). length cs) (on (part_of e.0)) ∙ e.2)
 
-  makes_as : (v w : Known) (answers : List (Step × Reply)) → MakeAll (CallsIn l W) v answers w → MakeAll (CallsIn l V) v answers w
+  makes_as : (v w : Known) (answers : List (Step × Reply))
+      → MakeAll (CallsIn l W) v answers w
+      → MakeAll (CallsIn l V) v answers w
   makes_as v w [] made = made
   makes_as v w (a ∷ more) made = (
     made.0,
-    record { answered = made.1.answered; stored = made.1.stored; full = λ e. let f = made.1.full e in (f.0, full_as a.0 v f.1) },
+    record {
+      answered = made.1.answered;
+      stored = made.1.stored;
+      full = λ e. let f = made.1.full e in
+          (f.0, full_as a.0 v f.1);
+    },
     makes_as made.0 w more made.2,
   )
 
@@ -99,7 +121,8 @@ cut : {X : Type 0} (xs ys zs : List X) → xs ++ ys ≡ xs ++ zs → ys ≡ zs
 cut [] ys zs e = e
 cut (x ∷ xs) ys zs e = cut xs ys zs (ap (λ l. drop 1 l) e)
 
-module _ {A : Type 0} (t : Opened) (start : ℕ) (steps : List Asked) (replies : List Reply) (passes : List Pass) (found : List (Slot A)) (cpus : List CpuState)
+module _ {A : Type 0} (t : Opened) (start : ℕ) (steps : List Asked) (replies : List Reply) (passes : List Pass)
+    (found : List (Slot A)) (cpus : List CpuState)
     (made : AreMade t start steps replies passes) (end : IsEndFor t found cpus (OfGiven passes)) where
   abbrev l : Layout
   l = layout_of t.layout
@@ -121,23 +144,36 @@ module _ {A : Type 0} (t : Opened) (start : ℕ) (steps : List Asked) (replies :
   same_on vm_part = made.begun.logs 0 (omega arith) ∙ sym (end.goes_on.on 0 (omega arith))
   same_on shared_part = made.begun.logs 1 (omega arith) ∙ sym (end.goes_on.on 1 (omega arith))
   same_on (guest_part v) = by_lt v 64
-      (λ less. made.begun.logs (suc (suc v)) (omega (arith, less)) ∙ sym (end.goes_on.on (suc (suc v)) (omega (arith, less))))
+      (λ less. made.begun.logs (suc (suc v)) (omega (arith, less))
+      ∙ sym (end.goes_on.on (suc (suc v)) (omega (arith, less))))
       (λ past. no_guest_calls l made.begun.ready first made.begun.at made.begun.stored_run v past
-      ∙ sym (front_none (guest_part v) end.goes_on.first after (ap (calls_on (guest_part v)) (sym end.goes_on.log_is) ∙ no_guest_calls l made.begun.ready whole last end.end.left.run v past)))
+      ∙ sym
+      (front_none (guest_part v) end.goes_on.first after
+      (ap (calls_on (guest_part v)) (sym end.goes_on.log_is)
+      ∙ no_guest_calls l made.begun.ready whole last end.end.left.run v past)))
 
   same_by : (cpu : ℕ) → calls_by cpu first ≡ calls_by cpu end.goes_on.first
   same_by cpu = by_lt cpu t.layout.config.cpus
       (λ less.
       let k = there t.begun.owns cpu (let n = made.begun.count in omega (arith, n, less)) in
-      (made.begun.owns cpu less).0 ∙ ap (λ (o : CpuState). o.log.calls) (or_of_get t.begun.owns cpu no_own k.0 k.1) ∙ sym (end.goes_on.by cpu k.0 k.1))
+      (made.begun.owns cpu less).0 ∙ ap (λ (o : CpuState). o.log.calls) (or_of_get t.begun.owns cpu no_own k.0 k.1)
+      ∙ sym (end.goes_on.by cpu k.0 k.1))
       (λ past. none_by t.layout.config.cpus first made.begun.stored_run.cpus cpu past
-      ∙ sym (front_by cpu end.goes_on.first after (ap (calls_by cpu) (sym end.goes_on.log_is) ∙ none_by t.layout.config.cpus whole end.end.left.run.cpus cpu past)))
+      ∙ sym
+      (front_by cpu end.goes_on.first after
+      (ap (calls_by cpu) (sym end.goes_on.log_is)
+      ∙ none_by t.layout.config.cpus whole end.end.left.run.cpus cpu past)))
 
   all_on : (p : Part) → calls_on p (first ++ after) ≡ calls_on p whole
-  all_on p = filter-append (call_uses p) first after ∙ ap (λ cs. cs ++ calls_on p after) (same_on p) ∙ sym (filter-append (call_uses p) end.goes_on.first after) ∙ ap (calls_on p) (sym end.goes_on.log_is)
+  all_on p =
+      filter-append (call_uses p) first after ∙ ap (λ cs. cs ++ calls_on p after) (same_on p)
+      ∙ sym (filter-append (call_uses p) end.goes_on.first after) ∙ ap (calls_on p) (sym end.goes_on.log_is)
 
   all_by : (cpu : ℕ) → calls_by cpu (first ++ after) ≡ calls_by cpu whole
-  all_by cpu = filter-append (λ (c : Call). c.cpu == cpu) first after ∙ ap (λ cs. cs ++ calls_by cpu after) (same_by cpu) ∙ sym (filter-append (λ (c : Call). c.cpu == cpu) end.goes_on.first after) ∙ ap (calls_by cpu) (sym end.goes_on.log_is)
+  all_by cpu =
+      filter-append (λ (c : Call). c.cpu == cpu) first after ∙ ap (λ cs. cs ++ calls_by cpu after) (same_by cpu)
+      ∙ sym (filter-append (λ (c : Call). c.cpu == cpu) end.goes_on.first after)
+      ∙ ap (calls_by cpu) (sym end.goes_on.log_is)
 
   -- so the steps before `start`, in the trace's order, and then the calls of the machine are a run
   run : IsRun l (first ++ after) last
@@ -146,19 +182,27 @@ module _ {A : Type 0} (t : Opened) (start : ℕ) (steps : List Asked) (replies :
   goes : Runs (Steps l) made.begun.at after last
   goes =
       let s = split (Steps l) first after (boot l) last run.leads in
-      subst (λ (u : Reference). Runs (Steps l) u after last) (end_once l first s.0 made.begun.at (record { cpus = made.begun.stored_run.cpus; leads = s.1 }) made.begun.stored_run) s.2
+      subst (λ (u : Reference). Runs (Steps l) u after last)
+      (end_once l first s.0 made.begun.at
+      (record { cpus = made.begun.stored_run.cpus; leads = s.1 }) made.begun.stored_run) s.2
 
-  each : (cpu : ℕ) → cpu < t.layout.config.cpus → (p : Pass) × (slice_get passes cpu ≡ Some p) → IsCpus t.layout cpu (answers_of cpu (drop start steps) (drop start replies)) made.begun.at first after
+  each : (cpu : ℕ)
+      → cpu < t.layout.config.cpus
+      → (p : Pass) × (slice_get passes cpu ≡ Some p)
+      → IsCpus t.layout cpu (answers_of cpu (drop start steps) (drop start replies)) made.begun.at first after
   each cpu less given =
       let p = given.0 in
       let answers = answers_of cpu (drop start steps) (drop start replies) in
       let one = made.done.each cpu p given.1 in
-      let state : slice_get cpus cpu ≡ Some p.knows.own = subst (λ (c : ℕ). slice_get cpus c ≡ Some p.knows.own) one.cpu_is (end.own cpu p given.1) in
+      let state : slice_get cpus cpu ≡ Some p.knows.own =
+      subst (λ (c : ℕ). slice_get cpus c ≡ Some p.knows.own) one.cpu_is (end.own cpu p given.1) in
       let calls : p.knows.own.log.calls ≡ calls_by cpu whole = (end.end.left.cpus cpu p.knows.own state).0 in
       let begun = made.begun.owns cpu less in
-      let parted : calls_by cpu whole ≡ calls_by cpu first ++ calls_by cpu after = sym (all_by cpu) ∙ filter-append (λ (c : Call). c.cpu == cpu) first after in
+      let parted : calls_by cpu whole ≡ calls_by cpu first ++ calls_by cpu after =
+      sym (all_by cpu) ∙ filter-append (λ (c : Call). c.cpu == cpu) first after in
       let both : map told (calls_by cpu first) ++ map told (calls_by cpu after) ≡ map told (calls_by cpu first) ++ kept answers =
-      sym (map-append told (calls_by cpu first) (calls_by cpu after)) ∙ ap (map told) (sym (calls ∙ parted)) ∙ made_calls (first_known t cpu) p.knows answers one.makes
+      sym (map-append told (calls_by cpu first) (calls_by cpu after)) ∙ ap (map told) (sym (calls ∙ parted))
+      ∙ made_calls (first_known t cpu) p.knows answers one.makes
       ∙ ap (λ (cs : List Call). map told cs ++ kept answers) (sym begun.0) in
       record {
         calls = cut (map told (calls_by cpu first)) (map told (calls_by cpu after)) (kept answers) both;
@@ -167,7 +211,8 @@ module _ {A : Type 0} (t : Opened) (start : ℕ) (steps : List Asked) (replies :
         first_calls = sym begun.0;
         last = p.knows;
         makes = makes_as l (first ++ after) whole all_on all_by (first_known t cpu) p.knows answers
-            (made_in t found cpus end.end cpu p.knows answers begun.1.size one.makes state (end_fronts t.layout found cpus end.end p.knows.tries (end.tried cpu p given.1)));
+            (made_in t found cpus end.end cpu p.knows answers begun.1.size one.makes state
+            (end_fronts t.layout found cpus end.end p.knows.tries (end.tried cpu p given.1)));
         own = all_by cpu ∙ sym calls;
       }
 
@@ -184,6 +229,8 @@ module _ {A : Type 0} (t : Opened) (start : ℕ) (steps : List Asked) (replies :
     end = last;
     goes = goes;
     run = run;
-    stored = behind_all (λ (c : Call). IsStored c.reply) end.goes_on.first after (subst (All (λ c. IsStored c.reply)) end.goes_on.log_is end.end.left.stored);
+    stored =
+        behind_all (λ (c : Call). IsStored c.reply) end.goes_on.first after
+        (subst (All (λ c. IsStored c.reply)) end.goes_on.log_is end.end.left.stored);
     each = λ cpu less. each cpu less (at_place passes cpu (let n = made.done.count in omega (arith, n, less)));
   }

@@ -32,8 +32,13 @@ module _ (l : Layout) (log : List Call) where
         let s : StoresInTheEnd a.0 a.1 v w = c.stored k.0 in
         record {
           cpu = s.stores.added.cpu ∙ s.met.same.cpu;
-          calls = (s.stores.call ∷ [], ap (λ g. g.calls) s.stores.added.own ∙ ap (λ (k : CpuState). k.log.calls ++ s.stores.call ∷ []) s.met.same.own);
-          told_is = let one : kept (a ∷ []) ≡ a ∷ [] = rw k.1 refl in one_stored a.0 a.1 v w s ∙ ap (λ xs. map told v.own.log.calls ++ xs) (sym one);
+          calls = (
+            s.stores.call ∷ [],
+            ap (λ g. g.calls) s.stores.added.own
+                ∙ ap (λ (k : CpuState). k.log.calls ++ s.stores.call ∷ []) s.met.same.own,
+          );
+          told_is = let one : kept (a ∷ []) ≡ a ∷ [] = rw k.1 refl in
+              one_stored a.0 a.1 v w s ∙ ap (λ xs. map told v.own.log.calls ++ xs) (sym one);
         }
     | inr k ↦
         let same = (c.full k.0).0 in
@@ -41,7 +46,10 @@ module _ (l : Layout) (log : List Call) where
         record {
           cpu = same.cpu;
           calls = ([], own ∙ sym (append-nil v.own.log.calls));
-          told_is = let none : kept (a ∷ []) ≡ [] = rw k.1 refl in ap (map told) own ∙ (sym (append-nil (map told v.own.log.calls)) ∙ ap (λ xs. map told v.own.log.calls ++ xs) (sym none));
+          told_is = let none : kept (a ∷ []) ≡ [] = rw k.1 refl in
+              ap (map told) own
+              ∙ (sym (append-nil (map told v.own.log.calls))
+              ∙ ap (λ xs. map told v.own.log.calls ++ xs) (sym none));
         }
   ]
 
@@ -52,22 +60,44 @@ module _ (l : Layout) (log : List Call) where
       by Rattle.std.specs.Prelude.true e = rw e refl
       by Rattle.std.specs.Prelude.false e = rw e refl
 
-  more_on : (u v w : Known) (a : Step × Reply) (more : List (Step × Reply)) → HasMore u v (a ∷ []) → HasMore v w more → HasMore u w (a ∷ more)
+  more_on : (u v w : Known) (a : Step × Reply) (more : List (Step × Reply))
+      → HasMore u v (a ∷ [])
+      → HasMore v w more
+      → HasMore u w (a ∷ more)
   more_on u v w a more f g = record {
     cpu = g.cpu ∙ f.cpu;
-    calls = (f.calls.0 ++ g.calls.0, g.calls.1 ∙ (ap (λ cs. cs ++ g.calls.0) f.calls.1 ∙ append_assoc u.own.log.calls f.calls.0 g.calls.0));
-    told_is = g.told_is ∙ (ap (λ xs. xs ++ kept more) f.told_is ∙ (append_assoc (map told u.own.log.calls) (kept (a ∷ [])) (kept more) ∙ ap (λ xs. map told u.own.log.calls ++ xs) (sym (kept_more a more))));
+    calls = (
+      f.calls.0 ++ g.calls.0,
+      g.calls.1
+          ∙ (ap (λ cs. cs ++ g.calls.0) f.calls.1 ∙ append_assoc u.own.log.calls f.calls.0 g.calls.0),
+    );
+    told_is =
+        g.told_is
+        ∙ (ap (λ xs. xs ++ kept more) f.told_is
+        ∙ (append_assoc (map told u.own.log.calls) (kept (a ∷ [])) (kept more)
+        ∙ ap (λ xs. map told u.own.log.calls ++ xs) (sym (kept_more a more))));
   }
 
   all_more : (v w : Known) (answers : List (Step × Reply)) → MakeAll (CallsIn l log) v answers w → HasMore v w answers
-  all_more v w [] made = subst (λ (k : Known). HasMore v k []) (sym made) (record { cpu = refl; calls = ([], sym (append-nil v.own.log.calls)); told_is = sym (append-nil (map told v.own.log.calls)) })
+  all_more v w [] made =
+      subst (λ (k : Known). HasMore v k []) (sym made)
+      (record {
+        cpu = refl;
+        calls = ([], sym (append-nil v.own.log.calls));
+        told_is = sym (append-nil (map told v.own.log.calls));
+      })
   all_more v w (a ∷ more) made = more_on v made.0 w a more (one_more a v made.0 made.1) (all_more made.0 w more made.2)
 
-  full_here : (v last : Known) (before after : List (Step × Reply)) (step : Step) → MakeAll (CallsIn l log) v (before ++ (step, Refused LogFull) ∷ after) last
+  full_here : (v last : Known) (before after : List (Step × Reply)) (step : Step)
+      → MakeAll (CallsIn l log) v (before ++ (step, Refused LogFull) ∷ after) last
       → (u : Known) × HasMore v u before × StartsWith last.own.log.calls u.own.log.calls × FindsFull l log step u
   full_here v last [] after step made = (
     v,
-    record { cpu = refl; calls = ([], sym (append-nil v.own.log.calls)); told_is = sym (append-nil (map told v.own.log.calls)) },
+    record {
+      cpu = refl;
+      calls = ([], sym (append-nil v.own.log.calls));
+      told_is = sym (append-nil (map told v.own.log.calls));
+    },
     (all_more v last ((step, Refused LogFull) ∷ after) made).calls,
     (made.1.full refl).1,
   )

@@ -40,8 +40,16 @@ module _ (most : ℕ) where
   later_on : (u v w : Known) → IsLater most u v → IsLater most v w → IsLater most u w
   later_on u v w a b = record {
     cpu = b.cpu ∙ a.cpu;
-    tried = (a.tried.0 ++ b.tried.0, b.tried.1 ∙ (ap (λ (ts : List Try). ts ++ b.tried.0) a.tried.1 ∙ append_assoc u.tries a.tried.0 b.tried.0));
-    calls = (a.calls.0 ++ b.calls.0, b.calls.1 ∙ (ap (λ (cs : List Call). cs ++ b.calls.0) a.calls.1 ∙ append_assoc u.own.log.calls a.calls.0 b.calls.0));
+    tried = (
+      a.tried.0 ++ b.tried.0,
+      b.tried.1
+          ∙ (ap (λ (ts : List Try). ts ++ b.tried.0) a.tried.1 ∙ append_assoc u.tries a.tried.0 b.tried.0),
+    );
+    calls = (
+      a.calls.0 ++ b.calls.0,
+      b.calls.1
+          ∙ (ap (λ (cs : List Call). cs ++ b.calls.0) a.calls.1 ∙ append_assoc u.own.log.calls a.calls.0 b.calls.0),
+    );
     size = λ s. b.size (a.size s);
   }
 
@@ -55,18 +63,25 @@ module _ (most : ℕ) where
   }
 
   size_more : (c : Call) (g h : StoredCalls) → h ≡ with_call c g → g.room ≢ 0 → IsOfSize most g → IsOfSize most h
-  size_more c g h is room size = subst (IsOfSize most) (sym is) (let long = length-append g.calls (c ∷ []) in let s : length g.calls + g.room ≡ most = size in omega (arith, long, s, room))
+  size_more c g h is room size =
+      subst (IsOfSize most) (sym is)
+      (let long = length-append g.calls (c ∷ []) in
+      let s : length g.calls + g.room ≡ most = size in
+      omega (arith, long, s, room))
 
   stored_later : (step : Step) (reply : Reply) (v w : Known) → StoresInTheEnd step reply v w → IsLater most v w
-  stored_later step reply v w s = later_on v s.last w (same_later v s.last (flat_map (λ ts. ts) s.met.rounds) s.met.same s.met.tried) record {
-    cpu = s.stores.added.cpu;
-    tried = (s.stores.tries, s.stores.tried);
-    calls = (s.stores.call ∷ [], ap (λ (g : StoredCalls). g.calls) s.stores.added.own);
-    size = size_more s.stores.call s.last.own.log w.own.log s.stores.added.own s.stores.room;
-  }
+  stored_later step reply v w s =
+      later_on v s.last w (same_later v s.last (flat_map (λ ts. ts) s.met.rounds) s.met.same s.met.tried) record {
+        cpu = s.stores.added.cpu;
+        tried = (s.stores.tries, s.stores.tried);
+        calls = (s.stores.call ∷ [], ap (λ (g : StoredCalls). g.calls) s.stores.added.own);
+        size = size_more s.stores.call s.last.own.log w.own.log s.stores.added.own s.stores.room;
+      }
 
   full_later : (step : Step) (v w : Known) → FullInTheEnd step v w → IsLater most v w
-  full_later step v w f = later_on v f.last w (same_later v f.last (flat_map (λ ts. ts) f.met.rounds) f.met.same f.met.tried) (same_later f.last w f.full.tries f.full.same f.full.tried)
+  full_later step v w f =
+      later_on v f.last w (same_later v f.last (flat_map (λ ts. ts) f.met.rounds) f.met.same f.met.tried)
+      (same_later f.last w f.full.tries f.full.same f.full.tried)
 
   call_later : (step : Step) (reply : Reply) (v w : Known) → Calls step reply v w → IsLater most v w
   call_later step reply v w c = elim (kept_cases reply c.answered) [
@@ -75,8 +90,11 @@ module _ (most : ℕ) where
   ]
 
   made_later : (v w : Known) (answers : List (Step × Reply)) → Makes v answers w → IsLater most v w
-  made_later v w [] made = same_later v w [] (subst (IsSame v) (sym made) (record { layout = refl; cpu = refl; own = refl; seen = refl })) (ap (λ (k : Known). k.tries) made ∙ sym (append-nil v.tries))
-  made_later v w (a ∷ more) made = later_on v made.0 w (call_later a.0 a.1 v made.0 made.1) (made_later made.0 w more made.2)
+  made_later v w [] made =
+      same_later v w [] (subst (IsSame v) (sym made) (record { layout = refl; cpu = refl; own = refl; seen = refl }))
+      (ap (λ (k : Known). k.tries) made ∙ sym (append-nil v.tries))
+  made_later v w (a ∷ more) made =
+      later_on v made.0 w (call_later a.0 a.1 v made.0 made.1) (made_later made.0 w more made.2)
 
 -- the part at which tries ended that found its log full
 abbrev FoundAt : List ℕ → List Try → Type 0
@@ -95,7 +113,8 @@ full_at (k ∷ ks) ts e = subst (FoundAt (k ∷ ks)) (sym e.2) (⊎_elim
       k,
       h.0.0,
       contains-here k ks,
-      subst (λ (o : Option StoredCalls). Contains ((k, o) ∷ e.1) (k, Some h.0.0)) (sym h.0.1) (contains-here (k, Some h.0.0) e.1),
+      subst (λ (o : Option StoredCalls). Contains ((k, o) ∷ e.1) (k, Some h.0.0)) (sym h.0.1)
+          (contains-here (k, Some h.0.0) e.1),
       h.0.2,
     ))
     (λ (h : FoundRoom e.0 × EndsIn FoundFull ks e.1). let more = full_at ks e.1 h.1 in (
@@ -107,49 +126,85 @@ full_at (k ∷ ks) ts e = subst (FoundAt (k ∷ ks)) (sym e.2) (⊎_elim
     ))
     e.3)
 
-module _ {A : Type 0} (l : TheLayout) (found : List (Slot A)) (cpus : List CpuState) (end : IsEndOf l found cpus) (cpu : ℕ) (last : Known)
-    (here : slice_get cpus cpu ≡ Some last.own) (fronts : AreFronts l.config.log (λ k. calls_on (part_of k) end.left.log) last.tries) where
+module _ {A : Type 0} (l : TheLayout) (found : List (Slot A)) (cpus : List CpuState) (end : IsEndOf l found cpus)
+    (cpu : ℕ) (last : Known)
+    (here : slice_get cpus cpu ≡ Some last.own)
+    (fronts : AreFronts l.config.log (λ k. calls_on (part_of k) end.left.log) last.tries) where
   abbrev Full : Step → Known → Type 0
   Full step v = FindsFull (layout_of l) end.left.log step v
 
   -- the CPU's own log was full
-  own_full : (step : Step) (v : Known) → v.cpu ≡ cpu → IsOfSize l.config.log v.own.log → IsLater l.config.log v last → v.own.log.room ≡ 0 → Full step v
+  own_full : (step : Step) (v : Known)
+      → v.cpu ≡ cpu
+      → IsOfSize l.config.log v.own.log
+      → IsLater l.config.log v last
+      → v.own.log.room ≡ 0
+      → Full step v
   own_full step v is size later none =
       let e = end.left.cpus cpu last.own here in
       let now : length last.own.log.calls + last.own.log.room ≡ l.config.log = e.1.size in
       let was : length v.own.log.calls + v.own.log.room ≡ l.config.log = size in
-      let more : length last.own.log.calls ≡ length v.own.log.calls + length later.calls.0 = ap (λ (cs : List Call). length cs) later.calls.1 ∙ length-append v.own.log.calls later.calls.0 in
-      let all : length last.own.log.calls ≡ length (calls_by v.cpu end.left.log) = ap (λ (cs : List Call). length cs) e.0 ∙ ap (λ (c : ℕ). length (calls_by c end.left.log)) (sym is) in
+      let more : length last.own.log.calls ≡ length v.own.log.calls + length later.calls.0 =
+      ap (λ (cs : List Call). length cs) later.calls.1 ∙ length-append v.own.log.calls later.calls.0 in
+      let all : length last.own.log.calls ≡ length (calls_by v.cpu end.left.log) =
+      ap (λ (cs : List Call). length cs) e.0 ∙ ap (λ (c : ℕ). length (calls_by c end.left.log)) (sym is) in
       inl (omega (arith, now, was, more, all, none))
 
   -- a part's log was
-  part_full : (step : Step) (v u w : Known) (ts : List Try) → u.own ≡ v.own → w.tries ≡ u.tries ++ ts → IsLater l.config.log w last → EndsIn FoundFull (used_by step u) ts → Full step v
+  part_full : (step : Step) (v u w : Known) (ts : List Try)
+      → u.own ≡ v.own
+      → w.tries ≡ u.tries ++ ts
+      → IsLater l.config.log w last
+      → EndsIn FoundFull (used_by step u) ts
+      → Full step v
   part_full step v u w ts same tried later ends =
       let f = full_at (used_by step u) ts ends in
       let there : Contains last.tries (f.0, Some f.1) =
       subst (λ (xs : List Try). Contains xs (f.0, Some f.1)) (sym later.tried.1)
-      (Contains-append_left w.tries later.tried.0 (f.0, Some f.1) (subst (λ (xs : List Try). Contains xs (f.0, Some f.1)) (sym tried) (Contains-append_right u.tries ts (f.0, Some f.1) f.3))) in
-      let one = All-contains (λ (t : Try). (g : StoredCalls) → t.1 ≡ Some g → (t.0 < parts) × IsOfSize l.config.log g × StartsWith (calls_on (part_of t.0) end.left.log) g.calls) last.tries (f.0, Some f.1) fronts there f.1 refl in
+      (Contains-append_left w.tries later.tried.0 (f.0, Some f.1)
+      (subst (λ (xs : List Try). Contains xs (f.0, Some f.1)) (sym tried)
+      (Contains-append_right u.tries ts (f.0, Some f.1) f.3))) in
+      let one =
+      All-contains
+      (λ (t : Try). (g : StoredCalls)
+      → t.1 ≡ Some g
+      → (t.0 < parts)
+      × IsOfSize l.config.log g
+      × StartsWith (calls_on (part_of t.0) end.left.log) g.calls) last.tries
+      (f.0, Some f.1) fronts there f.1 refl in
       inr (
         f.0,
         subst (λ (k : CpuState). Contains (in_order (parts_of (names step) (guest_slot (cpu_of k) step))) f.0) same f.2,
         full_stays l found cpus end f.0 f.1 one f.4,
       )
 
-  call_in : (step : Step) (reply : Reply) (v w : Known) → v.cpu ≡ cpu → IsOfSize l.config.log v.own.log → IsLater l.config.log w last → Calls step reply v w → CallsIn (layout_of l) end.left.log step reply v w
+  call_in : (step : Step) (reply : Reply) (v w : Known)
+      → v.cpu ≡ cpu
+      → IsOfSize l.config.log v.own.log
+      → IsLater l.config.log w last
+      → Calls step reply v w
+      → CallsIn (layout_of l) end.left.log step reply v w
   call_in step reply v w is size later c = record {
     answered = c.answered;
     stored = c.stored;
     full = λ e. let f = c.full e in (
       same_on v f.last w f.met.same f.full.same,
       ⊎_elim
-          (λ (h : (f.last.own.log.room ≡ 0) × (f.full.tries ≡ [])). own_full step v is size (later_on l.config.log v w last (full_later l.config.log step v w f) later) (sym (ap (λ (k : CpuState). k.log.room) f.met.same.own) ∙ h.0))
-          (λ (h : (f.last.own.log.room ≢ 0) × EndsIn FoundFull (used_by step f.last) f.full.tries). part_full step v f.last w f.full.tries f.met.same.own f.full.tried later h.1)
+          (λ (h : (f.last.own.log.room ≡ 0) × (f.full.tries ≡ [])). own_full step v is size
+          (later_on l.config.log v w last (full_later l.config.log step v w f) later)
+          (sym (ap (λ (k : CpuState). k.log.room) f.met.same.own) ∙ h.0))
+          (λ
+          (h : (f.last.own.log.room ≢ 0) × EndsIn FoundFull (used_by step f.last) f.full.tries). part_full step v
+          f.last w f.full.tries f.met.same.own f.full.tried later h.1)
           f.full.full,
     );
   }
 
-  all_in : (v : Known) (answers : List (Step × Reply)) → v.cpu ≡ cpu → IsOfSize l.config.log v.own.log → Makes v answers last → MakeAll (CallsIn (layout_of l) end.left.log) v answers last
+  all_in : (v : Known) (answers : List (Step × Reply))
+      → v.cpu ≡ cpu
+      → IsOfSize l.config.log v.own.log
+      → Makes v answers last
+      → MakeAll (CallsIn (layout_of l) end.left.log) v answers last
   all_in v [] is size made = made
   all_in v (a ∷ more) is size made =
       let one = call_later l.config.log a.0 a.1 v made.0 made.1 in (
@@ -159,6 +214,12 @@ module _ {A : Type 0} (l : TheLayout) (found : List (Slot A)) (cpus : List CpuSt
       )
 
 -- the calls of a pass, in the history at whose end it is
-pub made_in : {A : Type 0} (t : Opened) (found : List (Slot A)) (cpus : List CpuState) (end : IsEndOf t.layout found cpus) (cpu : ℕ) (last : Known) (answers : List (Step × Reply)) → IsOfSize t.layout.config.log (own_in t.begun cpu).log → Makes (first_known t cpu) answers last
-    → slice_get cpus cpu ≡ Some last.own → AreFronts t.layout.config.log (λ k. calls_on (part_of k) end.left.log) last.tries → MakeAll (CallsIn (layout_of t.layout) end.left.log) (first_known t cpu) answers last
-made_in t found cpus end cpu last answers size made here fronts = all_in t.layout found cpus end cpu last here fronts (first_known t cpu) answers refl size made
+pub made_in : {A : Type 0} (t : Opened) (found : List (Slot A)) (cpus : List CpuState)
+    (end : IsEndOf t.layout found cpus) (cpu : ℕ) (last : Known) (answers : List (Step × Reply))
+    → IsOfSize t.layout.config.log (own_in t.begun cpu).log
+    → Makes (first_known t cpu) answers last
+    → slice_get cpus cpu ≡ Some last.own
+    → AreFronts t.layout.config.log (λ k. calls_on (part_of k) end.left.log) last.tries
+    → MakeAll (CallsIn (layout_of t.layout) end.left.log) (first_known t cpu) answers last
+made_in t found cpus end cpu last answers size made here fronts =
+    all_in t.layout found cpus end cpu last here fronts (first_known t cpu) answers refl size made

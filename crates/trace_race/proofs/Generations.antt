@@ -58,12 +58,24 @@ module _ (n : ℕ) (some : 1 ≤ n) where
   rises : (z : Vms) (h : SlotChange) → RaisesLow h → AreLow z → (v : ℕ) → ((vms_by h z).slot v).generation ≤ n + 1
   unfolding RaisesLow
   rises z KeepSlots m b v = let k = b v in omega (arith, k)
-  rises z (Reserve u kind i) m b v = put-fact Next z.slot u (record (z.slot u) { stand = reserved; kind = kind; vcpus = i }) (let k = b u in omega (arith, k)) (λ w e. let k = b w in omega (arith, k)) v
-  rises z (Open u) m b v = put-fact Next z.slot u (record (z.slot u) { stand = opened }) (let k = b u in omega (arith, k)) (λ w e. let k = b w in omega (arith, k)) v
-  rises z (Close u) m b v = put-fact Next z.slot u (record (z.slot u) { stand = closing }) (let k = b u in omega (arith, k)) (λ w e. let k = b w in omega (arith, k)) v
-  rises z (Release vm) m b v = put-fact Next z.slot vm.slot (no_slot (vm.generation + 1)) (omega (arith, m)) (λ w e. let k = b w in omega (arith, k)) v
-  rises z (Load u i c) m b v = put-fact Next z.slot u (record (z.slot u) { loaded = put_at (z.slot u).loaded i (Some c) }) (let k = b u in omega (arith, k)) (λ w e. let k = b w in omega (arith, k)) v
-  rises z (Unload u i) m b v = put-fact Next z.slot u (record (z.slot u) { loaded = put_at (z.slot u).loaded i None }) (let k = b u in omega (arith, k)) (λ w e. let k = b w in omega (arith, k)) v
+  rises z (Reserve u kind i) m b v =
+      put-fact Next z.slot u (record (z.slot u) { stand = reserved; kind = kind; vcpus = i })
+      (let k = b u in omega (arith, k)) (λ w e. let k = b w in omega (arith, k)) v
+  rises z (Open u) m b v =
+      put-fact Next z.slot u (record (z.slot u) { stand = opened }) (let k = b u in omega (arith, k))
+      (λ w e. let k = b w in omega (arith, k)) v
+  rises z (Close u) m b v =
+      put-fact Next z.slot u (record (z.slot u) { stand = closing }) (let k = b u in omega (arith, k))
+      (λ w e. let k = b w in omega (arith, k)) v
+  rises z (Release vm) m b v =
+      put-fact Next z.slot vm.slot (no_slot (vm.generation + 1)) (omega (arith, m))
+      (λ w e. let k = b w in omega (arith, k)) v
+  rises z (Load u i c) m b v =
+      put-fact Next z.slot u (record (z.slot u) { loaded = put_at (z.slot u).loaded i (Some c) })
+      (let k = b u in omega (arith, k)) (λ w e. let k = b w in omega (arith, k)) v
+  rises z (Unload u i) m b v =
+      put-fact Next z.slot u (record (z.slot u) { loaded = put_at (z.slot u).loaded i None })
+      (let k = b u in omega (arith, k)) (λ w e. let k = b w in omega (arith, k)) v
 
   updates : (h : Update (Option Ticket)) (o : Option Ticket) → BecomesLow h → Low o → Low (updated h o)
   unfolding BecomesLow
@@ -94,7 +106,15 @@ module _ (n : ℕ) (some : 1 ≤ n) where
     modest MarkDying h = record { slot = tt; ticket = vm_low x.cpu.ticket ticket }
     modest (VmReserve kind i) h = record { slot = tt; ticket = slots (next_slot x) }
     modest VmOpen h = record { slot = tt; ticket = tt }
-    modest (Teardown vm) h = record { slot = tt; ticket = open_low vm (x.vms.slot vm.slot) (passed l.depth (rule l cpu slot (Teardown vm) x) (lacks_slot (names (Teardown vm)) slot) x h).has_vm (slots vm.slot) }
+    modest (Teardown vm) h =
+        record {
+          slot = tt;
+          ticket =
+              open_low vm (x.vms.slot vm.slot)
+              (passed l.depth (rule l cpu slot (Teardown vm) x)
+              (lacks_slot (names (Teardown vm)) slot) x h).has_vm
+              (slots vm.slot);
+        }
     modest VmRelease h = record { slot = vm_low x.cpu.ticket ticket; ticket = tt }
     modest step h = record { slot = tt; ticket = tt }
 
@@ -120,39 +140,56 @@ module _ (n : ℕ) (some : 1 ≤ n) where
     more (Some t) b = omega (arith, b)
     more None b = tt
 
-    put_slots : (b : Bool) (z : Vms) → ((v : ℕ) → (z.slot v).generation ≤ n + 1) → (v : ℕ) → ((if b then z else s.contents.vms).slot v).generation ≤ n + 1
+    put_slots : (b : Bool) (z : Vms)
+        → ((v : ℕ) → (z.slot v).generation ≤ n + 1)
+        → (v : ℕ)
+        → ((if b then z else s.contents.vms).slot v).generation ≤ n + 1
     put_slots true z h v = h v
     put_slots false z h v = let k = low.slots v in omega (arith, k)
 
     -- what is used is put back, after a call or as it was
-    back : (y : Used) → ((v : ℕ) → (y.vms.slot v).generation ≤ n + 1) → Low y.cpu.ticket → HasGenerationsTo (n + 1) (put_back (names step) slot cpu s.contents y)
+    back : (y : Used)
+        → ((v : ℕ) → (y.vms.slot v).generation ≤ n + 1)
+        → Low y.cpu.ticket
+        → HasGenerationsTo (n + 1) (put_back (names step) slot cpu s.contents y)
     unfolding put_back
     back y h k = record {
       slots = put_slots (uses_vms (names step)) y.vms h;
-      tickets = put-fact (λ c (k : Cpu). IfSome k.ticket (λ t. t.vm.generation ≤ n + 1)) s.contents.cpu cpu y.cpu (more y.cpu.ticket k) (λ c e. more (s.contents.cpu c).ticket (low.tickets c));
+      tickets =
+          put-fact (λ c (k : Cpu). IfSome k.ticket (λ t. t.vm.generation ≤ n + 1)) s.contents.cpu cpu y.cpu
+          (more y.cpu.ticket k) (λ c e. more (s.contents.cpu c).ticket (low.tickets c));
     }
 
     back_same : HasGenerationsTo (n + 1) (put_back (names step) slot cpu s.contents x)
     back_same = back x (λ v. let k = slots_low v in omega (arith, k)) ticket_low
 
-    back_made : fails l cpu slot step x ≡ None → HasGenerationsTo (n + 1) (put_back (names step) slot cpu s.contents (made l cpu slot step x))
+    back_made : fails l cpu slot step x ≡ None
+        → HasGenerationsTo (n + 1) (put_back (names step) slot cpu s.contents (made l cpu slot step x))
     unfolding made with_rows changed
     back_made h =
         let m = modest l cpu slot x slots_low ticket_low step h in
         let c = (rule l cpu slot step x).changes in
-        back (made l cpu slot step x) (rises x.vms c.slot m.slot slots_low) (updates c.cpu.ticket x.cpu.ticket m.ticket ticket_low)
+        back (made l cpu slot step x) (rises x.vms c.slot m.slot slots_low)
+        (updates c.cpu.ticket x.cpu.ticket m.ticket ticket_low)
 
     abbrev answered : Option Refusal → Reply × Used
-    answered o = elim o [ Some why ↦ (Refused why, x) | None ↦ (Done (rule l cpu slot step x).changes.value, made l cpu slot step x) ]
+    answered o =
+        elim o [
+          | Some why ↦ (Refused why, x)
+          | None ↦ (Done (rule l cpu slot step x).changes.value, made l cpu slot step x)
+        ]
 
-    back_answered : (o : Option Refusal) → fails l cpu slot step x ≡ o → HasGenerationsTo (n + 1) (put_back (names step) slot cpu s.contents (answered o).1)
+    back_answered : (o : Option Refusal)
+        → fails l cpu slot step x ≡ o
+        → HasGenerationsTo (n + 1) (put_back (names step) slot cpu s.contents (answered o).1)
     back_answered (Some why) e = back_same
     back_answered None e = back_made e
 
     abbrev told : Bool → Option Refusal → Reply × Used × UsedRooms
     told b o = if b then (Refused LogFull, x, r) else ((answered o).0, (answered o).1, stored r)
 
-    back_told : (b : Bool) → HasGenerationsTo (n + 1) (put_back (names step) slot cpu s.contents (told b (fails l cpu slot step x)).1)
+    back_told : (b : Bool)
+        → HasGenerationsTo (n + 1) (put_back (names step) slot cpu s.contents (told b (fails l cpu slot step x)).1)
     back_told true = back_same
     back_told false = back_answered (fails l cpu slot step x) refl
 
@@ -161,20 +198,38 @@ module _ (n : ℕ) (some : 1 ≤ n) where
     foretold_to = back_told (is_full (names step) slot r)
 
     pub stays_to : HasGenerationsTo (n + 1) s.contents
-    stays_to = record { slots = λ v. let k = low.slots v in omega (arith, k); tickets = λ c. more (s.contents.cpu c).ticket (low.tickets c) }
+    stays_to =
+        record {
+          slots = λ v. let k = low.slots v in
+              omega (arith, k);
+          tickets = λ c. more (s.contents.cpu c).ticket (low.tickets c);
+        }
 
 -- so is it along calls that are judged
-pub judged_to : (n : ℕ) (l : Layout) (g h : Reference) (cpu : ℕ) (step : Step) (said : Reply) (found : Option Disagreement) → 1 ≤ n → Judges l g cpu step said found h → HasGenerationsTo n g.contents → HasGenerationsTo (n + 1) h.contents
+pub judged_to : (n : ℕ) (l : Layout) (g h : Reference) (cpu : ℕ) (step : Step) (said : Reply)
+    (found : Option Disagreement)
+    → 1 ≤ n
+    → Judges l g cpu step said found h
+    → HasGenerationsTo n g.contents
+    → HasGenerationsTo (n + 1) h.contents
 judged_to n l g h cpu step said found some judges low = elim (want_cases said) [
-  | inl want ↦ subst (λ (s : Reference). HasGenerationsTo (n + 1) s.contents) (sym (judges.wants want).0) (stays_to n some l g cpu step low)
-  | inr other ↦ subst (λ (s : Reference). HasGenerationsTo (n + 1) s.contents) (sym (judges.other other).0) (foretold_to n some l g cpu step low)
+  | inl want ↦ subst (λ (s : Reference). HasGenerationsTo (n + 1) s.contents) (sym (judges.wants want).0)
+      (stays_to n some l g cpu step low)
+  | inr other ↦ subst (λ (s : Reference). HasGenerationsTo (n + 1) s.contents) (sym (judges.other other).0)
+      (foretold_to n some l g cpu step low)
 ]
 
-next_of : (n : ℕ) (o : Option Ticket) → n + 1 < 2 ^ 64 → IfSome o (λ t. t.vm.generation ≤ n) → IfSome o (λ t. t.vm.generation + 1 < 2 ^ 64)
+next_of : (n : ℕ) (o : Option Ticket)
+    → n + 1 < 2 ^ 64
+    → IfSome o (λ t. t.vm.generation ≤ n)
+    → IfSome o (λ t. t.vm.generation + 1 < 2 ^ 64)
 next_of n (Some t) few h = omega (arith, few, h)
 next_of n None few h = tt
 
-pub next_to : (n : ℕ) (s : Contents) (cpu : ℕ) (step : Step) → n + 1 < 2 ^ 64 → HasGenerationsTo n s → HasNextGeneration (s.cpu cpu).ticket step
+pub next_to : (n : ℕ) (s : Contents) (cpu : ℕ) (step : Step)
+    → n + 1 < 2 ^ 64
+    → HasGenerationsTo n s
+    → HasNextGeneration (s.cpu cpu).ticket step
 next_to n s cpu step few low e = next_of n (s.cpu cpu).ticket few (low.tickets cpu)
 
 -- at boot each generation is 1

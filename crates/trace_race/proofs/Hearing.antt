@@ -17,14 +17,24 @@ module _ (Heard : ℕ → Type 0) where
   hears_none v w same number above below = absurd (omega (arith, same, above, below))
 
   -- one call more
-  hears_one : (v w : Known) → length w.own.log.calls ≡ length v.own.log.calls + 1 → Heard (length v.own.log.calls + 1) → HearsEach Heard v w
-  hears_one v w more heard number above below = let is : length v.own.log.calls + 1 ≡ number = omega (arith, more, above, below) in subst Heard is heard
+  hears_one : (v w : Known)
+      → length w.own.log.calls ≡ length v.own.log.calls + 1
+      → Heard (length v.own.log.calls + 1)
+      → HearsEach Heard v w
+  hears_one v w more heard number above below = let is : length v.own.log.calls + 1 ≡ number =
+      omega (arith, more, above, below) in
+      subst Heard is heard
 
-  pub hears_call : (step : Step) (reply : Reply) (v w : Known) → Calls step reply v w → (IsStored reply → Heard (length v.own.log.calls + 1)) → HearsEach Heard v w
+  pub hears_call : (step : Step) (reply : Reply) (v w : Known)
+      → Calls step reply v w
+      → (IsStored reply → Heard (length v.own.log.calls + 1))
+      → HearsEach Heard v w
   hears_call step reply v w c heard = ⊎_elim
       (λ k.
       let s : StoresInTheEnd step reply v w = c.stored k.0 in
-      let calls : w.own.log.calls ≡ v.own.log.calls ++ s.stores.call ∷ [] = ap (λ g. g.calls) s.stores.added.own ∙ ap (λ (k : CpuState). k.log.calls ++ s.stores.call ∷ []) s.met.same.own in
+      let calls : w.own.log.calls ≡ v.own.log.calls ++ s.stores.call ∷ [] =
+      ap (λ g. g.calls) s.stores.added.own
+      ∙ ap (λ (k : CpuState). k.log.calls ++ s.stores.call ∷ []) s.met.same.own in
       hears_one v w (ap length calls ∙ length-append v.own.log.calls (s.stores.call ∷ [])) (heard k.0))
       (λ k.
       let f : FullInTheEnd step v w = c.full k.0 in

@@ -40,7 +40,8 @@ pub record HaveRoom (rooms more : Rooms) : Type 0 where
   pub guest : (v : ℕ) → rooms.guest v ≤ more.guest v
   pub cpu : (c : ℕ) → rooms.cpu c ≤ more.cpu c
 
--- the state has the contents of that after a history, and as much room in its logs: a call that wanted memory isn't stored in it
+-- the state has the contents of that after a history, and as much room in its logs: a call that wanted memory isn't
+-- stored in it
 pub record IsLikeAfter (s g : Reference) : Type 0 where
   pub contents : g.contents ≡ s.contents
   pub rooms : HaveRoom s.rooms g.rooms
@@ -48,13 +49,25 @@ pub record IsLikeAfter (s g : Reference) : Type 0 where
 -- at a stored call of a history no reply differs, and the state goes on to that after the call
 abbrev GoesWith : Layout → Reference → ℕ → Step → Reply → Option Disagreement → Reference → Type 0
 GoesWith l g cpu step reply found h =
-    (s t : Reference) (c : Call) → Steps l s c t → IsStored c.reply → c.cpu ≡ cpu → c.step ≡ step → c.reply ≡ reply → IsLikeAfter s g → (found ≡ None) × IsLikeAfter t h
+    (s t : Reference) (c : Call)
+    → Steps l s c t
+    → IsStored c.reply
+    → c.cpu ≡ cpu
+    → c.step ≡ step
+    → c.reply ≡ reply
+    → IsLikeAfter s g
+    → (found ≡ None) × IsLikeAfter t h
 
 -- a stored call found room in all its logs
-not_full : (l : Layout) (s t : Reference) (c : Call) → Steps l s c t → IsStored c.reply → (is_full (names c.step) c.slot (rooms_by c s) ≡ false) × (t.rooms ≡ put_rooms (names c.step) c.slot c.cpu s.rooms (stored (rooms_by c s)))
+not_full : (l : Layout) (s t : Reference) (c : Call)
+    → Steps l s c t
+    → IsStored c.reply
+    → (is_full (names c.step) c.slot (rooms_by c s) ≡ false)
+    × (t.rooms ≡ put_rooms (names c.step) c.slot c.cpu s.rooms (stored (rooms_by c s)))
 not_full l s t c h kept = elim h.on.answers [
   | inl p ↦ absurd (let bad : ⊥ = subst IsStored p.reply kept in bad)
-  | inr p ↦ (p.room, ap (λ (u : Reference). u.rooms) h.next ∙ ap (put_rooms (names c.step) c.slot c.cpu s.rooms) p.rooms)
+  | inr p ↦
+      (p.room, ap (λ (u : Reference). u.rooms) h.next ∙ ap (put_rooms (names c.step) c.slot c.cpu s.rooms) p.rooms)
 ]
 
 -- a number that isn't 0 where a smaller one isn't
@@ -66,11 +79,17 @@ both_false false false h = (refl, refl)
 both_false true b h = absurd (let no = h in cc)
 both_false false true h = absurd (let no = h in cc)
 
-where_used : (b : Bool) (m n : ℕ) → m ≤ n → (b && (if b then m else 0) == 0) ≡ false → (b && (if b then n else 0) == 0) ≡ false
+where_used : (b : Bool) (m n : ℕ)
+    → m ≤ n
+    → (b && (if b then m else 0) == 0) ≡ false
+    → (b && (if b then n else 0) == 0) ≡ false
 where_used true m n less h = bigger m n less h
 where_used false m n less h = refl
 
-of_slot : (slot : Option ℕ) (r q : ℕ → ℕ) → ((v : ℕ) → r v ≤ q v) → (is_some slot && room_at r slot == 0) ≡ false → (is_some slot && room_at q slot == 0) ≡ false
+of_slot : (slot : Option ℕ) (r q : ℕ → ℕ)
+    → ((v : ℕ) → r v ≤ q v)
+    → (is_some slot && room_at r slot == 0) ≡ false
+    → (is_some slot && room_at q slot == 0) ≡ false
 of_slot None r q less h = refl
 of_slot (Some v) r q less h = bigger (r v) (q v) (less v) h
 
@@ -78,7 +97,10 @@ all_false : (a b c d : Bool) → a ≡ false → b ≡ false → c ≡ false →
 all_false a b c d ha hb hc hd = rw (ha, hb, hc, hd) refl
 
 -- more room is no less
-still_room : (n : Names) (slot : Option ℕ) (cpu : ℕ) (r q : Rooms) → HaveRoom r q → is_full n slot (rooms_of n slot cpu r) ≡ false → is_full n slot (rooms_of n slot cpu q) ≡ false
+still_room : (n : Names) (slot : Option ℕ) (cpu : ℕ) (r q : Rooms)
+    → HaveRoom r q
+    → is_full n slot (rooms_of n slot cpu r) ≡ false
+    → is_full n slot (rooms_of n slot cpu q) ≡ false
 unfolding is_full rooms_of
 still_room n slot cpu r q more h =
     let vm = uses_vms n && (if uses_vms n then r.vms else 0) == 0 in
@@ -87,10 +109,15 @@ still_room n slot cpu r q more h =
     let a = both_false (r.cpu cpu == 0 || vm || sh) gu h in
     let b = both_false (r.cpu cpu == 0 || vm) sh a.0 in
     let d = both_false (r.cpu cpu == 0) vm b.0 in
-    all_false _ _ _ _ (bigger (r.cpu cpu) (q.cpu cpu) (more.cpu cpu) d.0) (where_used (uses_vms n) r.vms q.vms more.vms d.1) (where_used (uses_shared n slot) r.shared q.shared more.shared b.1) (of_slot slot r.guest q.guest more.guest a.1)
+    all_false _ _ _ _ (bigger (r.cpu cpu) (q.cpu cpu) (more.cpu cpu) d.0)
+    (where_used (uses_vms n) r.vms q.vms more.vms d.1)
+    (where_used (uses_shared n slot) r.shared q.shared more.shared b.1)
+    (of_slot slot r.guest q.guest more.guest a.1)
 
 -- and both are one less once a call is stored
-less_where : (b : Bool) (m n : ℕ) → m ≤ n → (if b then (if b then m else 0) - 1 else m) ≤ (if b then (if b then n else 0) - 1 else n)
+less_where : (b : Bool) (m n : ℕ)
+    → m ≤ n
+    → (if b then (if b then m else 0) - 1 else m) ≤ (if b then (if b then n else 0) - 1 else n)
 less_where true m n less = omega (arith, less)
 less_where false m n less = less
 
@@ -101,11 +128,16 @@ less_at r q at v m n less here = by_place (v == at)
     by_place true = here
     by_place false = less v
 
-less_in_slot : (slot : Option ℕ) (r q : ℕ → ℕ) (v : ℕ) → ((v : ℕ) → r v ≤ q v) → put_room r slot (room_at r slot - 1) v ≤ put_room q slot (room_at q slot - 1) v
+less_in_slot : (slot : Option ℕ) (r q : ℕ → ℕ) (v : ℕ)
+    → ((v : ℕ) → r v ≤ q v)
+    → put_room r slot (room_at r slot - 1) v ≤ put_room q slot (room_at q slot - 1) v
 less_in_slot None r q v less = less v
 less_in_slot (Some u) r q v less = less_at r q u v (r u - 1) (q u - 1) less (omega (arith, less u))
 
-stored_room : (n : Names) (slot : Option ℕ) (cpu : ℕ) (r q : Rooms) → HaveRoom r q → HaveRoom (put_rooms n slot cpu r (stored (rooms_of n slot cpu r))) (put_rooms n slot cpu q (stored (rooms_of n slot cpu q)))
+stored_room : (n : Names) (slot : Option ℕ) (cpu : ℕ) (r q : Rooms)
+    → HaveRoom r q
+    → HaveRoom (put_rooms n slot cpu r (stored (rooms_of n slot cpu r)))
+    (put_rooms n slot cpu q (stored (rooms_of n slot cpu q)))
 unfolding stored rooms_of put_rooms
 stored_room n slot cpu r q more = record {
   vms = less_where (uses_vms n) r.vms q.vms more.vms;
@@ -119,18 +151,26 @@ kept_where : (b : Bool) (m n : ℕ) → m ≤ n → (if b then (if b then m else
 kept_where true m n less = omega (arith, less)
 kept_where false m n less = less
 
-kept_at : (r q : ℕ → ℕ) (at v m : ℕ) → ((v : ℕ) → r v ≤ q v) → m ≤ q at → (v == at ≡ true → v ≡ at) → put_at r at m v ≤ q v
+kept_at : (r q : ℕ → ℕ) (at v m : ℕ)
+    → ((v : ℕ) → r v ≤ q v)
+    → m ≤ q at
+    → (v == at ≡ true → v ≡ at)
+    → put_at r at m v ≤ q v
 kept_at r q at v m less here same = by_place (v == at) refl
   where
     by_place : (b : Bool) → (v == at) ≡ b → (if b then m else r v) ≤ q v
     by_place true e = subst (λ (u : ℕ). m ≤ q u) (sym (same e)) here
     by_place false e = less v
 
-less_slot : (slot : Option ℕ) (r q : ℕ → ℕ) (v : ℕ) → ((v : ℕ) → r v ≤ q v) → put_room r slot (room_at r slot - 1) v ≤ q v
+less_slot : (slot : Option ℕ) (r q : ℕ → ℕ) (v : ℕ)
+    → ((v : ℕ) → r v ≤ q v)
+    → put_room r slot (room_at r slot - 1) v ≤ q v
 less_slot None r q v less = less v
 less_slot (Some u) r q v less = kept_at r q u v (r u - 1) less (omega (arith, less u)) (eq-same v u)
 
-kept_room : (n : Names) (slot : Option ℕ) (cpu : ℕ) (r q : Rooms) → HaveRoom r q → HaveRoom (put_rooms n slot cpu r (stored (rooms_of n slot cpu r))) q
+kept_room : (n : Names) (slot : Option ℕ) (cpu : ℕ) (r q : Rooms)
+    → HaveRoom r q
+    → HaveRoom (put_rooms n slot cpu r (stored (rooms_of n slot cpu r))) q
 unfolding stored rooms_of put_rooms
 kept_room n slot cpu r q more = record {
   vms = kept_where (uses_vms n) r.vms q.vms more.vms;
@@ -150,10 +190,19 @@ abbrev contents_after : Layout → ℕ → Step → Contents → Contents
 contents_after l cpu step x = put_back (names step) (slot_in cpu step x) cpu x (answered l cpu step x).1
 
 abbrev rooms_after : ℕ → Step → Reference → Rooms
-rooms_after cpu step s = put_rooms (names step) (slot_in cpu step s.contents) cpu s.rooms (stored (rooms_of (names step) (slot_in cpu step s.contents) cpu s.rooms))
+rooms_after cpu step s =
+    put_rooms (names step) (slot_in cpu step s.contents) cpu s.rooms
+    (stored (rooms_of (names step) (slot_in cpu step s.contents) cpu s.rooms))
 
-foretold : (l : Layout) (s : Reference) (cpu : ℕ) (step : Step) → is_full (names step) (slot_in cpu step s.contents) (rooms_of (names step) (slot_in cpu step s.contents) cpu s.rooms) ≡ false
-    → foretell l s cpu step ≡ ((answered l cpu step s.contents).0, record { contents = contents_after l cpu step s.contents; rooms = rooms_after cpu step s })
+foretold : (l : Layout) (s : Reference) (cpu : ℕ) (step : Step)
+    → is_full (names step) (slot_in cpu step s.contents)
+    (rooms_of (names step) (slot_in cpu step s.contents) cpu s.rooms)
+    ≡ false
+    → foretell l s cpu step
+    ≡ (
+      (answered l cpu step s.contents).0,
+      record { contents = contents_after l cpu step s.contents; rooms = rooms_after cpu step s },
+    )
 unfolding predict foretell
 foretold l s cpu step h = rw h refl
 
@@ -168,24 +217,37 @@ record Like (l : Layout) (s t g : Reference) (c : Call) : Type 0 where
   stored_rooms : HaveRoom t.rooms (foretell l g c.cpu c.step).1.rooms
   kept_rooms : HaveRoom t.rooms g.rooms
 
-all_like : (l : Layout) (s t g : Reference) (c : Call) → Steps l s c t → IsStored c.reply → IsLikeAfter s g → Like l s t g c
+all_like : (l : Layout) (s t g : Reference) (c : Call)
+    → Steps l s c t
+    → IsStored c.reply
+    → IsLikeAfter s g
+    → Like l s t g c
 all_like l s t g c h kept same =
     let n = names c.step in
     let here = not_full l s t c h kept in
     let slot = own_cpu l s t c h in
-    let also : slot_in c.cpu c.step g.contents ≡ slot_in c.cpu c.step s.contents = ap (slot_in c.cpu c.step) same.contents in
-    let room_s : is_full n (slot_in c.cpu c.step s.contents) (rooms_of n (slot_in c.cpu c.step s.contents) c.cpu s.rooms) ≡ false = subst (λ o. is_full n o (rooms_of n o c.cpu s.rooms) ≡ false) slot here.0 in
+    let also : slot_in c.cpu c.step g.contents ≡ slot_in c.cpu c.step s.contents =
+    ap (slot_in c.cpu c.step) same.contents in
+    let room_s : is_full n (slot_in c.cpu c.step s.contents) (rooms_of n (slot_in c.cpu c.step s.contents) c.cpu s.rooms) ≡ false =
+    subst (λ o. is_full n o (rooms_of n o c.cpu s.rooms) ≡ false) slot here.0 in
     let room_g : is_full n (slot_in c.cpu c.step g.contents) (rooms_of n (slot_in c.cpu c.step g.contents) c.cpu g.rooms) ≡ false =
-    subst (λ o. is_full n o (rooms_of n o c.cpu g.rooms) ≡ false) (sym also) (still_room n (slot_in c.cpu c.step s.contents) c.cpu s.rooms g.rooms same.rooms room_s) in
+    subst (λ o. is_full n o (rooms_of n o c.cpu g.rooms) ≡ false) (sym also)
+    (still_room n (slot_in c.cpu c.step s.contents) c.cpu s.rooms g.rooms same.rooms room_s) in
     let at_s = foretold l s c.cpu c.step room_s in
     let at_g = foretold l g c.cpu c.step room_g in
     record {
-      reply_is = ap (λ r. r.0) at_g ∙ (ap (λ x. (answered l c.cpu c.step x).0) same.contents ∙ sym (ap (λ r. r.0) at_s));
-      contents_are = ap (λ r. r.1.contents) at_g ∙ (ap (contents_after l c.cpu c.step) same.contents ∙ sym (ap (λ r. r.1.contents) at_s));
+      reply_is =
+          ap (λ r. r.0) at_g ∙ (ap (λ x. (answered l c.cpu c.step x).0) same.contents ∙ sym (ap (λ r. r.0) at_s));
+      contents_are =
+          ap (λ r. r.1.contents) at_g
+          ∙ (ap (contents_after l c.cpu c.step) same.contents ∙ sym (ap (λ r. r.1.contents) at_s));
       stored_rooms =
           subst (λ q. HaveRoom t.rooms q) (sym (ap (λ r. r.1.rooms) at_g))
           (subst (λ r. HaveRoom r (rooms_after c.cpu c.step g)) (sym here.1)
-          (subst (λ o. HaveRoom (put_rooms n c.slot c.cpu s.rooms (stored (rooms_by c s))) (put_rooms n o c.cpu g.rooms (stored (rooms_of n o c.cpu g.rooms)))) (slot ∙ sym also)
+          (subst
+          (λ o. HaveRoom (put_rooms n c.slot c.cpu s.rooms (stored (rooms_by c s)))
+          (put_rooms n o c.cpu g.rooms (stored (rooms_of n o c.cpu g.rooms))))
+          (slot ∙ sym also)
           (stored_room n c.slot c.cpu s.rooms g.rooms same.rooms)));
       kept_rooms = subst (λ r. HaveRoom r g.rooms) (sym here.1) (kept_room n c.slot c.cpu s.rooms g.rooms same.rooms);
     }
@@ -203,19 +265,26 @@ want_cases (Refused refusals.LogFull) = inr (λ e. cc)
 want_cases (Refused refusals.Contended) = inr (λ e. cc)
 
 -- a stored call of a history is judged well
-goes_with : (l : Layout) (g h : Reference) (cpu : ℕ) (step : Step) (said : Reply) (found : Option Disagreement) → Judges l g cpu step said found h → GoesWith l g cpu step said found h
+goes_with : (l : Layout) (g h : Reference) (cpu : ℕ) (step : Step) (said : Reply) (found : Option Disagreement)
+    → Judges l g cpu step said found h
+    → GoesWith l g cpu step said found h
 goes_with l g h cpu step said found judges s t c goes kept cpu_is step_is reply_is same =
     elim (want_cases said) [
       | inl want ↦
           let wants = judges.wants want in
-          let unchanged : t.contents ≡ s.contents = refusal_keeps l s t c NoMemory goes (reply_is ∙ want) in
-          (wants.1.none.1 (agrees want unchanged (step_agrees l s t c goes)), subst (IsLikeAfter t) (sym wants.0) (record { contents = same.contents ∙ sym unchanged; rooms = like.kept_rooms }))
+          let unchanged : t.contents ≡ s.contents = refusal_keeps l s t c NoMemory goes (reply_is ∙ want) in (
+            wants.1.none.1 (agrees want unchanged (step_agrees l s t c goes)),
+            subst (IsLikeAfter t) (sym wants.0)
+                (record { contents = same.contents ∙ sym unchanged; rooms = like.kept_rooms }),
+          )
       | inr other ↦
           let others = judges.other other in
           elim (step_agrees l s t c goes) [
             | inl p ↦ (
               others.1.same (sym reply_is ∙ (p.reply_is ∙ (sym like.reply_is ∙ ap (λ r. r.0) told))),
-              subst (IsLikeAfter t) (sym others.0) (subst (λ (r : Reply × Reference). IsLikeAfter t r.1) told (record { contents = like.contents_are ∙ sym p.contents_are; rooms = like.stored_rooms })),
+              subst (IsLikeAfter t) (sym others.0)
+                  (subst (λ (r : Reply × Reference). IsLikeAfter t r.1) told
+                  (record { contents = like.contents_are ∙ sym p.contents_are; rooms = like.stored_rooms })),
             )
             | inr p ↦ absurd (other (sym reply_is ∙ p.wants.reply_is))
           ]
@@ -227,10 +296,14 @@ goes_with l g h cpu step said found judges s t c goes kept cpu_is step_is reply_
     told : foretell l g c.cpu c.step ≡ foretell l g cpu step
     told = ap (λ k. foretell l g k c.step) cpu_is ∙ ap (foretell l g cpu) step_is
 
-    agrees : said ≡ Refused NoMemory → t.contents ≡ s.contents → JudgeAgrees s.contents c.step c.reply t.contents (foretell l s c.cpu c.step) → JudgeAgrees g.contents step said g.contents (foretell l g cpu step)
+    agrees : said ≡ Refused NoMemory
+        → t.contents ≡ s.contents
+        → JudgeAgrees s.contents c.step c.reply t.contents (foretell l s c.cpu c.step)
+        → JudgeAgrees g.contents step said g.contents (foretell l g cpu step)
     agrees want unchanged (inl p) = inl record {
       reply_is = sym reply_is ∙ (p.reply_is ∙ (sym like.reply_is ∙ ap (λ r. r.0) told));
-      contents_are = same.contents ∙ (sym unchanged ∙ (p.contents_are ∙ (sym like.contents_are ∙ ap (λ r. r.1.contents) told)));
+      contents_are =
+          same.contents ∙ (sym unchanged ∙ (p.contents_are ∙ (sym like.contents_are ∙ ap (λ r. r.1.contents) told)));
     }
     agrees want unchanged (inr p) = inr record {
       wants = record {
@@ -256,12 +329,19 @@ same_rooms : (r : Rooms) → HaveRoom r r
 same_rooms r = record { vms = omega arith; shared = omega arith; guest = λ v. omega arith; cpu = λ c. omega arith }
 
 -- at the start
-pub goes_first : (l : Layout) (g : Reference) (told : List (ℕ × Step × Reply)) → g ≡ boot l → IsToldOf l told → GoesOn l g told
+pub goes_first : (l : Layout) (g : Reference) (told : List (ℕ × Step × Reply))
+    → g ≡ boot l
+    → IsToldOf l told
+    → GoesOn l g told
 goes_first l g told is of = record {
   before = boot l;
   end = of.end;
   log = of.log;
-  like = record { contents = ap (λ (s : Reference). s.contents) is; rooms = subst (λ (s : Reference). HaveRoom s.rooms g.rooms) is (same_rooms g.rooms) };
+  like =
+      record {
+        contents = ap (λ (s : Reference). s.contents) is;
+        rooms = subst (λ (s : Reference). HaveRoom s.rooms g.rooms) is (same_rooms g.rooms);
+      };
   leads = of.run.leads;
   stored = of.stored;
   told_is = of.told_is;
@@ -274,37 +354,77 @@ cons-tail : {X : Type 0} {x y : X} {xs ys : List X} → x ∷ xs ≡ y ∷ ys �
 cons-tail e = let same = e in cc
 
 -- so nothing is found
-pub none_found : (l : Layout) (g : Reference) (told : List (ℕ × Step × Reply)) (found : List Disagreement) → JudgesAll l g told found → GoesOn l g told → found ≡ []
+pub none_found : (l : Layout) (g : Reference) (told : List (ℕ × Step × Reply)) (found : List Disagreement)
+    → JudgesAll l g told found
+    → GoesOn l g told
+    → found ≡ []
 none_found l g [] found judged on = judged
-none_found l g (call ∷ more) found judged on = by_log (none_found l judged.1 more judged.2 judged.4) on.log on.leads on.stored on.told_is
+none_found l g (call ∷ more) found judged on =
+    by_log (none_found l judged.1 more judged.2 judged.4) on.log on.leads on.stored on.told_is
   where
-    by_log : (GoesOn l judged.1 more → judged.2 ≡ []) → (log : List Call) → Runs (Steps l) on.before log on.end → All (λ c. IsStored c.reply) log → told_of log ≡ call ∷ more → found ≡ []
+    by_log : (GoesOn l judged.1 more → judged.2 ≡ [])
+        → (log : List Call)
+        → Runs (Steps l) on.before log on.end
+        → All (λ c. IsStored c.reply) log
+        → told_of log ≡ call ∷ more
+        → found ≡ []
     by_log onward [] leads kept told = absurd (let no = told in cc)
     by_log onward (c ∷ log) leads kept told =
         let first : ◌≡◌ {A = ℕ × Step × Reply} (c.cpu, c.step, c.reply) call = cons-head told in
         let rest : told_of log ≡ more = cons-tail told in
-        let next = goes_with l g judged.1 call.0 call.1 call.2 judged.0 judged.3 on.before leads.0 c leads.1 (All-head (λ (c : Call). IsStored c.reply) c log kept) (ap (λ (x : ℕ × Step × Reply). x.0) first) (ap (λ (x : ℕ × Step × Reply). x.1) first) (ap (λ (x : ℕ × Step × Reply). x.2) first) on.like in
-        let more_none = onward record { before = leads.0; end = on.end; log = log; like = next.1; leads = leads.2; stored = All-tail (λ (c : Call). IsStored c.reply) c log kept; told_is = rest } in
+        let next =
+        goes_with l g judged.1 call.0 call.1 call.2 judged.0 judged.3 on.before leads.0 c leads.1
+        (All-head (λ (c : Call). IsStored c.reply) c log kept) (ap (λ (x : ℕ × Step × Reply). x.0) first)
+        (ap (λ (x : ℕ × Step × Reply). x.1) first) (ap (λ (x : ℕ × Step × Reply). x.2) first) on.like in
+        let more_none =
+        onward
+        record {
+          before = leads.0;
+          end = on.end;
+          log = log;
+          like = next.1;
+          leads = leads.2;
+          stored = All-tail (λ (c : Call). IsStored c.reply) c log kept;
+          told_is = rest;
+        } in
         judged.5 ∙ (ap (λ o. with_found o judged.2) next.0 ∙ more_none)
 
 -- ---- one call after another
 
 -- whatever is found at the calls that are left, it is found after what was found
-abbrev pub LeadsOn : Layout → Reference → List (ℕ × Step × Reply) → List Disagreement → Reference → List (ℕ × Step × Reply) → Type 0
-LeadsOn l g calls found h left = (rest : List Disagreement) → JudgesAll l h left rest → JudgesAll l g calls (found ++ rest)
+abbrev pub LeadsOn : Layout → Reference → List (ℕ × Step × Reply) → List Disagreement → Reference
+    → List (ℕ × Step × Reply) → Type 0
+LeadsOn l g calls found h left =
+    (rest : List Disagreement) → JudgesAll l h left rest → JudgesAll l g calls (found ++ rest)
 
-pub leads_on : (k l : Layout) (g h n : Reference) (calls : List (ℕ × Step × Reply)) (found next : List Disagreement) (i : ℕ) (d : ℕ × Step × Reply) (one : Option Disagreement) → k ≡ l → i < length calls → next ≡ found ++ with_found one []
-    → Judges k h (get_or calls i d).0 (get_or calls i d).1 (get_or calls i d).2 one n → LeadsOn l g calls found h (drop i calls) → LeadsOn l g calls next n (drop (i + 1) calls)
+pub leads_on : (k l : Layout) (g h n : Reference) (calls : List (ℕ × Step × Reply)) (found next : List Disagreement)
+    (i : ℕ) (d : ℕ × Step × Reply) (one : Option Disagreement)
+    → k ≡ l
+    → i < length calls
+    → next ≡ found ++ with_found one []
+    → Judges k h (get_or calls i d).0 (get_or calls i d).1 (get_or calls i d).2 one n
+    → LeadsOn l g calls found h (drop i calls)
+    → LeadsOn l g calls next n (drop (i + 1) calls)
 leads_on k l g h n calls found next i d one same less is judges leads rest judged =
-    let here : Judges l h (get_or calls i d).0 (get_or calls i d).1 (get_or calls i d).2 one n = subst (λ (x : Layout). Judges x h (get_or calls i d).0 (get_or calls i d).1 (get_or calls i d).2 one n) same judges in
-    let all = leads (with_found one rest) (subst (λ cs. JudgesAll l h cs (with_found one rest)) (sym (drop_more calls i d less)) (one, n, rest, here, judged, refl)) in
-    subst (JudgesAll l g calls) (sym (ap (λ ds. ds ++ rest) is ∙ ((rw append_assoc refl) ∙ ap (λ ds. found ++ ds) (joined one)))) all
+    let here : Judges l h (get_or calls i d).0 (get_or calls i d).1 (get_or calls i d).2 one n =
+    subst
+    (λ (x : Layout). Judges x h (get_or calls i d).0 (get_or calls i d).1 (get_or calls i d).2 one n) same
+    judges in
+    let all =
+    leads (with_found one rest)
+    (subst (λ cs. JudgesAll l h cs (with_found one rest)) (sym (drop_more calls i d less))
+    (one, n, rest, here, judged, refl)) in
+    subst (JudgesAll l g calls)
+    (sym (ap (λ ds. ds ++ rest) is ∙ ((rw append_assoc refl) ∙ ap (λ ds. found ++ ds) (joined one)))) all
   where
     joined : (one : Option Disagreement) → with_found one [] ++ rest ≡ with_found one rest
     joined None = refl
     joined (Some d) = refl
 
-pub leads_last : (l : Layout) (g h : Reference) (calls : List (ℕ × Step × Reply)) (found : List Disagreement) (i : ℕ) → length calls ≤ i → LeadsOn l g calls found h (drop i calls) → JudgesAll l g calls found
+pub leads_last : (l : Layout) (g h : Reference) (calls : List (ℕ × Step × Reply)) (found : List Disagreement) (i : ℕ)
+    → length calls ≤ i
+    → LeadsOn l g calls found h (drop i calls)
+    → JudgesAll l g calls found
 leads_last l g h calls found i past leads =
     let all = leads [] (subst (λ cs. JudgesAll l h cs []) (sym (drop_all i calls past)) refl) in
     subst (JudgesAll l g calls) (append-nil found) all
@@ -312,14 +432,23 @@ leads_last l g h calls found i past leads =
 -- ---- the logs of a world
 
 -- no call is picked where none is left
-picked_first : (f : Call → Bool) (c : Call) (calls : List Call) (b : Bool) → f c ≡ b → filter f (c ∷ calls) ≡ [] → (f c ≡ false) × (filter f calls ≡ [])
-picked_first f c calls true e none = absurd (let first : filter f (c ∷ calls) ≡ c ∷ filter f calls = rw e refl in let no = sym first ∙ none in cc)
-picked_first f c calls false e none = let rest : filter f (c ∷ calls) ≡ filter f calls = rw e refl in (e, sym rest ∙ none)
+picked_first : (f : Call → Bool) (c : Call) (calls : List Call) (b : Bool)
+    → f c ≡ b
+    → filter f (c ∷ calls) ≡ []
+    → (f c ≡ false) × (filter f calls ≡ [])
+picked_first f c calls true e none =
+    absurd (let first : filter f (c ∷ calls) ≡ c ∷ filter f calls = rw e refl in let no = sym first ∙ none in cc)
+picked_first f c calls false e none = let rest : filter f (c ∷ calls) ≡ filter f calls = rw e refl in
+    (e, sym rest ∙ none)
 
-none_picked : (f : Call → Bool) (calls : List Call) (k : ℕ) (d : Call) → filter f calls ≡ [] → k < length calls → f (get_or calls k d) ≡ false
+none_picked : (f : Call → Bool) (calls : List Call) (k : ℕ) (d : Call)
+    → filter f calls ≡ []
+    → k < length calls
+    → f (get_or calls k d) ≡ false
 none_picked f [] k d none less = absurd (omega (arith, less))
 none_picked f (c ∷ calls) zero d none less = (picked_first f c calls (f c) refl none).0
-none_picked f (c ∷ calls) (suc k) d none less = none_picked f calls k d (picked_first f c calls (f c) refl none).1 (omega (arith, less))
+none_picked f (c ∷ calls) (suc k) d none less =
+    none_picked f calls k d (picked_first f c calls (f c) refl none).1 (omega (arith, less))
 
 same_number : (n : ℕ) → (n == n) ≡ true
 same_number n = grind (arith)
@@ -333,13 +462,19 @@ told_count : (calls : List Call) → length (told_of calls) ≡ length calls
 told_count [] = refl
 told_count (c ∷ calls) = ap suc (told_count calls)
 
-told_at : (calls : List Call) (k : ℕ) (d : ℕ × Step × Reply) (e : Call) → k < length calls → get_or (told_of calls) k d ≡ ((get_or calls k e).cpu, (get_or calls k e).step, (get_or calls k e).reply)
+told_at : (calls : List Call) (k : ℕ) (d : ℕ × Step × Reply) (e : Call)
+    → k < length calls
+    → get_or (told_of calls) k d ≡ ((get_or calls k e).cpu, (get_or calls k e).step, (get_or calls k e).reply)
 told_at [] k d e less = absurd (omega (arith, less))
 told_at (c ∷ calls) zero d e less = refl
 told_at (c ∷ calls) (suc k) d e less = told_at calls k d e (omega (arith, less))
 
 -- a merged list has calls of CPUs with a list alone
-below_at : (logs : Histories) (n : ℕ) (all : List Call) (k : ℕ) (d : Call) → length logs.cpus.items ≤ n → IsMerged logs all → k < length all → (get_or all k d).cpu < n
+below_at : (logs : Histories) (n : ℕ) (all : List Call) (k : ℕ) (d : Call)
+    → length logs.cpus.items ≤ n
+    → IsMerged logs all
+    → k < length all
+    → (get_or all k d).cpu < n
 below_at logs n all k d few merged less = elim (cases_lt (get_or all k d).cpu (length logs.cpus.items)) [
   | inl inside ↦ omega (arith, inside, few)
   | inr past ↦
@@ -348,7 +483,10 @@ below_at logs n all k d few merged less = elim (cases_lt (get_or all k d).cpu (l
       absurd (let both = sym (same_number (get_or all k d).cpu) ∙ no in cc)
 ]
 
-pub told_below : (logs : Histories) (n : ℕ) (told : List (ℕ × Step × Reply)) → length logs.cpus.items ≤ n → TellsMerged logs told → All (λ c. c.0 < n) told
+pub told_below : (logs : Histories) (n : ℕ) (told : List (ℕ × Step × Reply))
+    → length logs.cpus.items ≤ n
+    → TellsMerged logs told
+    → All (λ c. c.0 < n) told
 told_below logs n told few t = subst (All (λ (c : ℕ × Step × Reply). c.0 < n)) t.tells each
   where
     blank : ℕ × Step × Reply → Call
@@ -357,17 +495,46 @@ told_below logs n told few t = subst (All (λ (c : ℕ × Step × Reply). c.0 < 
     each : All (λ (c : ℕ × Step × Reply). c.0 < n) (told_of t.all)
     each k d less =
         let inside : k < length t.all = let long = told_count t.all in omega (arith, less, long) in
-        subst (λ (c : ℕ × Step × Reply). c.0 < n) (sym (told_at t.all k d (blank d) inside)) (below_at logs n t.all k (blank d) few t.merged inside)
+        subst (λ (c : ℕ × Step × Reply). c.0 < n) (sym (told_at t.all k d (blank d) inside))
+        (below_at logs n t.all k (blank d) few t.merged inside)
 
 -- along the logs of a legal history nothing is found
-none_in_history : {A : Type 0} (p : Parts A) (logs : Histories) (g : Reference) (found : List Disagreement) → HasHistory p → AreLogsOf logs (parts_layout p) (kept_of p) → g ≡ boot (parts_layout p) → ComparesAll (parts_layout p) g logs found → found ≡ []
+none_in_history : {A : Type 0} (p : Parts A) (logs : Histories) (g : Reference) (found : List Disagreement)
+    → HasHistory p
+    → AreLogsOf logs (parts_layout p) (kept_of p)
+    → g ≡ boot (parts_layout p)
+    → ComparesAll (parts_layout p) g logs found
+    → found ≡ []
 none_in_history p logs g found has are is compares =
-    let of : IsOfHistory logs = record { layout = parts_layout p; ready = has.ready; kept = kept_of p; log = has.log; history = has.history; logs = are } in
+    let of : IsOfHistory logs =
+    record {
+      layout = parts_layout p;
+      ready = has.ready;
+      kept = kept_of p;
+      log = has.log;
+      history = has.history;
+      logs = are;
+    } in
     let all = merged_history logs of compares.1.all compares.1.merged in
-    none_found (parts_layout p) g compares.0 found compares.2 (goes_first (parts_layout p) g compares.0 is record { log = compares.1.all; end = all.end; run = all.run; stored = all.stored; told_is = compares.1.tells })
+    none_found (parts_layout p) g compares.0 found compares.2
+    (goes_first
+    (parts_layout p) g compares.0 is
+    record {
+      log = compares.1.all;
+      end = all.end;
+      run = all.run;
+      stored = all.stored;
+      told_is = compares.1.tells;
+    })
 
 found_prop : (a b : List Disagreement) → IsProp (a ≡ b)
 found_prop a b = hlevel props
 
-pub none_after : {A : Type 0} (p : Parts A) (logs : Histories) (g : Reference) (found : List Disagreement) → ∥ HasHistory p ∥₁ → AreLogsOf logs (parts_layout p) (kept_of p) → g ≡ boot (parts_layout p) → ComparesAll (parts_layout p) g logs found → found ≡ []
-none_after p logs g found past are is compares = ∥∥₁_elim past (found_prop _ _) (λ has. none_in_history p logs g found has are is compares)
+pub none_after : {A : Type 0} (p : Parts A) (logs : Histories) (g : Reference) (found : List Disagreement)
+    → ∥ HasHistory p ∥₁
+    → AreLogsOf logs (parts_layout p) (kept_of p)
+    → g ≡ boot (parts_layout p)
+    → ComparesAll (parts_layout p) g logs found
+    → found ≡ []
+none_after p logs g found past are is compares =
+    ∥∥₁_elim past (found_prop _ _) (λ has. none_in_history p logs g found has are is compares)

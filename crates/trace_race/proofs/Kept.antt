@@ -7,7 +7,9 @@ use Rattle.reference_model.specs.model.History.{IsStored}
 use Rattle.trace_race.specs.Made.{is_stored}
 
 -- a reply is stored, or a log was full
-pub kept_cases : (reply : Reply) → reply ≢ Refused refusals.Contended → (IsStored reply × (is_stored reply ≡ true)) ⊎ ((reply ≡ Refused refusals.LogFull) × (is_stored reply ≡ false))
+pub kept_cases : (reply : Reply)
+    → reply ≢ Refused refusals.Contended
+    → (IsStored reply × (is_stored reply ≡ true)) ⊎ ((reply ≡ Refused refusals.LogFull) × (is_stored reply ≡ false))
 kept_cases (Done value) other = inl (tt, refl)
 kept_cases (Refused refusals.Perm) other = inl (tt, refl)
 kept_cases (Refused refusals.NoVm) other = inl (tt, refl)

@@ -53,7 +53,10 @@ no_told [] e = refl
 no_told (c ∷ cs) e = absurd (let no = e in cc)
 
 -- so there is no call at all
-pub no_log : (n : ℕ) (log : List Call) → All (λ d. d.cpu < n) log → ((cpu : ℕ) → cpu < n → calls_by cpu log ≡ []) → log ≡ []
+pub no_log : (n : ℕ) (log : List Call)
+    → All (λ d. d.cpu < n) log
+    → ((cpu : ℕ) → cpu < n → calls_by cpu log ≡ [])
+    → log ≡ []
 no_log n [] all none = refl
 no_log n (c ∷ cs) all none = absurd (never (none c.cpu (All-head (λ (d : Call). d.cpu < n) c cs all)))
   where
@@ -69,51 +72,87 @@ and_false true = refl
 and_false false = refl
 
 room_left : (n : ℕ) → n ≢ 0 → (n == 0) ≡ false
-room_left n some = ⊎_elim (λ (e : (n == 0) ≡ true). absurd (some (eq-same n 0 e))) (λ (e : (n == 0) ≡ false). e) (cases (n == 0))
+room_left n some =
+    ⊎_elim (λ (e : (n == 0) ≡ true). absurd (some (eq-same n 0 e))) (λ (e : (n == 0) ≡ false). e) (cases (n == 0))
 
 slot_left : (slot : Option ℕ) (n : ℕ) → (n == 0) ≡ false → (is_some slot && room_at (λ v. n) slot == 0) ≡ false
 slot_left None n left = refl
 slot_left (Some v) n left = left
 
-none_full : (n : Names) (slot : Option ℕ) (cpu log : ℕ) → log ≢ 0 → is_full n slot (rooms_of n slot cpu (all_rooms log)) ≡ false
+none_full : (n : Names) (slot : Option ℕ) (cpu log : ℕ)
+    → log ≢ 0
+    → is_full n slot (rooms_of n slot cpu (all_rooms log)) ≡ false
 none_full n slot cpu log some =
     let left = room_left log some in
-    full-is n slot cpu (all_rooms log) ∙ (λ i. left i || (uses_vms n && left i) || (uses_shared n slot && left i) || slot_left slot log left i)
+    full-is n slot cpu (all_rooms log)
+    ∙ (λ i. left i || (uses_vms n && left i) || (uses_shared n slot && left i) || slot_left slot log left i)
     ∙ (λ i. false || and_false (uses_vms n) i || and_false (uses_shared n slot) i || false)
 
 -- so the first step of a run isn't answered LogFull
-first_run : (l : Layout) (c : Call) (t : Reference) → l.config.log ≢ 0 → c.reply ≡ Refused LogFull → Runs (Steps l) (boot l) (c ∷ []) t → ⊥
+first_run : (l : Layout) (c : Call) (t : Reference)
+    → l.config.log ≢ 0
+    → c.reply ≡ Refused LogFull
+    → Runs (Steps l) (boot l) (c ∷ []) t
+    → ⊥
 first_run l c t some reply run = elim run.1.on.answers [
   | inl f ↦ let both : true ≡ false = sym f.full ∙ none_full (names c.step) c.slot c.cpu l.config.log some in absurd cc
   | inr a ↦ answered-room l c.cpu c.slot c.step true _ c.reply _ a.answered reply
 ]
 
-behind_start : (key : TheLayout) (a : Asked) → key.config.log ≢ 0 → a.cpu < key.config.cpus → OneHistory (layout_of key) 0 (a ∷ []) (Refused LogFull ∷ []) → ⊥
+behind_start : (key : TheLayout) (a : Asked)
+    → key.config.log ≢ 0
+    → a.cpu < key.config.cpus
+    → OneHistory (layout_of key) 0 (a ∷ []) (Refused LogFull ∷ [])
+    → ⊥
 behind_start key a some inside h =
     let is = h.each a.cpu inside in
     let first : h.first ≡ [] = no_told h.first h.asked in
-    let none : (cpu : ℕ) → cpu < key.config.cpus → calls_by cpu h.log ≡ [] = λ cpu less. no_calls (calls_by cpu h.log) ((h.each cpu less).calls ∙ none_kept a cpu) in
-    let log : h.log ≡ [] = no_log key.config.cpus h.log (behind_all (λ (c : Call). c.cpu < key.config.cpus) (stored_in h.first) h.log h.run.cpus) none in
+    let none : (cpu : ℕ) → cpu < key.config.cpus → calls_by cpu h.log ≡ [] =
+    λ cpu less. no_calls (calls_by cpu h.log) ((h.each cpu less).calls ∙ none_kept a cpu) in
+    let log : h.log ≡ [] =
+    no_log key.config.cpus h.log
+    (behind_all (λ (c : Call). c.cpu < key.config.cpus) (stored_in h.first) h.log h.run.cpus) none in
     let whole : stored_in h.first ++ h.log ≡ [] = (λ i. stored_in (first i) ++ log i) in
     let mine : Known = known_with h.key a.cpu is.first in
-    let made = subst (λ (xs : List (Step × Reply)). MakeAll (CallsIn (layout_of h.key) (stored_in h.first ++ h.log)) mine xs is.last) (own_answer a.cpu a [] (Refused LogFull) [] (same-number a.cpu)) is.makes in
+    let made =
+    subst
+    (λ (xs : List (Step × Reply)). MakeAll
+    (CallsIn (layout_of h.key) (stored_in h.first ++ h.log)) mine xs is.last)
+    (own_answer a.cpu a [] (Refused LogFull) [] (same-number a.cpu)) is.makes in
     let same : h.key.config.log ≡ key.config.log = ap (λ (l : Layout). l.config.log) h.key_is in
-    let from : (cs : List Call) → cs ≡ [] → length cs ≡ h.key.config.log → ⊥ = λ cs e n. some (sym same ∙ sym n ∙ ap length e) in
+    let from : (cs : List Call) → cs ≡ [] → length cs ≡ h.key.config.log → ⊥ =
+    λ cs e n. some (sym same ∙ sym n ∙ ap length e) in
     ⊎_elim
-    (λ (e : length (calls_by a.cpu (stored_in h.first ++ h.log)) ≡ h.key.config.log). from _ (ap (calls_by a.cpu) whole) e)
-    (λ (e : (k : ℕ) × Contains (used_by a.step mine) k × (length (calls_on (part_of k) (stored_in h.first ++ h.log)) ≡ h.key.config.log)). from _ (ap (calls_on (part_of e.0)) whole) e.2)
+    (λ (e : length (calls_by a.cpu (stored_in h.first ++ h.log)) ≡ h.key.config.log). from _
+    (ap (calls_by a.cpu) whole) e)
+    (λ
+    (e : (k : ℕ)
+    × Contains (used_by a.step mine) k
+    × (length (calls_on (part_of k) (stored_in h.first ++ h.log)) ≡ h.key.config.log)). from _
+    (ap (calls_on (part_of e.0)) whole) e.2)
     (made.1.full refl).1
 
 none_asked : (n : ℕ) → asked_with (take n []) (take n []) ≡ []
 none_asked zero = refl
 none_asked (suc n) = refl
 
-before_start : (key : TheLayout) (n : ℕ) (a : Asked) → key.config.log ≢ 0 → OneHistory (layout_of key) (suc n) (a ∷ []) (Refused LogFull ∷ []) → ⊥
-before_start key n a some h = one h.first (h.asked ∙ ap (λ (l : List (ℕ × Step × Reply)). (a.cpu, a.step, Refused LogFull) ∷ l) (none_asked n)) h.begins.leads
+before_start : (key : TheLayout) (n : ℕ) (a : Asked)
+    → key.config.log ≢ 0
+    → OneHistory (layout_of key) (suc n) (a ∷ []) (Refused LogFull ∷ [])
+    → ⊥
+before_start key n a some h =
+    one h.first
+    (h.asked
+    ∙ ap (λ (l : List (ℕ × Step × Reply)). (a.cpu, a.step, Refused LogFull) ∷ l) (none_asked n)) h.begins.leads
   where
-    one : (cs : List Call) → told_of cs ≡ (a.cpu, a.step, Refused LogFull) ∷ [] → Runs (Steps (layout_of key)) (boot (layout_of key)) cs h.at → ⊥
+    one : (cs : List Call)
+        → told_of cs ≡ (a.cpu, a.step, Refused LogFull) ∷ []
+        → Runs (Steps (layout_of key)) (boot (layout_of key)) cs h.at
+        → ⊥
     one [] e run = absurd cc
-    one (c ∷ []) e run = first_run (layout_of key) c h.at some (ap (λ (l : List (ℕ × Step × Reply)). (get_or l 0 (c.cpu, c.step, c.reply)).2) e) run
+    one (c ∷ []) e run =
+        first_run (layout_of key) c h.at some
+        (ap (λ (l : List (ℕ × Step × Reply)). (get_or l 0 (c.cpu, c.step, c.reply)).2) e) run
     one (c ∷ (d ∷ cs)) e run = absurd cc
 
 pub first_not_full : FirstNotFull

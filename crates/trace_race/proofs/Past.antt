@@ -17,7 +17,9 @@ use Rattle.reference_model.proofs.Rely.{reached_relies}
 use Rattle.world.proofs.Headline.{runs_after}
 
 -- a run is one and then another
-pub split : {S : Type 0} (Go : S → Call → S → Type 0) (cs ds : List Call) (s t : S) → Runs Go s (cs ++ ds) t → (m : S) × Runs Go s cs m × Runs Go m ds t
+pub split : {S : Type 0} (Go : S → Call → S → Type 0) (cs ds : List Call) (s t : S)
+    → Runs Go s (cs ++ ds) t
+    → (m : S) × Runs Go s cs m × Runs Go m ds t
 split Go [] ds s t h = (s, refl, h)
 split Go (c ∷ cs) ds s t h = let r = split Go cs ds h.0 t h.2 in (r.0, (h.0, h.1, r.1), r.2)
 
@@ -34,7 +36,8 @@ pub front_none : (p : Part) (cs ds : List Call) → calls_on p (cs ++ ds) ≡ []
 front_none p cs ds e = none_in_front (calls_on p cs) (calls_on p ds) (sym (filter-append (call_uses p) cs ds) ∙ e)
 
 pub front_by : (cpu : ℕ) (cs ds : List Call) → calls_by cpu (cs ++ ds) ≡ [] → calls_by cpu cs ≡ []
-front_by cpu cs ds e = none_in_front (calls_by cpu cs) (calls_by cpu ds) (sym (filter-append (λ (c : Call). c.cpu == cpu) cs ds) ∙ e)
+front_by cpu cs ds e =
+    none_in_front (calls_by cpu cs) (calls_by cpu ds) (sym (filter-append (λ (c : Call). c.cpu == cpu) cs ds) ∙ e)
 
 low_slot : (slot : Option ℕ) (v : ℕ) → ((u : ℕ) → slot ≡ Some u → u < 64) → 64 ≤ v → is_slot slot v ≡ false
 low_slot None v low past = refl
@@ -42,29 +45,53 @@ low_slot (Some u) v low past = let less = low u refl in eq-other v u (λ e. omeg
 
 module _ (l : Layout) (ready : CanBoot l) where
   -- the slot of a call of a run is one of the 64
-  slot_low : (done : List Call) (c : Call) (s t : Reference) → IsRun l done s → c.cpu < l.config.cpus → Steps l s c t → (v : ℕ) → 64 ≤ v → call_uses (guest_part v) c ≡ false
+  slot_low : (done : List Call) (c : Call) (s t : Reference)
+      → IsRun l done s
+      → c.cpu < l.config.cpus
+      → Steps l s c t
+      → (v : ℕ)
+      → 64 ≤ v
+      → call_uses (guest_part v) c ≡ false
   slot_low done c s t run inside step v past =
-      let reached : IsReached l (names c.step) c.slot c.cpu (used_by c s) = record { ready = ready; log = done; state = s; run = run; used = refl } in
-      low_slot c.slot v (reached_relies l c.cpu c.slot c.step (used_by c s) inside step.on.slot ∣ reached ∣₁).slot_low past
+      let reached : IsReached l (names c.step) c.slot c.cpu (used_by c s) =
+      record { ready = ready; log = done; state = s; run = run; used = refl } in
+      low_slot c.slot v
+      (reached_relies l c.cpu c.slot c.step (used_by c s) inside step.on.slot ∣ reached ∣₁).slot_low past
 
-  none_past : (done cs : List Call) (s t : Reference) → IsRun l done s → All (λ c. c.cpu < l.config.cpus) cs → Runs (Steps l) s cs t → (v : ℕ) → 64 ≤ v → calls_on (guest_part v) cs ≡ []
+  none_past : (done cs : List Call) (s t : Reference)
+      → IsRun l done s
+      → All (λ c. c.cpu < l.config.cpus) cs
+      → Runs (Steps l) s cs t
+      → (v : ℕ)
+      → 64 ≤ v
+      → calls_on (guest_part v) cs ≡ []
   none_past done [] s t run inside goes v past = refl
   none_past done (c ∷ cs) s t run inside goes v past =
       let first : c.cpu < l.config.cpus = inside 0 c (omega arith) in
       let longer : IsRun l (done ++ c ∷ []) goes.0 = record {
-        cpus = All-append (λ (d : Call). d.cpu < l.config.cpus) done (c ∷ []) run.cpus (All-cons (λ (d : Call). d.cpu < l.config.cpus) c [] first (All-nil (λ (d : Call). d.cpu < l.config.cpus)));
+        cpus =
+            All-append (λ (d : Call). d.cpu < l.config.cpus) done (c ∷ []) run.cpus
+            (All-cons (λ (d : Call). d.cpu < l.config.cpus) c [] first
+            (All-nil (λ (d : Call). d.cpu < l.config.cpus)));
         leads = runs_after (Steps l) done (c ∷ []) (boot l) s goes.0 run.leads (goes.0, goes.1, refl);
       } in
       filter-false (call_uses (guest_part v)) c cs (slot_low done c s goes.0 run first goes.1 v past)
       ∙ none_past (done ++ c ∷ []) cs goes.0 t longer (λ k d less. inside (suc k) d (omega (arith, less))) goes.2 v past
 
   -- so no call of a run uses a part past them
-  pub no_guest_calls : (cs : List Call) (t : Reference) → IsRun l cs t → (v : ℕ) → 64 ≤ v → calls_on (guest_part v) cs ≡ []
-  no_guest_calls cs t run v past = none_past [] cs (boot l) t (record { cpus = All-nil (λ (d : Call). d.cpu < l.config.cpus); leads = refl }) run.cpus run.leads v past
+  pub no_guest_calls : (cs : List Call) (t : Reference)
+      → IsRun l cs t
+      → (v : ℕ)
+      → 64 ≤ v
+      → calls_on (guest_part v) cs ≡ []
+  no_guest_calls cs t run v past =
+      none_past [] cs (boot l) t
+      (record { cpus = All-nil (λ (d : Call). d.cpu < l.config.cpus); leads = refl }) run.cpus run.leads v past
 
 -- and none is of a CPU past its layout's
 pub none_by : (most : ℕ) (cs : List Call) → All (λ c. c.cpu < most) cs → (cpu : ℕ) → most ≤ cpu → calls_by cpu cs ≡ []
 none_by most [] inside cpu past = refl
 none_by most (c ∷ cs) inside cpu past =
     let first : c.cpu < most = inside 0 c (omega arith) in
-    filter-false (λ (d : Call). d.cpu == cpu) c cs (eq-other c.cpu cpu (λ e. omega (arith, e, first, past))) ∙ none_by most cs (λ k d less. inside (suc k) d (omega (arith, less))) cpu past
+    filter-false (λ (d : Call). d.cpu == cpu) c cs (eq-other c.cpu cpu (λ e. omega (arith, e, first, past)))
+    ∙ none_by most cs (λ k d less. inside (suc k) d (omega (arith, less))) cpu past

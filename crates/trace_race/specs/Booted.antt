@@ -29,7 +29,8 @@ abbrev pub StopsBoot : Memory → Config → Stop → Type 0
 StopsBoot memory config (stops.Fault fault) = IsNoWorld (stops.Fault fault) memory config
 StopsBoot memory config stops.NoMemory = ⊤
 
--- all of this memory and configuration: the model's machine that boots on them, its boot line, and a world of its layout that has booted on them
+-- all of this memory and configuration: the model's machine that boots on them, its boot line, and
+-- a world of its layout that has booted on them
 pub record IsBootedOf (memory : Memory) (config : Config) (b : Booted) : Type 0 where
   pub booted : IsBootOf memory config (machine_in b.state)
   pub line : b.line ≡ boot_told (machine_in b.state)
@@ -38,4 +39,5 @@ pub record IsBootedOf (memory : Memory) (config : Config) (b : Booted) : Type 0 
 
 -- what booting on them comes to
 abbrev pub BootsTo : Memory → Config → Result Booted Stop → Type 0
-BootsTo memory config result = MatchResult result (IsBootedOf memory config) (StopsBoot memory config)
+BootsTo memory config result =
+    MatchResult result (IsBootedOf memory config) (StopsBoot memory config)

@@ -16,7 +16,8 @@ use Rattle.trace_text.specs.declared.session.Stop.TheVariants as stops
 use Rattle.trace_race.specs.declared.course.Asked.{Asked}
 use Rattle.trace_race.specs.declared.course.Course.{Course}
 
--- what the lines so far ask for: the settings, the number of the boot's line, the steps in order, and how many of them come before `start`
+-- what the lines so far ask for: the settings, the number of the boot's line, the steps in order,
+-- and how many of them come before `start`
 pub record Asking : Type 0 where
   pub told : Told
   pub boot : Option ℕ
@@ -24,9 +25,11 @@ pub record Asking : Type 0 where
   pub start : Option ℕ
 
 abbrev pub course_in : Course → Asking
-course_in c = record { told = told_of c.settings; boot = c.boot; steps = c.steps.items; start = c.start }
+course_in c =
+    record { told = told_of c.settings; boot = c.boot; steps = c.steps.items; start = c.start }
 
--- each step is of a CPU that there is, there is none before the boot, and `start` comes after some of them
+-- each step is of a CPU that there is, there is none before the boot, and `start` comes after some
+-- of them
 pub record IsSound (a : Asking) : Type 0 where
   pub below : All (λ s. s.cpu < (config_of a.told).cpus) a.steps
   pub before : a.boot ≡ None → a.steps ≡ []
@@ -50,7 +53,10 @@ allowed a = allowed_by a.boot a.start
 -- a step of a CPU, which is one of those that were given
 abbrev pub step_of : ℕ → ℕ → Step → Asking → Result Asking Fault
 step_of number cpu step a =
-    if nat_lt cpu (config_of a.told).cpus then Ok (record a { steps = a.steps ++ record { line = number; cpu = cpu; step = step } ∷ [] }) else Err faults.Cpu
+    if nat_lt cpu (config_of a.told).cpus
+    then Ok
+    (record a { steps = a.steps ++ record { line = number; cpu = cpu; step = step } ∷ [] })
+    else Err faults.Cpu
 
 -- the requests with one line more
 abbrev pub said_of : ℕ → Line → Asking → Result Asking Fault
@@ -70,13 +76,16 @@ abbrev pub taken : ℕ → List ℕ → Asking → Result Asking Fault
 taken number bytes a = follows number (said (allowed a) a.told bytes) a
 
 -- all lines from a number on: what they ask for, or the first fault with its line
-abbrev pub onward : ℕ → Result Asking Fault → (Asking → Result Asking (ℕ × Fault)) → Result Asking (ℕ × Fault)
+abbrev pub onward : ℕ → Result Asking Fault → (Asking → Result Asking (ℕ × Fault))
+    → Result Asking (ℕ × Fault)
 onward number (Ok a) more = more a
 onward number (Err fault) more = Err (number, fault)
 
 abbrev pub course_of : ℕ → Asking → List (List ℕ) → Result Asking (ℕ × Fault)
 course_of number a [] = Ok a
-course_of number a (line ∷ rest) = if nat_lt 1048576 number then Err (number, faults.Lines) else onward number (taken number line a) (λ b. course_of (number + 1) b rest)
+course_of number a (line ∷ rest) =
+    if nat_lt 1048576 number then Err (number, faults.Lines)
+    else onward number (taken number line a) (λ b. course_of (number + 1) b rest)
 
 -- what code takes up of a line: that, unless memory was refused
 abbrev pub Comes : {X : Type 0} → Result Asking Fault → Result X Stop → Asking → Type 0

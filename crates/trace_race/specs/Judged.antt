@@ -1,4 +1,5 @@
--- The replies of a list of calls, each compared with the model's on the state that the calls before it lead to (profile).
+-- The replies of a list of calls, each compared with the model's on the state that the calls before
+-- it lead to (profile).
 use Rattle.std.specs.Prelude.{◌≡◌, ◌≢◌, ◌↔◌, ◌≤◌, ℕ, List, [], ◌∷◌, map, All, IfSome, Option, Some, None}
 use Rattle.page_state.specs.Layouts.{Layout}
 use Rattle.call_table.specs.declared.reply.Call.{Call}
@@ -26,15 +27,20 @@ pub record IsApart (said spec : Reply) (found : Option Disagreement) : Type 0 wh
   pub same : said ≡ spec → found ≡ None
   pub differ : said ≢ spec → found ≡ Some (ReplyDiffers said spec)
 
--- a call that wanted memory, where all stays: none where the model makes the step and it can take memory, and else the first difference
-pub record IsJudgedWant (l : Layout) (g : Reference) (cpu : ℕ) (step : Step) (said : Reply) (found : Option Disagreement) : Type 0 where
+-- a call that wanted memory, where all stays: none where the model makes the step and it can take
+-- memory, and else the first difference
+pub record IsJudgedWant (l : Layout) (g : Reference) (cpu : ℕ) (step : Step) (said : Reply)
+    (found : Option Disagreement) : Type 0 where
   pub none : (found ≡ None) ↔ JudgeAgrees g.contents step said g.contents (foretell l g cpu step)
   pub first : IfSome found (IsFirstJudged g.contents step said g.contents (foretell l g cpu step))
 
--- how one call of a list is judged, on the state before it, and the state after it: a call that wanted memory leaves it
-pub record Judges (l : Layout) (g : Reference) (cpu : ℕ) (step : Step) (said : Reply) (found : Option Disagreement) (h : Reference) : Type 0 where
+-- how one call of a list is judged, on the state before it, and the state after it: a call that
+-- wanted memory leaves it
+pub record Judges (l : Layout) (g : Reference) (cpu : ℕ) (step : Step) (said : Reply)
+    (found : Option Disagreement) (h : Reference) : Type 0 where
   pub wants : said ≡ Refused NoMemory → (h ≡ g) × IsJudgedWant l g cpu step said found
-  pub other : said ≢ Refused NoMemory → (h ≡ (foretell l g cpu step).1) × IsApart said (foretell l g cpu step).0 found
+  pub other : said ≢ Refused NoMemory
+      → (h ≡ (foretell l g cpu step).1) × IsApart said (foretell l g cpu step).0 found
 
 -- the finding at one call, in front of those behind it
 abbrev pub with_found : Option Disagreement → List Disagreement → List Disagreement
@@ -45,7 +51,12 @@ with_found (Some d) more = d ∷ more
 abbrev pub JudgesAll : Layout → Reference → List (ℕ × Step × Reply) → List Disagreement → Type 0
 JudgesAll l g [] found = found ≡ []
 JudgesAll l g (call ∷ more) found =
-    (one : Option Disagreement) × (h : Reference) × (rest : List Disagreement) × Judges l g call.0 call.1 call.2 one h × JudgesAll l h more rest × (found ≡ with_found one rest)
+    (one : Option Disagreement)
+    × (h : Reference)
+    × (rest : List Disagreement)
+    × Judges l g call.0 call.1 call.2 one h
+    × JudgesAll l h more rest
+    × (found ≡ with_found one rest)
 
 -- the report of calls: CPU, step and reply of each
 abbrev pub told_of : List Call → List (ℕ × Step × Reply)
@@ -61,4 +72,5 @@ pub record IsToldOf (l : Layout) (told : List (ℕ × Step × Reply)) : Type 0 w
 
 -- the replies of logs are judged along a merged list of them
 abbrev pub ComparesAll : Layout → Reference → Histories → List Disagreement → Type 0
-ComparesAll l g logs found = (told : List (ℕ × Step × Reply)) × TellsMerged logs told × JudgesAll l g told found
+ComparesAll l g logs found =
+    (told : List (ℕ × Step × Reply)) × TellsMerged logs told × JudgesAll l g told found

@@ -1,4 +1,5 @@
--- What follows from the one history of a race's steps and replies: the laws of this crate (profile).
+-- What follows from the one history of a race's steps and replies: the laws of this crate
+-- (profile).
 use Rattle.std.specs.Prelude.{◌≡◌, ◌≢◌, ◌<◌, ℕ, List, [], ◌∷◌, ◌++◌, All, filter, map}
 use Rattle.page_state.specs.declared.layout.Layout.{Layout as TheLayout}
 use Rattle.page_state.specs.LayoutView.{layout_of}
@@ -18,16 +19,42 @@ use Rattle.trace_race.specs.Made.{FindsFull, IsCpus, OneHistory, answers_of, is_
 abbrev pub told_by : Call → Step × Reply
 told_by c = (c.step, c.reply)
 
--- a log that has no call isn't full: where a log can store one, a trace's only step isn't answered LogFull, whether it stands before `start` or behind it
+-- a log that has no call isn't full: where a log can store one, a trace's only step isn't answered
+-- LogFull, whether it stands before `start` or behind it
 abbrev pub FirstNotFull : Type 0
-FirstNotFull = (key : TheLayout) (start : ℕ) (a : Asked) → key.config.log ≢ 0 → a.cpu < key.config.cpus → OneHistory (layout_of key) start (a ∷ []) (Refused LogFull ∷ []) → ⊥
+FirstNotFull =
+    (key : TheLayout) (start : ℕ) (a : Asked)
+    → key.config.log ≢ 0
+    → a.cpu < key.config.cpus
+    → OneHistory (layout_of key) start (a ∷ []) (Refused LogFull ∷ [])
+    → ⊥
 
--- Where a CPU was answered LogFull behind `start`, its list had, behind its calls from before `start`, just its steps before that were stored, with their replies. These calls begin its calls in the history, and a log that would store the step is full there
+-- Where a CPU was answered LogFull behind `start`, its list had, behind its calls from before
+-- `start`, just its steps before that were stored, with their replies. These calls begin its calls
+-- in the history, and a log that would store the step is full there
 abbrev pub FullAfter : Type 0
-FullAfter = (key : TheLayout) (cpu : ℕ) (before after : List (Step × Reply)) (step : Step) (at : Reference) (first log : List Call) → IsCpus key cpu (before ++ (step, Refused LogFull) ∷ after) at first log
-    → (v : Known) × (v.cpu ≡ cpu) × (map told_by v.own.log.calls ≡ map told_by (calls_by cpu first) ++ filter (λ a. is_stored a.1) before) × StartsWith (calls_by cpu (first ++ log)) v.own.log.calls × FindsFull (layout_of key) (first ++ log) step v
+FullAfter =
+    (key : TheLayout) (cpu : ℕ) (before after : List (Step × Reply)) (step : Step) (at : Reference)
+    (first log : List Call)
+    → IsCpus key cpu (before ++ (step, Refused LogFull) ∷ after) at first log
+    → (v : Known)
+    × (v.cpu ≡ cpu)
+    × (map told_by v.own.log.calls
+    ≡ map told_by (calls_by cpu first) ++ filter (λ a. is_stored a.1) before)
+    × StartsWith (calls_by cpu (first ++ log)) v.own.log.calls
+    × FindsFull (layout_of key) (first ++ log) step v
 
--- the steps of one CPU are answered as the model answers them one after another: those that are stored are a run
+-- the steps of one CPU are answered as the model answers them one after another: those that are
+-- stored are a run
 abbrev pub OneCpuRuns : Type 0
-OneCpuRuns = (key : TheLayout) (cpu start : ℕ) (steps : List Asked) (replies : List Reply) → cpu < key.config.cpus → All (λ a. a.cpu ≡ cpu) steps → OneHistory (layout_of key) start steps replies
-    → (log : List Call) × (end : Reference) × IsRun (layout_of key) log end × All (λ c. IsStored c.reply) log × All (λ c. c.cpu ≡ cpu) log × (map told_by log ≡ filter (λ a. is_stored a.1) (answers_of cpu steps replies))
+OneCpuRuns =
+    (key : TheLayout) (cpu start : ℕ) (steps : List Asked) (replies : List Reply)
+    → cpu < key.config.cpus
+    → All (λ a. a.cpu ≡ cpu) steps
+    → OneHistory (layout_of key) start steps replies
+    → (log : List Call)
+    × (end : Reference)
+    × IsRun (layout_of key) log end
+    × All (λ c. IsStored c.reply) log
+    × All (λ c. c.cpu ≡ cpu) log
+    × (map told_by log ≡ filter (λ a. is_stored a.1) (answers_of cpu steps replies))

@@ -29,11 +29,15 @@ use Rattle.trace_race.specs.Made.{OneHistory}
 abbrev pub step_lines : List Asked → List Reply → List ReportLine
 step_lines [] replies = []
 step_lines (a ∷ more) [] = []
-step_lines (a ∷ more) (reply ∷ replies) = report.Response (responses.Step a.line a.cpu reply) ∷ step_lines more replies
+step_lines (a ∷ more) (reply ∷ replies) =
+    report.Response (responses.Step a.line a.cpu reply) ∷ step_lines more replies
 
 -- the lines of what comparing found, and the last, with the numbers of steps and of disagreements
 abbrev pub found_lines : List Disagreement → Option Disagreement → ℕ → List ReportLine
-found_lines judged audited steps = map report.Judged judged ++ (audited_lines audited ++ report.End steps (length judged + length (audited_lines audited)) ∷ [])
+found_lines judged audited steps =
+    map report.Judged judged
+    ++ (audited_lines audited
+    ++ report.End steps (length judged + length (audited_lines audited)) ∷ [])
 
 -- and the outcome
 abbrev pub found_outcome : List Disagreement → Option Disagreement → Outcome
@@ -48,7 +52,8 @@ abbrev pub lines_of_run : Machine → List Asked → List Reply → List ReportL
 lines_of_run m steps replies = report.Response (boot_told m) ∷ lines_behind steps replies
 
 -- no machine was booted: the layout was refused, or the boot
-pub record IsNoRun (a : Asking) (carve : PageRange) (number : ℕ) (lines : List ReportLine) (outcome : Outcome) : Type 0 where
+pub record IsNoRun (a : Asking) (carve : PageRange) (number : ℕ) (lines : List ReportLine)
+    (outcome : Outcome) : Type 0 where
   pub fault : Fault
   pub refused : IsNoWorld (stops.Fault fault) (memory_of a.told.regions carve) (config_of a.told)
   pub lines_are : lines ≡ report.Fault number fault ∷ []
@@ -61,7 +66,8 @@ IsIdle lines outcome = (lines ≡ report.End 0 0 ∷ []) × (outcome ≡ outcome
 -- what is wanted of the machine, of what a trace asks for and of the replies
 module _ (Ran : Machine → Asking → List Reply → Type 0) where
   -- a machine was booted, and the steps were made: each has a reply
-  pub record IsRun (a : Asking) (carve : PageRange) (lines : List ReportLine) (outcome : Outcome) : Type 0 where
+  pub record IsRun (a : Asking) (carve : PageRange) (lines : List ReportLine)
+      (outcome : Outcome) : Type 0 where
     pub machine : Machine
     pub booted : IsBootOf (memory_of a.told.regions carve) (config_of a.told) machine
     pub replies : List Reply
@@ -74,17 +80,20 @@ module _ (Ran : Machine → Asking → List Reply → Type 0) where
   abbrev pub IsRaceOf : Asking → List ReportLine → Outcome → Type 0
   IsRaceOf a lines outcome =
       MatchOption a.boot (IsIdle lines outcome)
-      (λ number. MatchOption a.told.carve (IsIdle lines outcome) (λ carve. IsNoRun a carve number lines outcome ⊎ IsRun a carve lines outcome))
+      (λ number. MatchOption a.told.carve (IsIdle lines outcome)
+      (λ carve. IsNoRun a carve number lines outcome ⊎ IsRun a carve lines outcome))
 
   -- a fault of a line is the whole report
   abbrev pub IsRead : Result Asking (ℕ × Fault) → List ReportLine → Outcome → Type 0
-  IsRead (Err told) lines outcome = (lines ≡ report.Fault told.0 told.1 ∷ []) × (outcome ≡ outcomes.Fault)
+  IsRead (Err told) lines outcome =
+      (lines ≡ report.Fault told.0 told.1 ∷ []) × (outcome ≡ outcomes.Fault)
   IsRead (Ok a) lines outcome = IsRaceOf a lines outcome
 
   abbrev pub IsRaceReport : List (List ℕ) → List ReportLine → Outcome → Type 0
   IsRaceReport trace lines outcome = IsRead (course_of 1 nothing_asked trace) lines outcome
 
--- There is one legal history of the steps that the trace asks for, each with the reply that its line says: those before `start` come first
+-- There is one legal history of the steps that the trace asks for, each with the reply that its
+-- line says: those before `start` come first
 abbrev pub HasOneHistory : Machine → Asking → List Reply → Type 0
 HasOneHistory m a replies = OneHistory m.layout (in_order_of a) a.steps replies
 
@@ -98,10 +107,12 @@ pub record IsBootLine (a : Asking) (lines : List ReportLine) : Type 0 where
   pub booted : IsBootOf (memory_of a.told.regions carve) (config_of a.told) machine
   pub lines_are : lines ≡ report.Response (boot_told machine) ∷ []
 
--- what a race that stops early has begun: its whole report, or the boot line alone, where not all steps were made
+-- what a race that stops early has begun: its whole report, or the boot line alone, where not all
+-- steps were made
 abbrev pub IsBegunOf : Result Asking (ℕ × Fault) → List ReportLine → Type 0
 IsBegunOf (Err told) lines = lines ≡ report.Fault told.0 told.1 ∷ []
-IsBegunOf (Ok a) lines = ((outcome : Outcome) × IsRaceOf HasOneHistory a lines outcome) ⊎ IsBootLine a lines
+IsBegunOf (Ok a) lines =
+    ((outcome : Outcome) × IsRaceOf HasOneHistory a lines outcome) ⊎ IsBootLine a lines
 
 -- what was written is the report of a race of the trace of these bytes, where they are known
 pub record IsRaced (bytes old new : Option (List ℕ)) (outcome : Outcome) : Type 0 where

@@ -27,35 +27,53 @@ abbrev pub IsBootedRun : Asking → Booted → Type 0
 IsBootedRun a b = (memory : Memory) × IsBootedOf memory (config_of a.told) b
 
 -- these lines were written, and the outcome is this one
-abbrev pub EndsWith : Outcome → List ReportLine → Option (List ℕ) → Option (List ℕ) → Outcome → Type 0
+abbrev pub EndsWith : Outcome → List ReportLine → Option (List ℕ) → Option (List ℕ) → Outcome
+    → Type 0
 EndsWith is lines old new outcome = (outcome ≡ is) × Appends old new (text_of_report lines)
 
 -- behind the boot line the whole report of steps that were made, in one legal history
-abbrev pub StepsEnd : Layout → ℕ → List Asked → List Reply → Option (List ℕ) → Option (List ℕ) → Outcome → Type 0
-StepsEnd l start steps replies old new outcome = (outcome ≡ outcomes.Clean) × OneHistory l start steps replies × Appends old new (text_of_report (lines_behind steps replies))
+abbrev pub StepsEnd : Layout → ℕ → List Asked → List Reply → Option (List ℕ) → Option (List ℕ)
+    → Outcome → Type 0
+StepsEnd l start steps replies old new outcome =
+    (outcome ≡ outcomes.Clean)
+    × OneHistory l start steps replies
+    × Appends old new (text_of_report (lines_behind steps replies))
 
 -- the whole report of a machine that was booted
 abbrev pub RunEnds : Machine → Asking → Option (List ℕ) → Option (List ℕ) → Outcome → Type 0
 RunEnds m a old new outcome =
-    (outcome ≡ outcomes.Clean) × (replies : List Reply) × (length replies ≡ length a.steps) × HasOneHistory m a replies × Appends old new (text_of_report (lines_of_run m a.steps replies))
+    (outcome ≡ outcomes.Clean)
+    × (replies : List Reply)
+    × (length replies ≡ length a.steps)
+    × HasOneHistory m a replies
+    × Appends old new (text_of_report (lines_of_run m a.steps replies))
 
 -- and a front of it, or of the boot line alone
 abbrev pub RunBegins : Machine → Asking → Option (List ℕ) → Option (List ℕ) → Type 0
 RunBegins m a old new =
     WritesFront (report.Response (boot_told m) ∷ []) old new
-    ⊎ ((replies : List Reply) × (length replies ≡ length a.steps) × HasOneHistory m a replies × WritesFront (lines_of_run m a.steps replies) old new)
+    ⊎ ((replies : List Reply)
+    × (length replies ≡ length a.steps)
+    × HasOneHistory m a replies
+    × WritesFront (lines_of_run m a.steps replies) old new)
 
 -- the whole report of what reading a trace came to
-abbrev pub TellsRace : Result Asking (ℕ × Fault) → Option (List ℕ) → Option (List ℕ) → Outcome → Type 0
-TellsRace asked old new outcome = (lines : List ReportLine) × IsRead HasOneHistory asked lines outcome × Appends old new (text_of_report lines)
+abbrev pub TellsRace : Result Asking (ℕ × Fault) → Option (List ℕ) → Option (List ℕ) → Outcome
+    → Type 0
+TellsRace asked old new outcome =
+    (lines : List ReportLine)
+    × IsRead HasOneHistory asked lines outcome
+    × Appends old new (text_of_report lines)
 
 -- and a front of what was begun, or nothing
 abbrev pub TellsBegun : Result Asking (ℕ × Fault) → Option (List ℕ) → Option (List ℕ) → Type 0
-TellsBegun asked old new = (new ≡ old) ⊎ ((lines : List ReportLine) × IsBegunOf asked lines × WritesFront lines old new)
+TellsBegun asked old new =
+    (new ≡ old) ⊎ ((lines : List ReportLine) × IsBegunOf asked lines × WritesFront lines old new)
 
 -- the line of a boot's fault
 abbrev pub TellsStop : ℕ → Stop → Option (List ℕ) → Option (List ℕ) → Outcome → Type 0
-TellsStop line (stops.Fault fault) old new outcome = (outcome ≡ outcomes.Fault) × Appends old new (text_of_report (report.Fault line fault ∷ []))
+TellsStop line (stops.Fault fault) old new outcome =
+    (outcome ≡ outcomes.Fault) × Appends old new (text_of_report (report.Fault line fault ∷ []))
 TellsStop line stops.NoMemory old new outcome = ⊥
 
 -- and a front of it; where memory was refused nothing was written

@@ -14,7 +14,8 @@ AreOfTable t passes = All (IsPassOf t) passes
 
 -- a gate has heard of each call, by its number, that a pass's list has more than it had
 abbrev pub HearsEach : (ℕ → Type 0) → Known → Known → Type 0
-HearsEach Heard v w = (number : ℕ) → length v.own.log.calls < number → number ≤ length w.own.log.calls → Heard number
+HearsEach Heard v w =
+    (number : ℕ) → length v.own.log.calls < number → number ≤ length w.own.log.calls → Heard number
 
 module _ (t : Opened) (steps : List Asked) where
   -- a worker that has made none of its steps, with a pass of the table, and room for its replies

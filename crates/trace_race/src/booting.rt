@@ -24,7 +24,8 @@ pub(crate) fn boot_world(
     settings: &Settings,
     carve: PageRange,
 ) -> Result<Booted, Stop>
-    ensures { BootsTo (memory_of settings.now.regions.items carve) (config_of (told_of settings.now)) result }
+    ensures { BootsTo (memory_of settings.now.regions.items carve)
+        (config_of (told_of settings.now)) result }
 {
     let map = match told_memory(global, settings.regions.as_slice(), carve) {
         Ok(map) => map,

@@ -30,7 +30,9 @@ pub fn race_buffered<Rt: Threads + Wait + Sync, R: Read + Drop, W: Write + Drop,
     gate: &G,
 ) -> Result<(Outcome, W), (Halted, Option<W>)>
     ensures report { IfOk result (λ r. IsRaced (R.remaining reader) (W.contents writer) (W.contents r.1) r.0) }
-    ensures begun { IfErr result (λ s. IfSome s.1 (λ w. IsRaceBegun (R.remaining reader) (W.contents writer) (W.contents w))) }
+    ensures begun { IfErr result
+        (λ s. IfSome s.1
+        (λ w. IsRaceBegun (R.remaining reader) (W.contents writer) (W.contents w))) }
 {
     let Ok(writer) = BufWriter::new(global, writer) else {
         return Err((make_halted(EngineFault::NoMemory, None, false), None));

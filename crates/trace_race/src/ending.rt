@@ -76,7 +76,8 @@ fn compare_replies(
 ) -> Result<Vec<Disagreement>, AllocError>
     requires cpus { length logs.now.cpus.items ≤ state.layout.config.cpus }
     requires generations { HasGenerationsTo 1 (contents_in state) }
-    ensures { IfOk result (λ found. ComparesAll (layout_of state.layout) (ghost_state state) logs.now found.items) }
+    ensures { IfOk result
+        (λ found. ComparesAll (layout_of state.layout) (ghost_state state) logs.now found.items) }
 {
     let Ok(calls) = World::<Global>::merge(global, logs) else {
         drop(state);
@@ -97,7 +98,8 @@ fn compare(
     requires boot { ghost_state state ≡ boot (layout_of state.layout) }
     requires logs { AreLogsOf logs.now (parts_layout world.now.parts) (kept_of world.now.parts) }
     ensures agree { IfOk result (λ c. (c.judged.items ≡ []) × (c.audited ≡ None)) }
-    ensures reads { OnOk result (HasRead (count_of reads.old) (tables_of_parts world.now.parts) (count_of reads.new)) }
+    ensures reads { OnOk result
+        (HasRead (count_of reads.old) (tables_of_parts world.now.parts) (count_of reads.new)) }
 {
     let judged = compare_replies(global, state, logs)?;
     let audited = world.audit(global, reads)?;

@@ -36,7 +36,9 @@ fn judged_next(
     requires cpu { cpu < state.layout.config.cpus }
     requires generation { HasNextGeneration ((contents_in state).cpu cpu).ticket step }
     ensures layout { IfOk result (λ r. r.0.layout ≡ state.layout) }
-    ensures judged { IfOk result (λ r. Judges (layout_of state.layout) (ghost_state state) cpu step said r.1 (ghost_state r.0)) }
+    ensures judged { IfOk result
+        (λ r. Judges (layout_of state.layout) (ghost_state state) cpu step said r.1
+        (ghost_state r.0)) }
 {
     if is_want(said) {
         let found = judge(global, &state, cpu, step, &said, &state)?;
@@ -62,7 +64,8 @@ pub(crate) fn judge_all(
     requires cpus { All (λ c. c.0 < state.layout.config.cpus) calls.now }
     requires generations { HasGenerationsTo 1 (contents_in state) }
     requires few { length calls.now < 2 ^ 63 }
-    ensures judged { IfOk result (λ found. JudgesAll (layout_of state.layout) (ghost_state state) calls.now found.items) }
+    ensures judged { IfOk result
+        (λ found. JudgesAll (layout_of state.layout) (ghost_state state) calls.now found.items) }
 {
     let mut state = state;
     let mut found = Vec::new(global);

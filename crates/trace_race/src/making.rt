@@ -73,7 +73,8 @@ fn all_passes(
     requires cpus { cpus ≡ machine.old.table.layout.config.cpus }
     requires first { AreFirst machine.old.table cpus machine.old.passes }
     ensures table { machine.new.table ≡ machine.old.table }
-    ensures first { IfOk result (λ ps. AreFirstPasses machine.old.table machine.old.table.layout.config.cpus ps.items) }
+    ensures first { IfOk result
+        (λ ps. AreFirstPasses machine.old.table machine.old.table.layout.config.cpus ps.items) }
 {
     let mut passes = Vec::with_capacity(global, cpus as usize)?;
     for cpu in 0..cpus {
@@ -115,8 +116,12 @@ fn starts(global: Global, n: usize) -> Result<Vec<usize>, AllocError>
 /// The next reply of a CPU's worker.
 fn next_reply(done: &[Done], cursors: &mut Vec<usize>, cpu: usize) -> Reply
     requires inside { (cpu < length done.now) × (length cursors.old.items ≡ length done.now) }
-    requires left { (d : Done) → slice_get done.now cpu ≡ Some d → slice_index cursors.old.items cpu < length d.replies.items }
-    ensures reply { (d : Done) → slice_get done.now cpu ≡ Some d → slice_get d.replies.items (slice_index cursors.old.items cpu) ≡ Some result }
+    requires left { (d : Done)
+        → slice_get done.now cpu ≡ Some d
+        → slice_index cursors.old.items cpu < length d.replies.items }
+    ensures reply { (d : Done)
+        → slice_get done.now cpu ≡ Some d
+        → slice_get d.replies.items (slice_index cursors.old.items cpu) ≡ Some result }
     ensures count { length cursors.new.items ≡ length cursors.old.items }
     ensures here { slice_index cursors.new.items cpu ≡ slice_index cursors.old.items cpu + 1 }
     ensures others { (j : ℕ) → j ≢ cpu → slice_index cursors.new.items j ≡ slice_index cursors.old.items j }
@@ -136,8 +141,13 @@ fn gather(
     requires below { AreBelow (length done.now) steps.now }
     requires count { length cursors.old.items ≡ length done.now }
     requires start { (i : ℕ) → slice_index cursors.old.items i ≡ 0 }
-    requires done { (cpu : ℕ) (d : Done) → slice_get done.now cpu ≡ Some d → length d.replies.items ≡ length (steps_of cpu steps.now) }
-    ensures gathered { OnOk result ((more : List Reply) × (replies.new.items ≡ replies.old.items ++ more) × IsGathered steps.now done.now more) }
+    requires done { (cpu : ℕ) (d : Done)
+        → slice_get done.now cpu ≡ Some d
+        → length d.replies.items ≡ length (steps_of cpu steps.now) }
+    ensures gathered { OnOk result
+        ((more : List Reply)
+        × (replies.new.items ≡ replies.old.items ++ more)
+        × IsGathered steps.now done.now more) }
 {
     for i in 0..steps.len() {
         replies.push(next_reply(done, cursors, steps[i].cpu as usize))?;
@@ -170,7 +180,10 @@ fn make_on<R: Threads + Wait + Sync, G: Gate + Sync>(
 ) -> Result<Option<Vec<CpuPass<Global>>>, AllocError>
     requires first { AreFirstPasses machine.now.table machine.now.table.layout.config.cpus passes.items }
     requires below { AreBelow machine.now.table.layout.config.cpus steps.now }
-    ensures { IfOk result (λ o. IfSome o (λ ps. AddsDone machine.now.table steps.now replies.old.items replies.new.items ps.items)) }
+    ensures { IfOk result
+        (λ o. IfSome o
+        (λ ps. AddsDone machine.now.table steps.now replies.old.items replies.new.items
+        ps.items)) }
 {
     let count = passes.len();
     let mut ended = Vec::with_capacity(global, count)?;
@@ -199,7 +212,10 @@ pub(crate) fn make<R: Threads + Wait + Sync, G: Gate + Sync>(
     requires cpus { cpus ≡ world.parts.layout.config.cpus }
     requires below { AreBelow cpus steps.now }
     requires first { first ≤ length steps.now }
-    ensures { IfOk result (λ o. IfSome o (λ m. (layout_of m.machine.table.layout ≡ parts_layout world.parts) × IsMadeOf first steps.now m)) }
+    ensures { IfOk result
+        (λ o. IfSome o
+        (λ m. (layout_of m.machine.table.layout ≡ parts_layout world.parts)
+        × IsMadeOf first steps.now m)) }
 {
     let mut replies = Vec::with_capacity(global, steps.len())?;
     let (before, raced) = steps.split_at(first);

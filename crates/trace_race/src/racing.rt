@@ -40,8 +40,11 @@ pub fn race<R: Threads + Wait + Sync, S: Source, K: Sink, G: Gate + Sync>(
     sink: &mut K,
     gate: &G,
 ) -> Result<Outcome, RaceFault>
-    ensures report { IfOk result (λ outcome. IsRaced (S.remaining source.old) (K.contents sink.old) (K.contents sink.new) outcome) }
-    ensures begun { OnErr result (IsRaceBegun (S.remaining source.old) (K.contents sink.old) (K.contents sink.new)) }
+    ensures report { IfOk result
+        (λ outcome. IsRaced (S.remaining source.old) (K.contents sink.old)
+        (K.contents sink.new) outcome) }
+    ensures begun { OnErr result
+        (IsRaceBegun (S.remaining source.old) (K.contents sink.old) (K.contents sink.new)) }
     ensures reads { RaceReads (S.failures source.old) (S.failures source.new) result }
     ensures writes { RaceWrites (K.failures sink.old) (K.failures sink.new) result }
 {
@@ -64,7 +67,9 @@ fn report<R: Threads + Wait + Sync, K: Sink, G: Gate + Sync>(
     gate: &G,
 ) -> Result<Outcome, RaceFault>
     requires sound { IsSoundRead read }
-    ensures report { IfOk result (λ outcome. TellsRace (asked_in read) (K.contents sink.old) (K.contents sink.new) outcome) }
+    ensures report { IfOk result
+        (λ outcome. TellsRace (asked_in read) (K.contents sink.old)
+        (K.contents sink.new) outcome) }
     ensures begun { OnErr result (TellsBegun (asked_in read) (K.contents sink.old) (K.contents sink.new)) }
     ensures counted { RaceTells (K.failures sink.old) (K.failures sink.new) result }
 {
@@ -84,8 +89,11 @@ fn carry_out<R: Threads + Wait + Sync, K: Sink, G: Gate + Sync>(
     gate: &G,
 ) -> Result<Outcome, RaceFault>
     requires sound { IsSound (course_in course.now) }
-    ensures report { IfOk result (λ outcome. TellsRace (Ok (course_in course.now)) (K.contents sink.old) (K.contents sink.new) outcome) }
-    ensures begun { OnErr result (TellsBegun (Ok (course_in course.now)) (K.contents sink.old) (K.contents sink.new)) }
+    ensures report { IfOk result
+        (λ outcome. TellsRace (Ok (course_in course.now)) (K.contents sink.old)
+        (K.contents sink.new) outcome) }
+    ensures begun { OnErr result
+        (TellsBegun (Ok (course_in course.now)) (K.contents sink.old) (K.contents sink.new)) }
     ensures counted { RaceTells (K.failures sink.old) (K.failures sink.new) result }
 {
     let boot = match course.boot {
@@ -121,8 +129,11 @@ fn tell_stop<K: Sink>(
 
 /// Writes the report of a trace that boots nothing.
 fn tell_idle<K: Sink>(sink: &mut K, text: &mut String) -> Result<Outcome, RaceFault>
-    ensures ok { IfOk result (EndsWith Outcome.Clean (ReportLine.End 0 0 ∷ []) (K.contents sink.old) (K.contents sink.new)) }
-    ensures front { OnErr result (WritesFront (ReportLine.End 0 0 ∷ []) (K.contents sink.old) (K.contents sink.new)) }
+    ensures ok { IfOk result
+        (EndsWith Outcome.Clean (ReportLine.End 0 0 ∷ []) (K.contents sink.old)
+        (K.contents sink.new)) }
+    ensures front { OnErr result
+        (WritesFront (ReportLine.End 0 0 ∷ []) (K.contents sink.old) (K.contents sink.new)) }
     ensures counted { RaceTells (K.failures sink.old) (K.failures sink.new) result }
 {
     engine(tell_end(sink, text, 0, 0))
@@ -140,8 +151,12 @@ fn run<R: Threads + Wait + Sync, K: Sink, G: Gate + Sync>(
 ) -> Result<Outcome, RaceFault>
     requires sound { IsSound (course_in course.now) }
     requires booted { IsBootedRun (course_in course.now) booted }
-    ensures report { IfOk result (λ outcome. RunEnds (machine_in booted.state) (course_in course.now) (K.contents sink.old) (K.contents sink.new) outcome) }
-    ensures begun { OnErr result (RunBegins (machine_in booted.state) (course_in course.now) (K.contents sink.old) (K.contents sink.new)) }
+    ensures report { IfOk result
+        (λ outcome. RunEnds (machine_in booted.state) (course_in course.now)
+        (K.contents sink.old) (K.contents sink.new) outcome) }
+    ensures begun { OnErr result
+        (RunBegins (machine_in booted.state) (course_in course.now) (K.contents sink.old)
+        (K.contents sink.new)) }
     ensures counted { RaceTells (K.failures sink.old) (K.failures sink.new) result }
 {
     let Booted { world, line, state } = booted;
@@ -180,8 +195,12 @@ fn tell_made<K: Sink>(
     requires made { IsMadeOf start steps.now made }
     requires layout { layout_of made.machine.table.layout ≡ layout_of state.layout }
     requires boot { ghost_state state ≡ boot (layout_of state.layout) }
-    ensures report { IfOk result (StepsEnd (layout_of state.layout) start steps.now made.replies.items (K.contents sink.old) (K.contents sink.new)) }
-    ensures begun { OnErr result (WritesFront (lines_behind steps.now made.replies.items) (K.contents sink.old) (K.contents sink.new)) }
+    ensures report { IfOk result
+        (StepsEnd (layout_of state.layout) start steps.now made.replies.items
+        (K.contents sink.old) (K.contents sink.new)) }
+    ensures begun { OnErr result
+        (WritesFront (lines_behind steps.now made.replies.items) (K.contents sink.old)
+        (K.contents sink.new)) }
     ensures history { OneHistory (layout_of state.layout) start steps.now made.replies.items }
     ensures counted { TellsWrite (K.failures sink.old) (K.failures sink.new) result }
 {
@@ -212,7 +231,8 @@ fn tell_made<K: Sink>(
 
 /// An answer of a replay's kind.
 fn engine(answer: Result<Outcome, EngineFault>) -> Result<Outcome, RaceFault>
-    ensures { MatchResult answer (λ outcome. result ≡ Ok outcome) (λ fault. result ≡ Err (RaceFault.Engine fault)) }
+    ensures { MatchResult answer (λ outcome. result ≡ Ok outcome)
+        (λ fault. result ≡ Err (RaceFault.Engine fault)) }
 {
     match answer {
         Ok(outcome) => Ok(outcome),

@@ -23,8 +23,12 @@ pub(crate) fn tell_steps<K: Sink>(
     replies: &[Reply],
 ) -> Result<(), EngineFault>
     requires count { length replies.now ≡ length steps.now }
-    ensures ok { OnOk result (Appends (K.contents sink.old) (K.contents sink.new) (text_of_report (step_lines_of steps.now replies.now))) }
-    ensures front { OnErr result (WritesFront (step_lines_of steps.now replies.now) (K.contents sink.old) (K.contents sink.new)) }
+    ensures ok { OnOk result
+        (Appends (K.contents sink.old) (K.contents sink.new)
+        (text_of_report (step_lines_of steps.now replies.now))) }
+    ensures front { OnErr result
+        (WritesFront (step_lines_of steps.now replies.now) (K.contents sink.old)
+        (K.contents sink.new)) }
     ensures counted { TellsWrite (K.failures sink.old) (K.failures sink.new) result }
 {
     for i in 0..steps.len() {
@@ -54,8 +58,12 @@ fn tell_judged<K: Sink>(
     text: &mut String,
     found: &[Disagreement],
 ) -> Result<(), EngineFault>
-    ensures ok { OnOk result (Appends (K.contents sink.old) (K.contents sink.new) (text_of_report (map ReportLine.Judged found.now))) }
-    ensures front { OnErr result (WritesFront (map ReportLine.Judged found.now) (K.contents sink.old) (K.contents sink.new)) }
+    ensures ok { OnOk result
+        (Appends (K.contents sink.old) (K.contents sink.new)
+        (text_of_report (map ReportLine.Judged found.now))) }
+    ensures front { OnErr result
+        (WritesFront (map ReportLine.Judged found.now) (K.contents sink.old)
+        (K.contents sink.new)) }
     ensures counted { TellsWrite (K.failures sink.old) (K.failures sink.new) result }
 {
     for i in 0..found.len() {
@@ -72,8 +80,12 @@ pub(crate) fn tell_found<K: Sink>(
     audited: Option<Disagreement>,
     steps: u64,
 ) -> Result<Outcome, EngineFault>
-    ensures ok { IfOk result (EndsWith (found_outcome judged.now audited) (found_lines judged.now audited steps) (K.contents sink.old) (K.contents sink.new)) }
-    ensures front { OnErr result (WritesFront (found_lines judged.now audited steps) (K.contents sink.old) (K.contents sink.new)) }
+    ensures ok { IfOk result
+        (EndsWith (found_outcome judged.now audited) (found_lines judged.now audited steps)
+        (K.contents sink.old) (K.contents sink.new)) }
+    ensures front { OnErr result
+        (WritesFront (found_lines judged.now audited steps) (K.contents sink.old)
+        (K.contents sink.new)) }
     ensures counted { TellsWrite (K.failures sink.old) (K.failures sink.new) result }
 {
     tell_judged(sink, text, judged)?;

@@ -107,7 +107,8 @@ fn make_all<R: Wait, G: Gate>(
     ensures of { IsPassOf machine.now.table pass.new }
     ensures cpu { pass.new.knows.cpu ≡ pass.old.knows.cpu }
     ensures count { length replies.new.items ≡ length (steps_of pass.old.knows.cpu steps.now) }
-    ensures makes { Makes pass.old.knows (paired (steps_of pass.old.knows.cpu steps.now) replies.new.items) pass.new.knows }
+    ensures makes { Makes pass.old.knows
+        (paired (steps_of pass.old.knows.cpu steps.now) replies.new.items) pass.new.knows }
     ensures heard { HearsEach (G.heard_taken gate.now pass.old.knows.cpu) pass.old.knows pass.new.knows }
 {
     let cpu = pass.cpu();
@@ -164,14 +165,20 @@ pub(crate) fn work_at_once<'a, R: Threads + Wait + Sync, G: Gate + Sync>(
     workers: Vec<Worker>,
 ) -> Result<Option<Vec<Done>>, AllocError>
     requires { All (IsReady machine.now.table steps.now) workers.items }
-    ensures { IfOk result (λ o. IfSome o (λ ds. AllFinish machine.entry.now.table steps.entry.now (map (λ w. w.pass) workers.items) ds.items)) }
+    ensures { IfOk result
+        (λ o. IfSome o
+        (λ ds. AllFinish machine.entry.now.table steps.entry.now
+        (map (λ w. w.pass) workers.items) ds.items)) }
 {
     thread::scope(
         thread::scope_env(),
         rt,
         move |scope| -> Result<Option<Vec<Done>>, AllocError>
             requires { IsSync R.row × IsSync G.row × All (IsReady machine.now.table steps.now) workers.items }
-            ensures { IfOk result (λ o. IfSome o (λ ds. AllFinish machine.entry.now.table steps.entry.now (map (λ w. w.pass) workers.items) ds.items)) }
+            ensures { IfOk result
+                (λ o. IfSome o
+                (λ ds. AllFinish machine.entry.now.table steps.entry.now
+                (map (λ w. w.pass) workers.items) ds.items)) }
         {
             let mut threads = Vec::with_capacity(global, workers.len())?;
             let mut all = Vec::with_capacity(global, workers.len())?;

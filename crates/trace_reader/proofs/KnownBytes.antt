@@ -19,7 +19,10 @@ keeps_consumes (Some xs) None c bs h k = absurd h
 keeps_consumes (Some xs) (Some ys) None bs h k = absurd k
 keeps_consumes (Some xs) (Some ys) (Some zs) bs h k = sym h ∙ k
 
-pub consumes_both : (a b c : Option (List ℕ)) (xs ys : List ℕ) → Consumes a b xs → Consumes b c ys → Consumes a c (xs ++ ys)
+pub consumes_both : (a b c : Option (List ℕ)) (xs ys : List ℕ)
+    → Consumes a b xs
+    → Consumes b c ys
+    → Consumes a c (xs ++ ys)
 consumes_both None b c xs ys h k = tt
 consumes_both (Some all) None c xs ys h k = absurd h
 consumes_both (Some all) (Some left) None xs ys h k = absurd k
@@ -36,12 +39,17 @@ consumes_none None = tt
 consumes_none (Some xs) = refl
 
 -- bytes held in front of others, of which some are given away
-pub prepend_consumes : (rest : Option (List ℕ)) (before after bs : List ℕ) → before ≡ bs ++ after → Consumes (prepend_known before rest) (prepend_known after rest) bs
+pub prepend_consumes : (rest : Option (List ℕ)) (before after bs : List ℕ)
+    → before ≡ bs ++ after
+    → Consumes (prepend_known before rest) (prepend_known after rest) bs
 prepend_consumes None before after bs e = tt
 prepend_consumes (Some xs) before after bs e = ap (λ ys. ys ++ xs) e ∙ rw append_assoc refl
 
 -- nothing held, and nothing behind it
-pub prepend_end : (rest : Option (List ℕ)) (before : List ℕ) → before ≡ [] → IsAtEnd rest → IsAtEnd (prepend_known before rest)
+pub prepend_end : (rest : Option (List ℕ)) (before : List ℕ)
+    → before ≡ []
+    → IsAtEnd rest
+    → IsAtEnd (prepend_known before rest)
 prepend_end None before e h = tt
 prepend_end (Some xs) before e h = rw (e, h) refl
 

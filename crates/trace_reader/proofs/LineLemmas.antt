@@ -19,7 +19,10 @@ nonempty : (bytes : List ℕ) → (first : List ℕ) × (more : List (List ℕ))
 nonempty [] = ([], [], refl)
 nonempty (x ∷ xs) =
     let inner = nonempty xs in
-    elim (x == 10) as (λ b. (first : List ℕ) × (more : List (List ℕ)) × (cond b ([] ∷ parts xs) (onto_first x (parts xs)) ≡ first ∷ more))
+    elim
+    (x == 10) as (λ b. (first : List ℕ)
+    × (more : List (List ℕ))
+    × (cond b ([] ∷ parts xs) (onto_first x (parts xs)) ≡ first ∷ more))
     [ true ↦ ([], parts xs, refl) | false ↦ (x ∷ inner.0, inner.1, ap (onto_first x) inner.2) ]
 
 pub ended : (line rest : List ℕ) → HasNoEnd line → parts (line ++ 10 ∷ rest) ≡ line ∷ parts rest
@@ -30,16 +33,21 @@ pub alone : (line : List ℕ) → HasNoEnd line → parts line ≡ line ∷ []
 alone [] p = refl
 alone (x ∷ xs) p = rw p.0 (ap (onto_first x) (alone xs p.1))
 
-begun : (line rest : List ℕ) → HasNoEnd line → (whole : List ℕ) × (more : List (List ℕ)) × (parts (line ++ rest) ≡ (line ++ whole) ∷ more)
+begun : (line rest : List ℕ)
+    → HasNoEnd line
+    → (whole : List ℕ) × (more : List (List ℕ)) × (parts (line ++ rest) ≡ (line ++ whole) ∷ more)
 begun [] rest p = nonempty rest
 begun (x ∷ xs) rest p = let inner = begun xs rest p.1 in (inner.0, inner.1, rw p.0 (ap (onto_first x) inner.2))
 
 -- a part that isn't the last stays
-pub stays : (part : List ℕ) (bytes : List ℕ) → without_empty_last (part ∷ parts bytes) ≡ part ∷ without_empty_last (parts bytes)
+pub stays : (part : List ℕ) (bytes : List ℕ)
+    → without_empty_last (part ∷ parts bytes) ≡ part ∷ without_empty_last (parts bytes)
 stays part bytes = let some = nonempty bytes in rw some.2 refl
 
 -- a part with a byte stays
-stays_long : (part : List ℕ) (more : List (List ℕ)) → 0 < length part → (rest : List (List ℕ)) × (without_empty_last (part ∷ more) ≡ part ∷ rest)
+stays_long : (part : List ℕ) (more : List (List ℕ))
+    → 0 < length part
+    → (rest : List (List ℕ)) × (without_empty_last (part ∷ more) ≡ part ∷ rest)
 stays_long [] more h = absurd (omega arith)
 stays_long (x ∷ xs) [] h = ([], grind (arith, nat_tests))
 stays_long (x ∷ xs) (next ∷ more) h = (without_empty_last (next ∷ more), refl)
@@ -71,7 +79,10 @@ at_last line p some short = record {
 }
 
 -- a front of a line that is too long
-pub at_long : (line rest : List ℕ) (left : Option (List ℕ)) → HasNoEnd line → length line ≡ 257 → IsFirstLine (line ++ rest) line left
+pub at_long : (line rest : List ℕ) (left : Option (List ℕ))
+    → HasNoEnd line
+    → length line ≡ 257
+    → IsFirstLine (line ++ rest) line left
 unfolding lines_of
 at_long line rest left p long =
     let cut = begun line rest p in
@@ -84,13 +95,20 @@ at_long line rest left p long =
       next = λ short. absurd (omega (arith, length-append line cut.0));
     }
 
-pub read_end : (all left : Option (List ℕ)) (line : List ℕ) → Consumes all left (line ++ 10 ∷ []) → HasNoEnd line → length line ≤ 256 → ReadsLine true all left line
+pub read_end : (all left : Option (List ℕ)) (line : List ℕ)
+    → Consumes all left (line ++ 10 ∷ [])
+    → HasNoEnd line
+    → length line ≤ 256
+    → ReadsLine true all left line
 read_end None left line h p short = tt
 read_end (Some bytes) None line h p short = absurd h
 read_end (Some bytes) (Some rest) line h p short =
     let same : bytes ≡ line ++ 10 ∷ rest = h ∙ rw append_assoc refl in rw same (at_end line rest p short)
 
-pub read_last : (all now left : Option (List ℕ)) (line : List ℕ) (found : Bool) → Consumes all now line → Consumes now left [] → IsAtEnd now
+pub read_last : (all now left : Option (List ℕ)) (line : List ℕ) (found : Bool)
+    → Consumes all now line
+    → Consumes now left []
+    → IsAtEnd now
     → HasNoEnd line → length line ≤ 256 → found ≡ not (length line == 0) → ReadsLine found all left line
 read_last None now left line found h k e p short f = tt
 read_last (Some bytes) None left line found h k e p short f = absurd h
@@ -102,7 +120,11 @@ read_last (Some bytes) (Some rest) (Some more) (x ∷ xs) found h k e p short f 
     let yes : found ≡ true = f ∙ grind (arith, nat_tests) in
     rw (yes, same, none) (at_last (x ∷ xs) p (omega arith) short)
 
-pub read_long : (all left : Option (List ℕ)) (line : List ℕ) → Consumes all left line → HasNoEnd line → length line ≡ 257 → ReadsLine true all left line
+pub read_long : (all left : Option (List ℕ)) (line : List ℕ)
+    → Consumes all left line
+    → HasNoEnd line
+    → length line ≡ 257
+    → ReadsLine true all left line
 read_long None left line h p long = tt
 read_long (Some bytes) None line h p long = absurd h
 read_long (Some bytes) (Some rest) line h p long = rw h (at_long line rest (Some rest) p long)

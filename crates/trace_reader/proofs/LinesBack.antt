@@ -19,11 +19,17 @@ pub line_last : (line : List ℕ) → HasNoEnd line → 0 < length line → line
 unfolding lines_of
 line_last line p some = rw (alone line p) (only line some)
 
-onto_plain : (byte : ℕ) (parts : List (List ℕ)) → (byte == 10) ≡ false → HaveNoEnds parts → HaveNoEnds (onto_first byte parts)
+onto_plain : (byte : ℕ) (parts : List (List ℕ))
+    → (byte == 10) ≡ false
+    → HaveNoEnds parts
+    → HaveNoEnds (onto_first byte parts)
 onto_plain byte [] e h = ((e, tt), tt)
 onto_plain byte (part ∷ parts) e h = ((e, h.0), h.1)
 
-parts_next : (byte : ℕ) (parts : List (List ℕ)) (b : Bool) → (byte == 10) ≡ b → HaveNoEnds parts → HaveNoEnds (cond b ([] ∷ parts) (onto_first byte parts))
+parts_next : (byte : ℕ) (parts : List (List ℕ)) (b : Bool)
+    → (byte == 10) ≡ b
+    → HaveNoEnds parts
+    → HaveNoEnds (cond b ([] ∷ parts) (onto_first byte parts))
 parts_next byte parts true e h = (tt, h)
 parts_next byte parts false e h = onto_plain byte parts e h
 

@@ -8,11 +8,13 @@ use Rattle.trace_reader.specs.Reading.{HasNoEnd}
 abbrev pub held : ReadAhead → List ℕ
 held a = slice_range a.bytes.items a.start a.end
 
--- all bytes that lines are still to be made of: those that are held, and then those that the source has, where they are known
+-- all bytes that lines are still to be made of: those that are held, and then those that the source
+-- has, where they are known
 abbrev pub left : ReadAhead → Option (List ℕ) → Option (List ℕ)
 left a remaining = prepend_known (held a) remaining
 
--- bytes moved from those that are held to a line: all up to a line's end, or some until nothing is held or the line has 257
+-- bytes moved from those that are held to a line: all up to a line's end, or some until nothing is
+-- held or the line has 257
 pub record Moves (ended : Bool) (before after line next : List ℕ) : Type 0 where
   pub moved : List ℕ
   pub plain : HasNoEnd moved

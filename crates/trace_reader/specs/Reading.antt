@@ -8,7 +8,8 @@ without_empty_last [] = []
 without_empty_last (part ∷ []) = if length part == 0 then [] else part ∷ []
 without_empty_last (part ∷ next ∷ parts) = part ∷ without_empty_last (next ∷ parts)
 
--- the lines of a trace without their ends, the byte 10: the last may lack its end, and nothing behind the last end is no line
+-- the lines of a trace without their ends, the byte 10: the last may lack its end, and nothing
+-- behind the last end is no line
 unfoldable pub lines_of : List ℕ → List (List ℕ)
 lines_of bytes = without_empty_last (slice_split (λ byte. byte == 10) bytes)
 
@@ -27,4 +28,5 @@ pub record IsFirstLine (bytes line : List ℕ) (left : Option (List ℕ)) : Type
 
 -- a line was found and read, or none was left
 abbrev pub ReadsLine : Bool → Option (List ℕ) → Option (List ℕ) → List ℕ → Type 0
-ReadsLine found bytes left line = IfSome bytes (λ all. MatchBool found (IsFirstLine all line left) (all ≡ []))
+ReadsLine found bytes left line =
+    IfSome bytes (λ all. MatchBool found (IsFirstLine all line left) (all ≡ []))

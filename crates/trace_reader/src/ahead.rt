@@ -49,7 +49,9 @@ impl ReadAhead {
 
     /// Where nothing is held, reads once. At the end there is nothing to be had.
     pub(crate) fn fill<S: Source>(&mut self, source: &mut S) -> Result<(), Failed>
-        ensures bytes { OnOk result (Keeps (left self.old (S.remaining source.old)) (left self.new (S.remaining source.new))) }
+        ensures bytes { OnOk result
+            (Keeps (left self.old (S.remaining source.old))
+            (left self.new (S.remaining source.new))) }
         ensures end { OnOk result (held self.new ≡ [] → IsAtEnd (S.remaining source.new)) }
         ensures counted { Counts (S.failures source.old) (S.failures source.new) result }
     {
@@ -86,7 +88,8 @@ impl ReadAhead {
     pub(crate) fn give(&mut self, line: &mut Vec<u8>) -> Result<bool, AllocError>
         requires some { self.old.start < self.old.end }
         requires fits { length line.old.items ≤ 256 }
-        ensures { IfOk result (λ ended. Moves ended (held self.old) (held self.new) line.old.items line.new.items) }
+        ensures { IfOk result
+            (λ ended. Moves ended (held self.old) (held self.new) line.old.items line.new.items) }
     {
         let room = MOST_BYTES + 1 - line.len();
         let all = self.as_slice();

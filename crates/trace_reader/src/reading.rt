@@ -18,7 +18,9 @@ pub fn read_line<S: Source>(
     ahead: &mut ReadAhead,
     line: &mut Vec<u8>,
 ) -> Result<bool, EngineFault>
-    ensures ok { IfOk result (λ found. ReadsLine found (left ahead.old (S.remaining source.old)) (left ahead.new (S.remaining source.new)) line.new.items) }
+    ensures ok { IfOk result
+        (λ found. ReadsLine found (left ahead.old (S.remaining source.old))
+        (left ahead.new (S.remaining source.new)) line.new.items) }
     ensures counted { TellsRead (S.failures source.old) (S.failures source.new) result }
 {
     line.clear();

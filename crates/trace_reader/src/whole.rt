@@ -23,7 +23,9 @@ pub fn lines<'a>(global: Global, trace: &'a [u8]) -> Result<Vec<&'a [u8]>, Alloc
 
 /// What is before, between and after the line ends.
 fn parts<'a>(global: Global, trace: &'a [u8]) -> Result<Vec<&'a [u8]>, AllocError>
-    ensures { IfOk result (λ parts. map (λ part. part.now) parts.items ≡ slice_split (λ byte. byte == 10) trace.now) }
+    ensures { IfOk result
+        (λ parts. map (λ part. part.now) parts.items
+        ≡ slice_split (λ byte. byte == 10) trace.now) }
 {
     trace.split(|byte| *byte == b'\n').collect(global)
 }

@@ -19,7 +19,8 @@ use Rattle.trace_lines.proofs.Saying.{IsOf, asked_suits}
 use Rattle.trace_text.specs.Laws.{step_said, step_asked}
 use Rattle.trace_text.specs.Session.{allowed}
 
--- settings and the boot stand before the boot and ask for no step, all else stands behind it, and a step line asks for its step
+-- settings and the boot stand before the boot and ask for no step, all else stands behind it, and a step line asks for
+-- its step
 abbrev pub FitsLine : Bool → Option (ℕ × Step) → Line → Type 0
 FitsLine booted wanted (lines.Setting setting) = (booted ≡ false) × (wanted ≡ None)
 FitsLine booted wanted lines.Boot = (booted ≡ false) × (wanted ≡ None)
@@ -35,7 +36,8 @@ Fits booted (Ok (Some line)) wanted = FitsLine booted wanted line
 
 -- a line that stands before the boot alone
 before : (may counted : Bool) (o : Option Line) → IfSome o (FitsLine false None)
-    → Fits false (if not may then Err Place else (if not counted then Err Count else ok_or (option_map Some o) Form)) None
+    → Fits false
+    (if not may then Err Place else (if not counted then Err Count else ok_or (option_map Some o) Form)) None
 before false counted o h = tt
 before true false o h = tt
 before true true None h = tt
@@ -43,12 +45,15 @@ before true true (Some line) h = h
 
 -- and one that stands behind it
 after : (counted : Bool) (o : Option Line) → IfSome o (λ line. FitsLine true (step_said (Ok (Some line))) line)
-    → Fits true (if not counted then Err Count else ok_or (option_map Some o) Form) (step_said (if not counted then Err Count else ok_or (option_map Some o) Form))
+    → Fits true (if not counted then Err Count else ok_or (option_map Some o) Form)
+    (step_said (if not counted then Err Count else ok_or (option_map Some o) Form))
 after false o h = tt
 after true None h = tt
 after true (Some line) h = h
 
-of_setting : (name : SettingName) (o : Option Line) → IfSome o (IsOf (verbs.Setting name)) → IfSome o (FitsLine false None)
+of_setting : (name : SettingName) (o : Option Line)
+    → IfSome o (IsOf (verbs.Setting name))
+    → IfSome o (FitsLine false None)
 of_setting name None h = tt
 of_setting name (Some (lines.Setting setting)) h = (refl, refl)
 of_setting name (Some line) h = absurd h
@@ -58,24 +63,34 @@ of_boot None h = tt
 of_boot (Some lines.Boot) h = (refl, refl)
 of_boot (Some line) h = absurd h
 
-of_step : (o : Option Line) → IfSome o (IsOf verbs.Step) → IfSome o (λ line. FitsLine true (step_said (Ok (Some line))) line)
+of_step : (o : Option Line)
+    → IfSome o (IsOf verbs.Step)
+    → IfSome o (λ line. FitsLine true (step_said (Ok (Some line))) line)
 of_step None h = tt
 of_step (Some (lines.Step cpu step)) h = (refl, refl)
 of_step (Some line) h = absurd h
 
-of_query : (o : Option Line) → IfSome o (IsOf verbs.Query) → IfSome o (λ line. FitsLine true (step_said (Ok (Some line))) line)
+of_query : (o : Option Line)
+    → IfSome o (IsOf verbs.Query)
+    → IfSome o (λ line. FitsLine true (step_said (Ok (Some line))) line)
 of_query None h = tt
 of_query (Some (lines.Query query)) h = (refl, refl)
 of_query (Some line) h = absurd h
 
-of_start : (o : Option Line) → IfSome o (IsOf verbs.Start) → IfSome o (λ line. FitsLine true (step_said (Ok (Some line))) line)
+of_start : (o : Option Line)
+    → IfSome o (IsOf verbs.Start)
+    → IfSome o (λ line. FitsLine true (step_said (Ok (Some line))) line)
 of_start None h = tt
 of_start (Some lines.Start) h = (refl, refl)
 of_start (Some line) h = absurd h
 
 by_verb : (told : Told) (booted started counted : Bool) (verb : Verb) (o : Option Line) → IfSome o (IsOf verb)
-    → Fits booted (if not (may_stand (allowed booted started) told verb) then Err Place else (if not counted then Err Count else ok_or (option_map Some o) Form))
-    (step_said (if not (may_stand (of_replay false) nothing_told verb) then Err Place else (if not counted then Err Count else ok_or (option_map Some o) Form)))
+    → Fits booted
+    (if not (may_stand (allowed booted started) told verb) then Err Place
+    else (if not counted then Err Count else ok_or (option_map Some o) Form))
+    (step_said
+    (if not (may_stand (of_replay false) nothing_told verb) then Err Place
+    else (if not counted then Err Count else ok_or (option_map Some o) Form)))
 by_verb told true started counted (verbs.Setting name) o h = tt
 by_verb told true started counted verbs.Boot o h = tt
 by_verb told true started counted verbs.Step o h = after counted o (of_step o h)
@@ -83,29 +98,37 @@ by_verb told true started counted verbs.Query o h = after counted o (of_query o 
 by_verb told true started counted verbs.Poke o h = tt
 by_verb told true false counted verbs.Start o h = after counted o (of_start o h)
 by_verb told true true counted verbs.Start o h = tt
-by_verb told false started counted (verbs.Setting name) o h = before (may_tell told name) counted o (of_setting name o h)
+by_verb told false started counted (verbs.Setting name) o h =
+    before (may_tell told name) counted o (of_setting name o h)
 by_verb told false started counted verbs.Boot o h = before (is_some told.carve) counted o (of_boot o h)
 by_verb told false started counted verbs.Step o h = tt
 by_verb told false started counted verbs.Query o h = tt
 by_verb told false started counted verbs.Poke o h = tt
 by_verb told false started counted verbs.Start o h = tt
 
-by_asked : (told : Told) (booted started : Bool) (count : ℕ) (o : Option Asked) → IfSome o (λ a. IfSome a.line (IsOf a.verb))
-    → Fits booted (said_by_asked (allowed booted started) told count o) (step_said (said_by_asked (of_replay false) nothing_told count o))
+by_asked : (told : Told) (booted started : Bool) (count : ℕ) (o : Option Asked)
+    → IfSome o (λ a. IfSome a.line (IsOf a.verb))
+    → Fits booted (said_by_asked (allowed booted started) told count o)
+    (step_said (said_by_asked (of_replay false) nothing_told count o))
 by_asked told booted started count None h = tt
 by_asked told booted started count (Some a) h = by_verb told booted started (count == a.words) a.verb a.line h
 
 -- the tests of bytes and spaces in front
 behind : (booted long stray silent spaced : Bool) (x y : Result (Option Line) LineFault) → Fits booted x (step_said y)
-    → Fits booted (if long then Err Long else (if stray then Err Byte else (if silent then Ok None else (if spaced then Err Space else x))))
-    (step_said (if long then Err Long else (if stray then Err Byte else (if silent then Ok None else (if spaced then Err Space else y)))))
+    → Fits booted
+    (if long then Err Long
+    else (if stray then Err Byte else (if silent then Ok None else (if spaced then Err Space else x))))
+    (step_said
+    (if long then Err Long
+    else (if stray then Err Byte else (if silent then Ok None else (if spaced then Err Space else y)))))
 behind booted true stray silent spaced x y h = tt
 behind booted false true silent spaced x y h = tt
 behind booted false false true spaced x y h = refl
 behind booted false false false true x y h = tt
 behind booted false false false false x y h = h
 
-pub fits : (told : Told) (booted started : Bool) (line : List ℕ) → Fits booted (said (allowed booted started) told line) (step_asked line)
+pub fits : (told : Told) (booted started : Bool) (line : List ℕ)
+    → Fits booted (said (allowed booted started) told line) (step_asked line)
 unfolding said
 fits told booted started line =
     behind booted (nat_lt 256 (length line)) (has_stray_byte line) (is_silent line) (has_stray_space line) _ _

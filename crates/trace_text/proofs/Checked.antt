@@ -18,7 +18,8 @@ use Rattle.trace_text.specs.Worlds.{Machine}
 -- the judgement of the same call
 same_call : (l k : Layout) (a b : Reference) (s t : Reference) (cpu n : ℕ) (step other : Step) (reply said : Reply)
     → l ≡ k → a ≡ b → s ≡ t → cpu ≡ n → step ≡ other → reply ≡ said
-    → JudgeAgrees a.contents step reply s.contents (foretell l a cpu step) → JudgeAgrees b.contents other said t.contents (foretell k b n other)
+    → JudgeAgrees a.contents step reply s.contents (foretell l a cpu step)
+    → JudgeAgrees b.contents other said t.contents (foretell k b n other)
 same_call l k a b s t cpu n step other reply said lk ab st cn so rs h =
     subst (λ x. JudgeAgrees b.contents other x t.contents (foretell k b n other)) rs
     (subst (λ x. JudgeAgrees b.contents x reply t.contents (foretell k b n x)) so
@@ -27,10 +28,13 @@ same_call l k a b s t cpu n step other reply said lk ab st cn so rs h =
     (subst (λ x. JudgeAgrees x.contents step reply s.contents (foretell k x cpu step)) ab
     (subst (λ x. JudgeAgrees a.contents step reply s.contents (foretell x a cpu step)) lk h)))))
 
-module _ (m : Machine) (c : Call) (t : Reference) (before : Ghost) (cpu : ℕ) (step : Step) (reply : Reply) (after walked : Ghost)
+module _ (m : Machine) (c : Call) (t : Reference) (before : Ghost) (cpu : ℕ) (step : Step) (reply : Reply)
+    (after walked : Ghost)
     (shown : IsShown m c t before cpu step reply after walked) where
   pub judged_well : JudgeAgrees (contents_in before) step reply (contents_in after) (told_of before cpu step)
-  judged_well = same_call _ _ _ _ _ _ c.cpu cpu c.step step c.reply reply (sym shown.layout) (sym shown.before_is) (sym shown.after_is) shown.cpu_is shown.step_is shown.reply_is (step_agrees m.layout m.state t c shown.made)
+  judged_well =
+      same_call _ _ _ _ _ _ c.cpu cpu c.step step c.reply reply (sym shown.layout) (sym shown.before_is)
+      (sym shown.after_is) shown.cpu_is shown.step_is shown.reply_is (step_agrees m.layout m.state t c shown.made)
 
   pub audited_well : AuditAgrees (contents_in after) (contents_in walked)
   audited_well = none_differs _ _ (ap (λ (s : Reference). s.contents) (shown.after_is ∙ sym shown.walked_is))

@@ -31,26 +31,45 @@ module _ {X : Type 0} where
   writes_told (Err NoMemory) w0 w1 w2 e h = h ∙ e
 
   -- and where its fault is passed on
-  told_again : (r : Result X EngineFault) (e : EngineFault) (w0 w1 : ℕ) → IsErrAnd r (λ f. f ≡ e) → TellsWrite {X = X} w0 w1 (Err e) → TellsWrite w0 w1 r
+  told_again : (r : Result X EngineFault) (e : EngineFault) (w0 w1 : ℕ)
+      → IsErrAnd r (λ f. f ≡ e)
+      → TellsWrite {X = X} w0 w1 (Err e)
+      → TellsWrite w0 w1 r
   told_again (Ok x) e w0 w1 h t = absurd h
   told_again (Err Read) e w0 w1 h t = subst (λ f. TellsWrite {X = X} w0 w1 (Err f)) (sym h) t
   told_again (Err Write) e w0 w1 h t = subst (λ f. TellsWrite {X = X} w0 w1 (Err f)) (sym h) t
   told_again (Err NoMemory) e w0 w1 h t = subst (λ f. TellsWrite {X = X} w0 w1 (Err f)) (sym h) t
 
-  pub reads_passed : (r : Result X EngineFault) (e : EngineFault) (s0 s1 w0 w1 : ℕ) → IsErrAnd r (λ f. f ≡ e) → s1 ≡ s0 → TellsWrite {X = X} w0 w1 (Err e) → CountsReads s0 s1 r
+  pub reads_passed : (r : Result X EngineFault) (e : EngineFault) (s0 s1 w0 w1 : ℕ)
+      → IsErrAnd r (λ f. f ≡ e)
+      → s1 ≡ s0
+      → TellsWrite {X = X} w0 w1 (Err e)
+      → CountsReads s0 s1 r
   reads_passed r e s0 s1 w0 w1 h same t = reads_same r s0 s1 w0 w1 same (told_again r e w0 w1 h t)
 
-  pub writes_passed : (r : Result X EngineFault) (e : EngineFault) (w0 w1 w2 : ℕ) → IsErrAnd r (λ f. f ≡ e) → w1 ≡ w0 → TellsWrite {X = X} w1 w2 (Err e) → CountsWrites w0 w2 r
+  pub writes_passed : (r : Result X EngineFault) (e : EngineFault) (w0 w1 w2 : ℕ)
+      → IsErrAnd r (λ f. f ≡ e)
+      → w1 ≡ w0
+      → TellsWrite {X = X} w1 w2 (Err e)
+      → CountsWrites w0 w2 r
   writes_passed r e w0 w1 w2 h same t = writes_told r w0 w1 w2 same (told_again r e w1 w2 h t)
 
   -- by what a read told, where its fault is passed on
-  pub read_failed : (r : Result X EngineFault) (e : EngineFault) (s0 s1 s2 : ℕ) → IsErrAnd r (λ f. f ≡ e) → s1 ≡ s0 → TellsRead {X = X} s1 s2 (Err e) → CountsReads s0 s2 r
+  pub read_failed : (r : Result X EngineFault) (e : EngineFault) (s0 s1 s2 : ℕ)
+      → IsErrAnd r (λ f. f ≡ e)
+      → s1 ≡ s0
+      → TellsRead {X = X} s1 s2 (Err e)
+      → CountsReads s0 s2 r
   read_failed (Ok x) e s0 s1 s2 h same t = absurd h
   read_failed (Err Read) e s0 s1 s2 h same t = subst (λ f. TellsRead {X = X} s1 s2 (Err f)) (sym h) t ∙ ap one_more same
   read_failed (Err Write) e s0 s1 s2 h same t = absurd (subst (λ f. TellsRead {X = X} s1 s2 (Err f)) (sym h) t)
   read_failed (Err NoMemory) e s0 s1 s2 h same t = subst (λ f. TellsRead {X = X} s1 s2 (Err f)) (sym h) t ∙ same
 
-  pub writes_none : (r : Result X EngineFault) (e : EngineFault) (s1 s2 w0 w1 : ℕ) → IsErrAnd r (λ f. f ≡ e) → w1 ≡ w0 → TellsRead {X = X} s1 s2 (Err e) → CountsWrites w0 w1 r
+  pub writes_none : (r : Result X EngineFault) (e : EngineFault) (s1 s2 w0 w1 : ℕ)
+      → IsErrAnd r (λ f. f ≡ e)
+      → w1 ≡ w0
+      → TellsRead {X = X} s1 s2 (Err e)
+      → CountsWrites w0 w1 r
   writes_none (Ok x) e s1 s2 w0 w1 h same t = absurd h
   writes_none (Err Read) e s1 s2 w0 w1 h same t = same
   writes_none (Err Write) e s1 s2 w0 w1 h same t = absurd (subst (λ f. TellsRead {X = X} s1 s2 (Err f)) (sym h) t)

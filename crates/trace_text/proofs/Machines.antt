@@ -46,10 +46,16 @@ module _ {A : Type 0} (w : World A) where
   hyp_depth : levels_below s.hyp.tree.geometry ≡ (machine_of w).layout.depth
   hyp_depth = s.alike ∙ host_depth
 
-  count_is : (name : TreeName) (t : Tree A) → levels_below t.geometry ≡ (machine_of w).layout.depth → tree_told (machine_of w) name ≡ tree_of t → table_count t.geometry (tree_of t) ≡ tables_told (machine_of w) name
+  count_is : (name : TreeName) (t : Tree A)
+      → levels_below t.geometry ≡ (machine_of w).layout.depth
+      → tree_told (machine_of w) name ≡ tree_of t
+      → table_count t.geometry (tree_of t) ≡ tables_told (machine_of w) name
   count_is name t depth told =
       ap (λ d. length (filter (λ b. is_some ((tree_of t).table b)) (blocks_in (d + 1) 0))) depth
-      ∙ ap (λ (x : ReferenceTree). length (filter (λ b. is_some (x.table b)) (blocks_in ((machine_of w).layout.depth + 1) 0))) (sym told)
+      ∙ ap
+      (λ (x : ReferenceTree). length
+      (filter (λ b. is_some (x.table b)) (blocks_in ((machine_of w).layout.depth + 1) 0)))
+      (sym told)
 
   pub host_count : table_count s.host.tree.geometry (tree_of s.host.tree) ≡ tables_told (machine_of w) Host
   host_count = count_is Host s.host.tree host_depth refl
@@ -71,23 +77,37 @@ module _ {A : Type 0} (w : World A) (slot : ℕ) where
   guest_told = guest_is (slice_get w.parts.guests.items slot)
 
   -- it is looked up among the Guest parts
-  pub held_at : (g : GuestPart A) → slot < length w.parts.guests.items → g ≡ get_or w.parts.guests.items slot g → body_at w slot ≡ g.guest.body
+  pub held_at : (g : GuestPart A)
+      → slot < length w.parts.guests.items
+      → g ≡ get_or w.parts.guests.items slot g
+      → body_at w slot ≡ g.guest.body
   held_at g l e = ap body_in (slice_get-get_or w.parts.guests.items slot g l ∙ ap Some (sym e))
 
   pub none_at : length w.parts.guests.items ≤ slot → body_at w slot ≡ None
   none_at past = ap body_in (slice_get_past w.parts.guests.items slot past)
 
-  pub guest_tree : (o : Option (Body A)) → body_at w slot ≡ o → tree_told (machine_of w) (Guest slot) ≡ (guest_in o).tree
+  pub guest_tree : (o : Option (Body A))
+      → body_at w slot ≡ o
+      → tree_told (machine_of w) (Guest slot) ≡ (guest_in o).tree
   guest_tree o e = ap (λ (x : ReferenceGuest). x.tree) (guest_told ∙ ap guest_in e)
 
-  pub guest_free_is : (o : Option (Body A)) → body_at w slot ≡ o → length (guest_in o).free ≡ guest_free_told (machine_of w) slot
+  pub guest_free_is : (o : Option (Body A))
+      → body_at w slot ≡ o
+      → length (guest_in o).free ≡ guest_free_told (machine_of w) slot
   guest_free_is o e = ap (λ (x : ReferenceGuest). length x.free) (sym (guest_told ∙ ap guest_in e))
 
 -- the maplets that a world keeps are those of its trees
 module _ {A : Type 0} (w : World A) where
-  of_guest : (slot : ℕ) (o : Option (Body A)) → body_at w slot ≡ o → HasMaplets (tree_told (machine_of w) (Guest slot)) (runs_of o)
+  of_guest : (slot : ℕ) (o : Option (Body A))
+      → body_at w slot ≡ o
+      → HasMaplets (tree_told (machine_of w) (Guest slot)) (runs_of o)
   of_guest slot None e = record { map_is = ap (λ (x : ReferenceTree). x.map) (guest_tree w slot None e); coarsest = tt }
-  of_guest slot (Some b) e = record { map_is = ap (λ (x : ReferenceTree). x.map) (guest_tree w slot (Some b) e) ∙ b.map.agree; coarsest = b.map.coarsest }
+  of_guest slot (Some b) e =
+      record {
+        map_is = ap (λ (x : ReferenceTree). x.map) (guest_tree w slot (Some b) e)
+            ∙ b.map.agree;
+        coarsest = b.map.coarsest;
+      }
 
   pub has_maplets : (tree : TreeName) → HasMaplets (tree_told (machine_of w) tree) (runs_in (Some w) tree)
   has_maplets Host = record { map_is = w.parts.shared.host.agree; coarsest = w.parts.shared.host.coarsest }
@@ -123,7 +143,12 @@ all_passed p q a l x y z = grind (arith, nat_tests)
 passed : (p q a l : ℕ) → (nat_lt p q && (nat_le a l && nat_le l 3)) ≡ true → (p < q) × (a ≤ l) × (l ≤ 3)
 passed p q a l e = go (nat_lt p q) (nat_le a l) (nat_le l 3) refl refl refl e
   where
-    go : (b c d : Bool) → nat_lt p q ≡ b → nat_le a l ≡ c → nat_le l 3 ≡ d → (b && (c && d)) ≡ true → (p < q) × (a ≤ l) × (l ≤ 3)
+    go : (b c d : Bool)
+        → nat_lt p q ≡ b
+        → nat_le a l ≡ c
+        → nat_le l 3 ≡ d
+        → (b && (c && d)) ≡ true
+        → (p < q) × (a ≤ l) × (l ≤ 3)
     go true true true x y z e = (grind (arith, nat_tests), grind (arith, nat_tests), grind (arith, nat_tests))
     go true true false x y z e = absurd (let h = e in cc)
     go true false d x y z e = absurd (let h = e in cc)
@@ -143,12 +168,16 @@ module _ {A : Type 0} (t : Tree A) (page level : ℕ) where
   path : List ℕ
   path = path_of page (levels_below t.geometry) (level + 1 - (3 - levels_below t.geometry))
 
-  block_is : page < input_pages t.geometry → 3 - levels_below t.geometry ≤ level → level ≤ 3 → block_of t.geometry path ≡ block_at (3 - level) page
+  block_is : page < input_pages t.geometry
+      → 3 - levels_below t.geometry ≤ level
+      → level ≤ 3
+      → block_of t.geometry path ≡ block_at (3 - level) page
   unfolding path
   block_is a b c =
       let few = levels_most t.geometry in
       page_block t.geometry _ page (3 - levels_below t.geometry) level (omega (arith, few)) b c a
-      (ap (λ d. path_of page d (level + 1 - (3 - levels_below t.geometry))) (let same : levels_below t.geometry ≡ 3 - (3 - levels_below t.geometry) = omega (arith, few) in same))
+      (ap (λ d. path_of page d (level + 1 - (3 - levels_below t.geometry)))
+      (let same : levels_below t.geometry ≡ 3 - (3 - levels_below t.geometry) = omega (arith, few) in same))
 
   count : length path ≡ level + 1 - (3 - levels_below t.geometry)
   unfolding path
@@ -158,7 +187,11 @@ module _ {A : Type 0} (t : Tree A) (page level : ℕ) where
   unfolding path
   small = indices_small page (levels_below t.geometry) (level + 1 - (3 - levels_below t.geometry))
 
-  to_page : page < input_pages t.geometry → 3 - levels_below t.geometry ≤ level → level ≤ 3 → HasWord t.geometry (tree_of t) path → HasWordOn (levels_below t.geometry) (tree_of t) page level
+  to_page : page < input_pages t.geometry
+      → 3 - levels_below t.geometry ≤ level
+      → level ≤ 3
+      → HasWord t.geometry (tree_of t) path
+      → HasWordOn (levels_below t.geometry) (tree_of t) page level
   to_page a b c h =
       let few = levels_most t.geometry in
       let many = count in
@@ -167,7 +200,9 @@ module _ {A : Type 0} (t : Tree A) (page level : ℕ) where
         good = a;
         top = omega (arith, few);
         bottom = c;
-        stands = λ below. subst (λ x. IsSome ((tree_of t).table (block_above x))) (block_is a b c) (h.stands (omega (arith, few, many)));
+        stands =
+            λ below. subst (λ x. IsSome ((tree_of t).table (block_above x))) (block_is a b c)
+            (h.stands (omega (arith, few, many)));
       }
 
   from_page : HasWordOn (levels_below t.geometry) (tree_of t) page level → HasWord t.geometry (tree_of t) path
@@ -180,20 +215,34 @@ module _ {A : Type 0} (t : Tree A) (page level : ℕ) where
         some = omega (arith, few, many, top);
         no_deeper = omega (arith, few, many, bottom);
         indices = all_small path small;
-        stands = λ two. subst (λ x. IsSome ((tree_of t).table (block_above x))) (sym (block_is h.good (omega (arith, top)) h.bottom)) (h.stands (omega (arith, few, many, two)));
+        stands =
+            λ two. subst (λ x. IsSome ((tree_of t).table (block_above x)))
+            (sym (block_is h.good (omega (arith, top)) h.bottom)) (h.stands (omega (arith, few, many, two)));
       }
 
-  found : (r : Option ℕ) → r ≡ word_of t path → page < input_pages t.geometry → 3 - levels_below t.geometry ≤ level → level ≤ 3
-      → IfSome r (λ w. IsWordOf (tree_of t) (block_at (3 - level) page) w) → IfSome r (λ _. IsRunOrTable (tree_of t) (block_at (3 - level) page)) → IsWordOn (levels_below t.geometry) (tree_of t) page level r
+  found : (r : Option ℕ)
+      → r ≡ word_of t path
+      → page < input_pages t.geometry
+      → 3 - levels_below t.geometry ≤ level
+      → level ≤ 3
+      → IfSome r (λ w. IsWordOf (tree_of t) (block_at (3 - level) page) w)
+      → IfSome r (λ _. IsRunOrTable (tree_of t) (block_at (3 - level) page))
+      → IsWordOn (levels_below t.geometry) (tree_of t) page level r
   found None e a b c said run = λ has. nothing (word_of t path) (sym e) ((word_where t path).1 (from_page has))
   found (Some w) e a b c said run = (to_page a b c ((word_where t path).0 (rw (sym e) refl)), said, run)
 
-  pub is_word_on : (r : Option ℕ) → r ≡ word_on t page level → IfSome r (λ w. IsWordOf (tree_of t) (block_at (3 - level) page) w) → IfSome r (λ _. IsRunOrTable (tree_of t) (block_at (3 - level) page))
+  pub is_word_on : (r : Option ℕ)
+      → r ≡ word_on t page level
+      → IfSome r (λ w. IsWordOf (tree_of t) (block_at (3 - level) page) w)
+      → IfSome r (λ _. IsRunOrTable (tree_of t) (block_at (3 - level) page))
       → IsWordOn (levels_below t.geometry) (tree_of t) page level r
   unfolding word_on path
-  is_word_on r e said run = go (nat_lt page (input_pages t.geometry) && (nat_le (3 - levels_below t.geometry) level && nat_le level 3)) refl e
+  is_word_on r e said run =
+      go (nat_lt page (input_pages t.geometry) && (nat_le (3 - levels_below t.geometry) level && nat_le level 3)) refl e
     where
-      go : (b : Bool) → (nat_lt page (input_pages t.geometry) && (nat_le (3 - levels_below t.geometry) level && nat_le level 3)) ≡ b → r ≡ (if b then word_of t path else None)
+      go : (b : Bool)
+          → (nat_lt page (input_pages t.geometry) && (nat_le (3 - levels_below t.geometry) level && nat_le level 3)) ≡ b
+          → r ≡ (if b then word_of t path else None)
           → IsWordOn (levels_below t.geometry) (tree_of t) page level r
       go true n e = let all = passed _ _ _ _ n in found r e all.0 all.1 all.2 said run
       go false n e =
@@ -202,14 +251,22 @@ module _ {A : Type 0} (t : Tree A) (page level : ℕ) where
 
 -- the word that a world's tree has, told of its machine
 module _ {A : Type 0} (w : World A) (page level : ℕ) (r : Option ℕ) where
-  on_tree : (name : TreeName) (t : Tree A) → levels_below t.geometry ≡ (machine_of w).layout.depth → tree_told (machine_of w) name ≡ tree_of t → IsWordOn (levels_below t.geometry) (tree_of t) page level r
+  on_tree : (name : TreeName) (t : Tree A)
+      → levels_below t.geometry ≡ (machine_of w).layout.depth
+      → tree_told (machine_of w) name ≡ tree_of t
+      → IsWordOn (levels_below t.geometry) (tree_of t) page level r
       → IsWordOn (machine_of w).layout.depth (tree_told (machine_of w) name) page level r
-  on_tree name t depth told h = subst (λ x. IsWordOn (machine_of w).layout.depth x page level r) (sym told) (subst (λ d. IsWordOn d (tree_of t) page level r) depth h)
+  on_tree name t depth told h =
+      subst (λ x. IsWordOn (machine_of w).layout.depth x page level r) (sym told)
+      (subst (λ d. IsWordOn d (tree_of t) page level r) depth h)
 
-  pub host_word : IsWordOn (levels_below w.parts.shared.host.tree.geometry) (tree_of w.parts.shared.host.tree) page level r → IsWordOn (machine_of w).layout.depth (tree_told (machine_of w) Host) page level r
+  pub host_word : IsWordOn (levels_below w.parts.shared.host.tree.geometry)
+      (tree_of w.parts.shared.host.tree) page level r
+      → IsWordOn (machine_of w).layout.depth (tree_told (machine_of w) Host) page level r
   host_word h = on_tree Host w.parts.shared.host.tree (host_depth w) refl h
 
-  pub hyp_word : IsWordOn (levels_below w.parts.shared.hyp.tree.geometry) (tree_of w.parts.shared.hyp.tree) page level r → IsWordOn (machine_of w).layout.depth (tree_told (machine_of w) Hyp) page level r
+  pub hyp_word : IsWordOn (levels_below w.parts.shared.hyp.tree.geometry) (tree_of w.parts.shared.hyp.tree) page level r
+      → IsWordOn (machine_of w).layout.depth (tree_told (machine_of w) Hyp) page level r
   hyp_word h = on_tree Hyp w.parts.shared.hyp.tree (hyp_depth w) refl h
 
 -- what holds of all holds at a place
@@ -221,15 +278,30 @@ all_at Is xs k h = elim (slice_get_cases xs k).1 [
 
 -- the word that a guest's tree has, if it isn't Empty
 module _ {A : Type 0} (w : World A) (slot page level : ℕ) where
-  guest_depths : (o : Option (GuestPart A)) (b : Body A) → IfSome o (λ g. levels_below g.guest.geometry ≡ (machine_of w).layout.depth) → body_in o ≡ Some b → levels_below b.map.tree.geometry ≡ (machine_of w).layout.depth
+  guest_depths : (o : Option (GuestPart A)) (b : Body A)
+      → IfSome o (λ g. levels_below g.guest.geometry ≡ (machine_of w).layout.depth)
+      → body_in o ≡ Some b
+      → levels_below b.map.tree.geometry ≡ (machine_of w).layout.depth
   guest_depths None b h e = absurd (let k = e in cc)
   guest_depths (Some g) b h e = ap levels_below (subst (IsOfGeometry g.guest.geometry) e g.guest.alike) ∙ h
 
-  pub guest_word : (b : Body A) → body_at w slot ≡ Some b → (r : Option ℕ) → IsWordOn (levels_below b.map.tree.geometry) (tree_of b.map.tree) page level r
+  pub guest_word : (b : Body A)
+      → body_at w slot ≡ Some b
+      → (r : Option ℕ)
+      → IsWordOn (levels_below b.map.tree.geometry) (tree_of b.map.tree) page level r
       → IsWordOn (machine_of w).layout.depth (tree_told (machine_of w) (Guest slot)) page level r
   guest_word b e r h =
-      let depth = guest_depths (slice_get w.parts.guests.items slot) b (all_at (λ g. levels_below g.guest.geometry ≡ (machine_of w).layout.depth) w.parts.guests.items slot w.parts.guest_depth) e in
-      subst (λ x. IsWordOn (machine_of w).layout.depth x page level r) (sym (guest_tree w slot (Some b) e)) (subst (λ d. IsWordOn d (tree_of b.map.tree) page level r) depth h)
+      let depth =
+      guest_depths (slice_get w.parts.guests.items slot) b
+      (all_at
+      (λ g. levels_below g.guest.geometry ≡ (machine_of w).layout.depth) w.parts.guests.items slot
+      w.parts.guest_depth) e in
+      subst (λ x. IsWordOn (machine_of w).layout.depth x page level r) (sym (guest_tree w slot (Some b) e))
+      (subst (λ d. IsWordOn d (tree_of b.map.tree) page level r) depth h)
 
-  pub no_guest_word : body_at w slot ≡ None → IsWordOn (machine_of w).layout.depth (tree_told (machine_of w) (Guest slot)) page level None
-  no_guest_word e = λ has. let root = subst (λ (x : ReferenceTree). IsSome (x.table ((machine_of w).layout.depth + 1, 0))) (guest_tree w slot None e) has.root in cc
+  pub no_guest_word : body_at w slot ≡ None
+      → IsWordOn (machine_of w).layout.depth (tree_told (machine_of w) (Guest slot)) page level None
+  no_guest_word e = λ has. let root =
+      subst (λ (x : ReferenceTree). IsSome (x.table ((machine_of w).layout.depth + 1, 0)))
+      (guest_tree w slot None e) has.root in
+      cc

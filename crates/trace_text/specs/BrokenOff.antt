@@ -1,4 +1,5 @@
--- Laws of reports: what a report that broke off says of its trace, and which step lines are answered.
+-- Laws of reports: what a report that broke off says of its trace, and which step lines are
+-- answered.
 use Rattle.std.specs.Prelude.{◌≡◌, ◌≤◌, ℕ, List, ◌++◌, length, map, take, Some}
 use Rattle.call_table.specs.declared.reply.Reply.{Reply}
 use Rattle.call_table.specs.declared.step.Step.{Step}
@@ -21,7 +22,8 @@ asking steps = map (λ s. s.0) steps
 
 module _ (gives : Gives) where
   -- lines that are the report of the first lines of a trace, but for one line more at most
-  pub record ReportsFront (number : ℕ) (start : Standing) (trace : List (List ℕ)) (lines : List ReportLine) : Type 0 where
+  pub record ReportsFront (number : ℕ) (start : Standing) (trace : List (List ℕ))
+      (lines : List ReportLine) : Type 0 where
     pub front : List (List ℕ)
     pub rest : List (List ℕ)
     pub parts : trace ≡ front ++ rest
@@ -30,9 +32,13 @@ module _ (gives : Gives) where
     pub outcome : Outcome
     pub report : IsReport gives number start front (lines ++ last) outcome
 
-  -- a report that may break off behind each line of the trace is that of the lines before, but for its last line
+  -- a report that may break off behind each line of the trace is that of the lines before, but for
+  -- its last line
   abbrev pub BeginningReports : Type 0
-  BeginningReports = (number : ℕ) (start : Standing) (trace : List (List ℕ)) (lines : List ReportLine) → IsBeginning gives number start trace lines → ReportsFront number start trace lines
+  BeginningReports =
+      (number : ℕ) (start : Standing) (trace : List (List ℕ)) (lines : List ReportLine)
+      → IsBeginning gives number start trace lines
+      → ReportsFront number start trace lines
 
   -- bytes that were written: a front of the text of the report of the first lines of a trace
   pub record WritesReport (trace old new : List ℕ) : Type 0 where
@@ -47,14 +53,22 @@ module _ (gives : Gives) where
 
   -- what a replay wrote before it failed
   abbrev pub BegunWrites : Type 0
-  BegunWrites = (trace old new : List ℕ) → IsBegun gives (Some trace) (Some old) (Some new) → WritesReport trace old new
+  BegunWrites =
+      (trace old new : List ℕ)
+      → IsBegun gives (Some trace) (Some old) (Some new)
+      → WritesReport trace old new
 
   -- the replies of a report are those of the trace's first step lines, CPU for CPU
   abbrev pub FirstAnswered : Type 0
-  FirstAnswered = (trace : List (List ℕ)) (reported : List ReportLine) (outcome : Outcome) → IsReport gives 1 at_start trace reported outcome
+  FirstAnswered =
+      (trace : List (List ℕ)) (reported : List ReportLine) (outcome : Outcome)
+      → IsReport gives 1 at_start trace reported outcome
       → (left : List ℕ) × (asking (steps_asked trace) ≡ replying (replies_told reported) ++ left)
 
   -- and where it ends without a fault, of all of them
   abbrev pub AllAnswered : Type 0
-  AllAnswered = (trace : List (List ℕ)) (reported : List ReportLine) (outcome : Outcome) → IsReport gives 1 at_start trace reported outcome
-      → (outcome ≡ outcomes.Fault → ⊥) → asking (steps_asked trace) ≡ replying (replies_told reported)
+  AllAnswered =
+      (trace : List (List ℕ)) (reported : List ReportLine) (outcome : Outcome)
+      → IsReport gives 1 at_start trace reported outcome
+      → (outcome ≡ outcomes.Fault → ⊥)
+      → asking (steps_asked trace) ≡ replying (replies_told reported)

@@ -6,8 +6,15 @@ use Rattle.trace_reader.specs.declared.outcome.EngineFault.{EngineFault}
 use Rattle.trace_reader.specs.declared.outcome.EngineFault.TheVariants.{Read, Write, NoMemory}
 
 -- a sink takes all bytes, or, where it fails, a front of them
-abbrev pub WritesAll : {X E : Type 0} → Option (List ℕ) → Option (List ℕ) → Result X E → List ℕ → Type 0
-WritesAll old new r bytes = MatchResult r (λ _. Appends old new bytes) (λ _. (count : ℕ) × Appends old new (take count bytes))
+abbrev pub WritesAll : {X E : Type 0}
+    → Option (List ℕ)
+    → Option (List ℕ)
+    → Result X E
+    → List ℕ
+    → Type 0
+WritesAll old new r bytes =
+    MatchResult r (λ _. Appends old new bytes)
+    (λ _. (count : ℕ) × Appends old new (take count bytes))
 
 -- a failed write is reported exactly if the sink has failed, which was once; no read is made
 abbrev pub TellsWrite : {X : Type 0} → ℕ → ℕ → Result X EngineFault → Type 0

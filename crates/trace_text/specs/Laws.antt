@@ -69,9 +69,11 @@ pub record Leads (m : Machine) (cs : List Call) (t : Reference) : Type 0 where
   pub cpus : All (λ c. c.cpu < m.layout.config.cpus) cs
   pub runs : Runs (Steps m.layout) m.state cs t
 
--- a report is that of a run of the reference step from a machine's state: of the steps that the trace asks for those before its first
--- fault, which are all where the report ends without one, are made, and what its step lines tell are their CPUs and replies
-pub record TellsRun (m : Machine) (trace : List (List ℕ)) (reported : List ReportLine) (outcome : Outcome) : Type 0 where
+-- a report is that of a run of the reference step from a machine's state: of the steps that the
+-- trace asks for those before its first fault, which are all where the report ends without one, are
+-- made, and what its step lines tell are their CPUs and replies
+pub record TellsRun (m : Machine) (trace : List (List ℕ)) (reported : List ReportLine)
+    (outcome : Outcome) : Type 0 where
   pub calls : List Call
   pub last : Reference
   pub leads : Leads m calls last
@@ -81,15 +83,18 @@ pub record TellsRun (m : Machine) (trace : List (List ℕ)) (reported : List Rep
   pub steps : steps_asked trace ≡ map (λ c. (c.cpu, c.step)) calls ++ left
   pub all : (outcome ≡ outcomes.Fault → ⊥) → left ≡ []
 
--- a report without a boot: one line, which isn't a step's, and where it is no fault no step was asked for
-pub record TellsNoBoot (trace : List (List ℕ)) (reported : List ReportLine) (outcome : Outcome) : Type 0 where
+-- a report without a boot: one line, which isn't a step's, and where it is no fault no step was
+-- asked for
+pub record TellsNoBoot (trace : List (List ℕ)) (reported : List ReportLine)
+    (outcome : Outcome) : Type 0 where
   pub line : ReportLine
   pub alone : reported ≡ line ∷ []
   pub no_step : reply_told line ≡ None
   pub all : (outcome ≡ outcomes.Fault → ⊥) → steps_asked trace ≡ []
 
 -- a report that a fault among these lines ends, the first of which has the number
-pub record StopsIn (number : ℕ) (front : List (List ℕ)) (reported : List ReportLine) (outcome : Outcome) : Type 0 where
+pub record StopsIn (number : ℕ) (front : List (List ℕ)) (reported : List ReportLine)
+    (outcome : Outcome) : Type 0 where
   pub told : List ReportLine
   pub line : ℕ
   pub fault : Fault
@@ -101,9 +106,13 @@ module _ (gives : Gives) where
   -- lines, from a number on, that report nothing and lead from one standing to another
   abbrev pub Prepares : ℕ → Standing → List (List ℕ) → Standing → Type 0
   Prepares number old [] new = new ≡ old
-  Prepares number old (line ∷ rest) new = (next : Standing) × IsPlayed gives number line old (Ok []) next × Prepares (number + 1) next rest new
+  Prepares number old (line ∷ rest) new =
+      (next : Standing)
+      × IsPlayed gives number line old (Ok []) next
+      × Prepares (number + 1) next rest new
 
-  -- a boot line of a trace, from a line of the trace on: the lines in front of it have given its settings, a carve-out among them
+  -- a boot line of a trace, from a line of the trace on: the lines in front of it have given its
+  -- settings, a carve-out among them
   pub record BootLine (number : ℕ) (start : Standing) (trace : List (List ℕ)) : Type 0 where
     pub front : List (List ℕ)
     pub boot : List ℕ
@@ -114,27 +123,37 @@ module _ (gives : Gives) where
     pub carve : PageRange
     pub carved : old.told.carve ≡ Some carve
 
-  -- a report, from a line of the trace on, whose first line is that of a boot, and the other lines those of a run of the booted machine from the boot state
-  pub record TellsBoot (number : ℕ) (start : Standing) (trace : List (List ℕ)) (reported : List ReportLine) (outcome : Outcome) : Type 0 where
+  -- a report, from a line of the trace on, whose first line is that of a boot, and the other lines
+  -- those of a run of the booted machine from the boot state
+  pub record TellsBoot (number : ℕ) (start : Standing) (trace : List (List ℕ))
+      (reported : List ReportLine) (outcome : Outcome) : Type 0 where
     pub at : BootLine number start trace
     pub machine : Machine
     pub line : Response
     pub new : Standing
-    pub played : IsPlayed gives (number + length at.front) at.boot at.old (Ok (report.Response line ∷ [])) new
+    pub played : IsPlayed gives (number + length at.front) at.boot at.old
+        (Ok (report.Response line ∷ [])) new
     pub booted : HasBooted at.carve at.old machine line new
     pub more : List ReportLine
     pub first : reported ≡ report.Response line ∷ more
     pub run : TellsRun machine trace more outcome
     pub ends : IsRun machine.layout run.calls run.last
 
-  -- if there is a machine, the report of the lines from there on is that of a run of the reference step
+  -- if there is a machine, the report of the lines from there on is that of a run of the reference
+  -- step
   abbrev pub MachineRuns : Type 0
-  MachineRuns = (number : ℕ) (old : Standing) (m : Machine) (trace : List (List ℕ)) (reported : List ReportLine) (outcome : Outcome)
-      → old.machine ≡ Some m → IsReport gives number old trace reported outcome → TellsRun m trace reported outcome
+  MachineRuns =
+      (number : ℕ) (old : Standing) (m : Machine) (trace : List (List ℕ))
+      (reported : List ReportLine) (outcome : Outcome)
+      → old.machine ≡ Some m
+      → IsReport gives number old trace reported outcome
+      → TellsRun m trace reported outcome
 
-  -- a report in which the lines in front, from a number on, are carried out: their report, the run of the reference step that it
-  -- tells, the machine at its end, and the report of the other lines from there
-  pub record Reaches (number : ℕ) (m : Machine) (front rest : List (List ℕ)) (reported : List ReportLine) (outcome : Outcome) : Type 0 where
+  -- a report in which the lines in front, from a number on, are carried out: their report, the run
+  -- of the reference step that it tells, the machine at its end, and the report of the other lines
+  -- from there
+  pub record Reaches (number : ℕ) (m : Machine) (front rest : List (List ℕ))
+      (reported : List ReportLine) (outcome : Outcome) : Type 0 where
     pub told : List ReportLine
     pub more : List ReportLine
     pub lines : reported ≡ told ++ more
@@ -147,15 +166,21 @@ module _ (gives : Gives) where
     pub steps : steps_asked front ≡ map (λ c. (c.cpu, c.step)) calls
     pub report : IsReport gives (number + length front) new rest more outcome
 
-  -- at each line that is reached the machine is in the state that the run of the steps before it leads to
+  -- at each line that is reached the machine is in the state that the run of the steps before it
+  -- leads to
   abbrev pub MachineReaches : Type 0
-  MachineReaches = (number : ℕ) (old : Standing) (m : Machine) (front rest : List (List ℕ)) (reported : List ReportLine) (outcome : Outcome)
-      → old.machine ≡ Some m → IsReport gives number old (front ++ rest) reported outcome → StopsIn number front reported outcome ⊎ Reaches number m front rest reported outcome
+  MachineReaches =
+      (number : ℕ) (old : Standing) (m : Machine) (front rest : List (List ℕ))
+      (reported : List ReportLine) (outcome : Outcome)
+      → old.machine ≡ Some m
+      → IsReport gives number old (front ++ rest) reported outcome
+      → StopsIn number front reported outcome ⊎ Reaches number m front rest reported outcome
 
   -- the report of a trace has no boot, or one and then a run from there
   abbrev pub TraceRuns : Type 0
   TraceRuns = (trace : List (List ℕ)) (reported : List ReportLine) (outcome : Outcome)
-      → IsReport gives 1 at_start trace reported outcome → TellsNoBoot trace reported outcome ⊎ TellsBoot 1 at_start trace reported outcome
+      → IsReport gives 1 at_start trace reported outcome
+      → TellsNoBoot trace reported outcome ⊎ TellsBoot 1 at_start trace reported outcome
 
 -- a line without a disagreement
 abbrev pub IsAgreeing : ReportLine → Type 0

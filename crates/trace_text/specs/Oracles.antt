@@ -30,8 +30,10 @@ pub record IsAgreed (v : Verdict) : Type 0 where
 abbrev pub agreed : Gives
 agreed m c t v = IsAgreed v
 
--- states are those of a call that leads from a machine's state to another, in which the kept state is what walks find
-pub record IsShown (m : Machine) (c : Call) (t : Reference) (before : Ghost) (cpu : ℕ) (step : Step) (reply : Reply) (after walked : Ghost) : Type 0 where
+-- states are those of a call that leads from a machine's state to another, in which the kept state
+-- is what walks find
+pub record IsShown (m : Machine) (c : Call) (t : Reference) (before : Ghost) (cpu : ℕ)
+    (step : Step) (reply : Reply) (after walked : Ghost) : Type 0 where
   pub layout : layout_of before.layout ≡ m.layout
   pub before_is : ghost_state before ≡ m.state
   pub cpu_is : c.cpu ≡ cpu
@@ -43,15 +45,21 @@ pub record IsShown (m : Machine) (c : Call) (t : Reference) (before : Ghost) (cp
 
 -- a verdict may be given of each call with these states
 abbrev pub TellsShown : Gives → Ghost → ℕ → Step → Reply → Compared → Verdict → Type 0
-TellsShown gives before cpu step reply after v = (m : Machine) (c : Call) (t : Reference) → IsShown m c t before cpu step reply after.kept (walked_in after) → gives m c t v
+TellsShown gives before cpu step reply after v =
+    (m : Machine) (c : Call) (t : Reference)
+    → IsShown m c t before cpu step reply after.kept (walked_in after)
+    → gives m c t v
 
--- the reply of a step, and the state that is kept after it, are what the model says by the state before it
+-- the reply of a step, and the state that is kept after it, are what the model says by the state
+-- before it
 abbrev pub StepAgrees : Ghost → ℕ → Step → Reply → Ghost → Type 0
-StepAgrees before cpu step reply after = JudgeAgrees (contents_in before) step reply (contents_in after) (told_of before cpu step)
+StepAgrees before cpu step reply after =
+    JudgeAgrees (contents_in before) step reply (contents_in after) (told_of before cpu step)
 
 -- they differ from it, and first so
 abbrev pub IsFirstOfStep : Ghost → ℕ → Step → Reply → Ghost → Disagreement → Type 0
-IsFirstOfStep before cpu step reply after = IsFirstJudged (contents_in before) step reply (contents_in after) (told_of before cpu step)
+IsFirstOfStep before cpu step reply after =
+    IsFirstJudged (contents_in before) step reply (contents_in after) (told_of before cpu step)
 
 -- the line of the report with a judgement's finding, if there is one
 abbrev pub judged_lines : Option Disagreement → List ReportLine

@@ -12,7 +12,9 @@ use Rattle.trace_text.specs.Texts.{text_of_report}
 
 -- what an answer writes, and the outcome where it ends the run
 abbrev pub Writes : ℕ → Answer → Option (List ℕ) → Option (List ℕ) → Option Outcome → Type 0
-Writes number (Err (stops.Fault fault)) old new ended = Appends old new (text_of_report (report.Fault number fault ∷ [])) × (ended ≡ Some outcomes.Fault)
+Writes number (Err (stops.Fault fault)) old new ended =
+    Appends old new (text_of_report (report.Fault number fault ∷ []))
+    × (ended ≡ Some outcomes.Fault)
 Writes number (Err stops.NoMemory) old new ended = ⊥
 Writes number (Ok told) old new ended = Appends old new (text_of_report told) × (ended ≡ None)
 
@@ -27,19 +29,22 @@ abbrev pub WritesFront : List ReportLine → Option (List ℕ) → Option (List 
 WritesFront lines old new = (count : ℕ) × Appends old new (take count (text_of_report lines))
 
 -- lines were written, and the run ends with an outcome
-abbrev pub EndsWith : List ReportLine → Outcome → Option (List ℕ) → Option (List ℕ) → Outcome → Type 0
+abbrev pub EndsWith : List ReportLine → Outcome → Option (List ℕ) → Option (List ℕ) → Outcome
+    → Type 0
 EndsWith lines ended old new outcome = (outcome ≡ ended) × Appends old new (text_of_report lines)
 
 -- of what lines do
 module _ {S : Type 0} (does : Doing S) where
   -- a line that was carried out, from one standing to another, and reported
-  pub record Plays (number : ℕ) (line : List ℕ) (before after : S) (old new : Option (List ℕ)) (ended : Option Outcome) : Type 0 where
+  pub record Plays (number : ℕ) (line : List ℕ) (before after : S) (old new : Option (List ℕ))
+      (ended : Option Outcome) : Type 0 where
     pub answer : Answer
     pub runs : does number line before answer after
     pub writes : Writes number answer old new ended
 
   -- a line that was carried out, of whose report a front was written
-  pub record PlaysFront (number : ℕ) (line : List ℕ) (before : S) (old new : Option (List ℕ)) : Type 0 where
+  pub record PlaysFront (number : ℕ) (line : List ℕ) (before : S)
+      (old new : Option (List ℕ)) : Type 0 where
     pub answer : Answer
     pub after : S
     pub runs : does number line before answer after
@@ -47,15 +52,28 @@ module _ {S : Type 0} (does : Doing S) where
 
   -- what lines do of which 257 bytes are enough, since longer ones go no further
   pub record Enough : Type 0 where
-    pub front : (number : ℕ) (whole : List ℕ) (old : S) (answer : Answer) (new : S) → does number (take 257 whole) old answer new → does number whole old answer new
-    pub short : (number : ℕ) (whole : List ℕ) (old : S) (answer : Answer) (new : S) → does number whole old answer new → IsOk answer → length whole ≤ 256
+    pub front : (number : ℕ) (whole : List ℕ) (old : S) (answer : Answer) (new : S)
+        → does number (take 257 whole) old answer new
+        → does number whole old answer new
+    pub short : (number : ℕ) (whole : List ℕ) (old : S) (answer : Answer) (new : S)
+        → does number whole old answer new
+        → IsOk answer
+        → length whole ≤ 256
 
 -- of how a report ends
 module _ {S : Type 0} (ends : S → List ReportLine → Outcome → Type 0) where
   -- its end was written
   abbrev pub WritesEnd : S → Option (List ℕ) → Option (List ℕ) → Outcome → Type 0
-  WritesEnd standing old new outcome = (lines : List ReportLine) × ends standing lines outcome × Appends old new (text_of_report lines)
+  WritesEnd standing old new outcome =
+      (lines : List ReportLine)
+      × ends standing lines outcome
+      × Appends old new (text_of_report lines)
 
   -- nothing of it was written, or a front
   abbrev pub WritesEndFront : S → Option (List ℕ) → Option (List ℕ) → Type 0
-  WritesEndFront standing old new = (new ≡ old) ⊎ ((lines : List ReportLine) × (outcome : Outcome) × ends standing lines outcome × WritesFront lines old new)
+  WritesEndFront standing old new =
+      (new ≡ old)
+      ⊎ ((lines : List ReportLine)
+      × (outcome : Outcome)
+      × ends standing lines outcome
+      × WritesFront lines old new)

@@ -1,4 +1,5 @@
--- What a line does to a trace that is being carried out, and which lines of the report it makes (profile).
+-- What a line does to a trace that is being carried out, and which lines of the report it makes
+-- (profile).
 use Rattle.std.specs.Prelude.{◌≡◌, ◌⊎◌, ℕ, ◌+◌, ◌<◌, ◌≤◌, Bool, true, false, List, [], ◌∷◌, length, Option, Some, None, Result, Ok, Err, ok_or, is_some, map, option_map, MatchOption, MatchResult}
 use Rattle.page_state.specs.declared.entry.PageRange.{PageRange}
 use Rattle.page_state.specs.declared.entry.Run.{Run}
@@ -38,8 +39,8 @@ use Rattle.trace_lines.specs.Settings.{Told, nothing_told, told_after, config_of
 use Rattle.trace_text.specs.Oracles.{Gives, verdict_lines}
 use Rattle.trace_text.specs.Worlds.{Machine, HasMaplets, IsBootOf, IsWordOn, in_state, tree_told, tables_told, free_told, guest_free_told}
 
--- the progress of a trace: the settings, the machine once it is booted, whether `start` came, how many step lines were carried out, and how many
--- disagreements were reported
+-- the progress of a trace: the settings, the machine once it is booted, whether `start` came, how
+-- many step lines were carried out, and how many disagreements were reported
 pub record Standing : Type 0 where
   pub told : Told
   pub machine : Option Machine
@@ -49,7 +50,8 @@ pub record Standing : Type 0 where
 
 -- before the first line
 abbrev pub at_start : Standing
-at_start = record { told = nothing_told; machine = None; started = false; steps = 0; disagreements = 0 }
+at_start =
+    record { told = nothing_told; machine = None; started = false; steps = 0; disagreements = 0 }
 
 -- what `replay` allows, before and after the boot
 abbrev pub allowed : Bool → Bool → Allows
@@ -67,7 +69,9 @@ Faults fault old answer new = (answer ≡ Err (stops.Fault fault)) × (new ≡ o
 -- a setting is taken up, and reports nothing; only memory can run out
 abbrev pub Tells : Setting → Standing → Answer → Standing → Type 0
 Tells setting old answer new =
-    MatchResult answer (λ reported. (reported ≡ []) × (new ≡ record old { told = told_after setting old.told })) (λ stop. (stop ≡ stops.NoMemory) × (new ≡ old))
+    MatchResult answer
+    (λ reported. (reported ≡ []) × (new ≡ record old { told = told_after setting old.told }))
+    (λ stop. (stop ≡ stops.NoMemory) × (new ≡ old))
 
 -- why memory and carve-out make no layout
 abbrev pub IsNoLayout : LayoutFault → Memory → Type 0
@@ -81,19 +85,24 @@ IsNoLayout layouts.CarveOutside memory = IsFirstFault layouts.CarveOutside memor
 -- why a boot ends the run: by the layout's fault, or, where the layout is accepted, by the world's
 abbrev pub IsNoWorld : Stop → Memory → Config → Type 0
 IsNoWorld (stops.Fault (faults.Layout fault)) memory config = IsNoLayout fault memory
-IsNoWorld (stops.Fault (faults.Boot fault)) memory config = IsAccepted memory × IsNoBoot fault memory config
+IsNoWorld (stops.Fault (faults.Boot fault)) memory config =
+    IsAccepted memory × IsNoBoot fault memory config
 IsNoWorld stop memory config = ⊥
 
 -- a world that booted, or why there is none
 abbrev pub IsWorldOf : {A : Type 0} → Memory → Config → Result (World A) Stop → Type 0
-IsWorldOf memory config answer = MatchResult answer (λ w. IsBooted memory config w.parts) (λ stop. IsNoWorld stop memory config)
+IsWorldOf memory config answer =
+    MatchResult answer (λ w. IsBooted memory config w.parts) (λ stop. IsNoWorld stop memory config)
 
 -- the memory, where it makes a layout, or else why no world has it
 abbrev pub IsMemoryOf : Memory → Result Memory Stop → Type 0
-IsMemoryOf memory answer = MatchResult answer (λ m. (m ≡ memory) × IsAccepted memory) (λ stop. (config : Config) → IsNoWorld stop memory config)
+IsMemoryOf memory answer =
+    MatchResult answer (λ m. (m ≡ memory) × IsAccepted memory)
+    (λ stop. (config : Config) → IsNoWorld stop memory config)
 
 -- the machine of the settings has booted, and the line has its tables and free frames
-pub record HasBooted (carve : PageRange) (old : Standing) (m : Machine) (reported : Response) (new : Standing) : Type 0 where
+pub record HasBooted (carve : PageRange) (old : Standing) (m : Machine) (reported : Response)
+    (new : Standing) : Type 0 where
   pub booted : IsBootOf (memory_of old.told.regions carve) (config_of old.told) m
   pub line : reported ≡ responses.Boot (tables_told m Host) (tables_told m Hyp) (free_told m)
   pub standing : new ≡ record old { machine = Some m }
@@ -102,16 +111,24 @@ pub record HasBooted (carve : PageRange) (old : Standing) (m : Machine) (reporte
 abbrev pub Boots : Standing → Answer → Standing → Type 0
 Boots old answer new =
     MatchOption old.told.carve (Faults (faults.Line Place) old answer new) (λ carve.
-    MatchResult answer (λ reported. (m : Machine) × (line : Response) × (reported ≡ report.Response line ∷ []) × HasBooted carve old m line new)
+    MatchResult answer
+    (λ reported. (m : Machine)
+    × (line : Response)
+    × (reported ≡ report.Response line ∷ [])
+    × HasBooted carve old m line new)
     (λ stop. IsNoWorld stop (memory_of old.told.regions carve) (config_of old.told) × (new ≡ old)))
 
 -- a question about the machine, which changes nothing
 abbrev pub Asks : Option Response → Fault → Standing → Answer → Standing → Type 0
-Asks told fault old answer new = (answer ≡ ok_or (option_map (λ line. report.Response line ∷ []) told) (stops.Fault fault)) × (new ≡ old)
+Asks told fault old answer new =
+    (answer ≡ ok_or (option_map (λ line. report.Response line ∷ []) told) (stops.Fault fault))
+    × (new ≡ old)
 
 -- what a line does after the boot; before it, it has no place
-abbrev pub OnMachine : (Machine → Standing → Answer → Standing → Type 0) → Standing → Answer → Standing → Type 0
-OnMachine does old answer new = MatchOption old.machine (Faults (faults.Line Place) old answer new) (λ m. does m old answer new)
+abbrev pub OnMachine : (Machine → Standing → Answer → Standing → Type 0) → Standing → Answer
+    → Standing → Type 0
+OnMachine does old answer new =
+    MatchOption old.machine (Faults (faults.Line Place) old answer new) (λ m. does m old answer new)
 
 -- `start`, which says nothing here
 abbrev pub Starts : Machine → Standing → Answer → Standing → Type 0
@@ -120,15 +137,25 @@ Starts m old answer new = (answer ≡ Ok []) × (new ≡ record old { started = 
 -- a query
 abbrev pub Answers : Query → Machine → Standing → Answer → Standing → Type 0
 Answers (queries.Word tree page level) m old answer new =
-    (word : Option ℕ) × IsWordOn m.layout.depth (tree_told m tree) page level word × Asks (option_map responses.Word word) faults.Path old answer new
-Answers queries.FreeShared m old answer new = Asks (Some (responses.Free (free_told m))) (faults.Line Place) old answer new
-Answers (queries.FreeGuest slot) m old answer new = Asks (Some (responses.Free (guest_free_told m slot))) (faults.Line Place) old answer new
-Answers (queries.Show tree) m old answer new = (runs : List Run) × HasMaplets (tree_told m tree) runs × (answer ≡ Ok (map report.Response (map responses.Run runs))) × (new ≡ old)
+    (word : Option ℕ)
+    × IsWordOn m.layout.depth (tree_told m tree) page level word
+    × Asks (option_map responses.Word word) faults.Path old answer new
+Answers queries.FreeShared m old answer new =
+    Asks (Some (responses.Free (free_told m))) (faults.Line Place) old answer new
+Answers (queries.FreeGuest slot) m old answer new =
+    Asks (Some (responses.Free (guest_free_told m slot))) (faults.Line Place) old answer new
+Answers (queries.Show tree) m old answer new =
+    (runs : List Run)
+    × HasMaplets (tree_told m tree) runs
+    × (answer ≡ Ok (map report.Response (map responses.Run runs)))
+    × (new ≡ old)
 
 -- what lines do where an oracle is asked after each step
 module _ (gives : Gives) where
-  -- a step of a CPU: a call of it leads by the reference step to the next state; its reply is reported, and then the oracle's finding
-  pub record IsStepped (number cpu : ℕ) (step : Step) (m : Machine) (old : Standing) (answer : Answer) (new : Standing) : Type 0 where
+  -- a step of a CPU: a call of it leads by the reference step to the next state; its reply is
+  -- reported, and then the oracle's finding
+  pub record IsStepped (number cpu : ℕ) (step : Step) (m : Machine) (old : Standing)
+      (answer : Answer) (new : Standing) : Type 0 where
     pub call : Call
     pub next : Reference
     pub verdict : Verdict
@@ -136,14 +163,22 @@ module _ (gives : Gives) where
     pub step_is : call.step ≡ step
     pub made : Steps m.layout m.state call next
     pub given : gives m call next verdict
-    pub lines : answer ≡ Ok (report.Response (responses.Step number cpu call.reply) ∷ verdict_lines verdict)
-    pub standing : new ≡ record old { machine = Some (in_state m next); steps = old.steps + 1; disagreements = old.disagreements + length (verdict_lines verdict) }
+    pub lines : answer
+        ≡ Ok (report.Response (responses.Step number cpu call.reply) ∷ verdict_lines verdict)
+    pub standing : new
+        ≡ record old {
+          machine = Some (in_state m next);
+          steps = old.steps + 1;
+          disagreements = old.disagreements + length (verdict_lines verdict);
+        }
 
-  -- a step line: its CPU is one of the machine's. Where memory is refused to the oracle the run ends
+  -- a step line: its CPU is one of the machine's. Where memory is refused to the oracle the run
+  -- ends
   abbrev pub MakesStep : ℕ → ℕ → Step → Machine → Standing → Answer → Standing → Type 0
   MakesStep number cpu step m old answer new =
       (m.layout.config.cpus ≤ cpu → Faults faults.Cpu old answer new)
-      × (cpu < m.layout.config.cpus → (answer ≡ Err stops.NoMemory) ⊎ IsStepped number cpu step m old answer new)
+      × (cpu < m.layout.config.cpus
+      → (answer ≡ Err stops.NoMemory) ⊎ IsStepped number cpu step m old answer new)
 
   -- what a line does, its number counted from 1
   abbrev pub DoesLine : ℕ → Line → Standing → Answer → Standing → Type 0
@@ -162,4 +197,6 @@ module _ (gives : Gives) where
 
   -- what the bytes of a line do
   abbrev pub RunsLine : ℕ → List ℕ → Standing → Answer → Standing → Type 0
-  RunsLine number bytes old answer new = Follows number (said (allowed (is_some old.machine) old.started) old.told bytes) old answer new
+  RunsLine number bytes old answer new =
+      Follows number
+      (said (allowed (is_some old.machine) old.started) old.told bytes) old answer new

@@ -1,4 +1,5 @@
--- How a report is written (profile): a line's words are separated by one space each, its end is the byte 10.
+-- How a report is written (profile): a line's words are separated by one space each, its end is the
+-- byte 10.
 use Rattle.std.specs.Prelude.{ℕ, List, [], ◌∷◌, ◌++◌, codes}
 use Rattle.std.specs.Fmt.{decimal}
 use Rattle.page_state.specs.LayoutFaults.{fault_number}
@@ -21,7 +22,8 @@ text_of_fault faults.Path = codes "path"
 
 -- the last line of a whole trace
 abbrev pub text_of_end : ℕ → ℕ → List ℕ
-text_of_end steps disagreements = codes "end steps " ++ decimal steps ++ codes " disagreements " ++ decimal disagreements
+text_of_end steps disagreements =
+    codes "end steps " ++ decimal steps ++ codes " disagreements " ++ decimal disagreements
 
 -- a line of a report, without its end
 unfoldable pub text_of : ReportLine → List ℕ

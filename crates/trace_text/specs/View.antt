@@ -26,7 +26,14 @@ machine_of w = record { layout = parts_layout w.parts; state = state_of w.parts 
 
 -- the progress of a session
 abbrev pub standing_of : {A : Type 0} → Session A → Standing
-standing_of s = record { told = told_of s.settings; machine = option_map machine_of s.world; started = s.started; steps = s.steps; disagreements = s.disagreements }
+standing_of s =
+    record {
+      told = told_of s.settings;
+      machine = option_map machine_of s.world;
+      started = s.started;
+      steps = s.steps;
+      disagreements = s.disagreements;
+    }
 
 -- what the guest in a slot holds, if it isn't Empty and there is such a slot
 abbrev pub body_in : {A : Type 0} → Option (GuestPart A) → Option (Body A)
@@ -55,7 +62,8 @@ abbrev pub lines_reported : {A : Type 0} → Session A → Reported → List Rep
 lines_reported s reported.Nothing = []
 lines_reported s (reported.Line line) = report.Response line ∷ []
 lines_reported s (reported.Step line verdict) = report.Response line ∷ verdict_lines verdict
-lines_reported s (reported.Maplets tree) = map report.Response (map responses.Run (kept_runs s tree))
+lines_reported s (reported.Maplets tree) =
+    map report.Response (map responses.Run (kept_runs s tree))
 
 -- the answer of a session
 abbrev pub answer_of : {A : Type 0} → Session A → Result Reported Stop → Answer

@@ -20,7 +20,8 @@ pub record Machine : Type 0 where
   pub layout : Layout
   pub state : Reference
 
--- the machine that boots on memory and a configuration: its layout has just these and can boot, and its state is the boot state
+-- the machine that boots on memory and a configuration: its layout has just these and can boot, and
+-- its state is the boot state
 pub record IsBootOf (memory : Memory) (config : Config) (m : Machine) : Type 0 where
   pub memory_is : m.layout.memory ≡ memory
   pub config_is : m.layout.config ≡ config
@@ -31,7 +32,8 @@ pub record IsBootOf (memory : Memory) (config : Config) (m : Machine) : Type 0 w
 abbrev pub in_state : Machine → Reference → Machine
 in_state m next = record { layout = m.layout; state = next }
 
--- a named tree; that of an Empty guest, and of a slot past the last, has no table and nothing mapped
+-- a named tree; that of an Empty guest, and of a slot past the last, has no table and nothing
+-- mapped
 abbrev pub tree_told : Machine → TreeName → Tree
 tree_told m Host = m.state.contents.shared.host
 tree_told m Hyp = m.state.contents.shared.hyp
@@ -39,7 +41,8 @@ tree_told m (Guest slot) = (m.state.contents.guest slot).tree
 
 -- the number of a tree's tables: that of the blocks, from the one of all pages down, that have one
 abbrev pub tables_told : Machine → TreeName → ℕ
-tables_told m tree = length (filter (λ b. is_some ((tree_told m tree).table b)) (blocks_in (m.layout.depth + 1) 0))
+tables_told m tree =
+    length (filter (λ b. is_some ((tree_told m tree).table b)) (blocks_in (m.layout.depth + 1) 0))
 
 -- the number of free frames of the shared pool
 abbrev pub free_told : Machine → ℕ
@@ -49,7 +52,9 @@ free_told m = length m.state.contents.shared.free
 abbrev pub guest_free_told : Machine → ℕ → ℕ
 guest_free_told m slot = length (m.state.contents.guest slot).free
 
--- a tree with that many levels below its root's has a word on a page's path at a level: it has a root, which an Empty guest's tree hasn't, the page is good, the level is none above the root's, and below the root's there is the table that has the word
+-- a tree with that many levels below its root's has a word on a page's path at a level: it has a
+-- root, which an Empty guest's tree hasn't, the page is good, the level is none above the root's,
+-- and below the root's there is the table that has the word
 pub record HasWordOn (depth : ℕ) (tree : Tree) (page level : ℕ) : Type 0 where
   pub root : IsSome (tree.table (depth + 1, 0))
   pub good : page < pages_below depth
@@ -57,11 +62,14 @@ pub record HasWordOn (depth : ℕ) (tree : Tree) (page level : ℕ) : Type 0 whe
   pub bottom : level ≤ 3
   pub stands : 3 < level + depth → IsSome (tree.table (block_above (block_at (3 - level) page)))
 
--- the word on a page's path at a level: that of the level's block which holds the page. None where there is no word
+-- the word on a page's path at a level: that of the level's block which holds the page. None where
+-- there is no word
 abbrev pub IsWordOn : ℕ → Tree → ℕ → ℕ → Option ℕ → Type 0
 IsWordOn depth tree page level None = ¬ HasWordOn depth tree page level
 IsWordOn depth tree page level (Some word) =
-    HasWordOn depth tree page level × IsWordOf tree (block_at (3 - level) page) word × IsRunOrTable tree (block_at (3 - level) page)
+    HasWordOn depth tree page level
+    × IsWordOf tree (block_at (3 - level) page) word
+    × IsRunOrTable tree (block_at (3 - level) page)
 
 -- the maplets of a tree: the coarsest list of runs of its map
 pub record HasMaplets (tree : Tree) (runs : List Run) : Type 0 where

@@ -25,8 +25,11 @@ pub fn replay_at_end<A: Allocator + Copy, S: Source, K: Sink>(
     source: &mut S,
     sink: &mut K,
 ) -> Result<Outcome, EngineFault>
-    ensures report { IfOk result (λ outcome. IsReplayed agreed (S.remaining source.old) (K.contents sink.old) (K.contents sink.new) outcome) }
-    ensures begun { OnErr result (IsBegun agreed (S.remaining source.old) (K.contents sink.old) (K.contents sink.new)) }
+    ensures report { IfOk result
+        (λ outcome. IsReplayed agreed (S.remaining source.old) (K.contents sink.old)
+        (K.contents sink.new) outcome) }
+    ensures begun { OnErr result
+        (IsBegun agreed (S.remaining source.old) (K.contents sink.old) (K.contents sink.new)) }
     ensures reads { CountsReads (S.failures source.old) (S.failures source.new) result }
     ensures writes { CountsWrites (K.failures sink.old) (K.failures sink.new) result }
 {
@@ -45,8 +48,11 @@ pub fn replay_at_end_buffered<A: Allocator + Copy, R: Read + Drop, W: Write + Dr
     reader: R,
     writer: W,
 ) -> Result<(Outcome, W), Stopped<W>>
-    ensures report { IfOk result (λ r. IsReplayed agreed (R.remaining reader) (W.contents writer) (W.contents r.1) r.0) }
-    ensures begun { IfErr result (λ s. IfSome s.writer (λ w. IsBegun agreed (R.remaining reader) (W.contents writer) (W.contents w))) }
+    ensures report { IfOk result
+        (λ r. IsReplayed agreed (R.remaining reader) (W.contents writer) (W.contents r.1) r.0) }
+    ensures begun { IfErr result
+        (λ s. IfSome s.writer
+        (λ w. IsBegun agreed (R.remaining reader) (W.contents writer) (W.contents w))) }
 {
     let mut unasked = Unasked::new(global, alloc);
     let answer = play_buffered(global, &mut unasked, reader, writer);
@@ -75,9 +81,11 @@ impl<A: Allocator + Copy> Unasked<A> {
 }
 
 impl<A: Allocator + Copy> Player for Unasked<A> {
-    ghost ready = { λ number unasked. IsReady unasked.session × ((standing_of unasked.session).steps < number) };
+    ghost ready = { λ number unasked. IsReady unasked.session
+        × ((standing_of unasked.session).steps < number) };
 
-    ghost does = { λ number line old answer new. RunsLine agreed number line (standing_of old.session) answer (standing_of new.session) };
+    ghost does = { λ number line old answer new. RunsLine agreed number line
+        (standing_of old.session) answer (standing_of new.session) };
 
     ghost ends = { λ unasked. Ends (standing_of unasked.session) };
 

@@ -31,8 +31,11 @@ pub fn replay_buffered<A: Allocator + Copy, R: Read + Drop, W: Write + Drop>(
     reader: R,
     writer: W,
 ) -> Result<(Outcome, W), Stopped<W>>
-    ensures report { IfOk result (λ r. IsReplayed agreed (R.remaining reader) (W.contents writer) (W.contents r.1) r.0) }
-    ensures begun { IfErr result (λ s. IfSome s.writer (λ w. IsBegun agreed (R.remaining reader) (W.contents writer) (W.contents w))) }
+    ensures report { IfOk result
+        (λ r. IsReplayed agreed (R.remaining reader) (W.contents writer) (W.contents r.1) r.0) }
+    ensures begun { IfErr result
+        (λ s. IfSome s.writer
+        (λ w. IsBegun agreed (R.remaining reader) (W.contents writer) (W.contents w))) }
 {
     let mut oracle = GhostOracle;
     let mut replaying = Replaying::new(global, alloc, &mut oracle);
@@ -52,8 +55,13 @@ pub fn play_buffered<P: Player, R: Read + Drop, W: Write + Drop>(
 ) -> Result<(Outcome, W), Stopped<W>>
     requires enough { Enough P.does }
     requires ready { P.ready 1 player.old }
-    ensures report { IfOk result (λ r. IsWritten P.does P.ends player.old (R.remaining reader) (W.contents writer) (W.contents r.1) r.0) }
-    ensures begun { IfErr result (λ s. IfSome s.writer (λ w. IsWriteBegun P.does P.ends player.old (R.remaining reader) (W.contents writer) (W.contents w))) }
+    ensures report { IfOk result
+        (λ r. IsWritten P.does P.ends player.old (R.remaining reader) (W.contents writer)
+        (W.contents r.1) r.0) }
+    ensures begun { IfErr result
+        (λ s. IfSome s.writer
+        (λ w. IsWriteBegun P.does P.ends player.old (R.remaining reader)
+        (W.contents writer) (W.contents w))) }
 {
     let Ok(writer) = BufWriter::new(global, writer) else {
         return Err(stop_at(EngineFault::NoMemory, None, None));
@@ -72,9 +80,14 @@ pub fn finish<R: Read + Drop, W: Write + Drop>(
     source: Counting<R>,
     sink: Counting<BufWriter<W>>,
 ) -> Result<(Outcome, W), Stopped<W>>
-    ensures ok { IfOk result (λ r. (answer ≡ Ok r.0) × Keeps (writer_contents W.contents sink.device) (W.contents r.1)) }
-    ensures fault { IfErr result (λ s. MatchResult answer (λ _. s.fault ≡ EngineFault.Write) (λ fault. s.fault ≡ fault)) }
-    ensures kept { IfErr result (λ s. IfSome s.writer (λ w. IsErr answer × Keeps (writer_contents W.contents sink.device) (W.contents w))) }
+    ensures ok { IfOk result
+        (λ r. (answer ≡ Ok r.0)
+        × Keeps (writer_contents W.contents sink.device) (W.contents r.1)) }
+    ensures fault { IfErr result
+        (λ s. MatchResult answer (λ _. s.fault ≡ EngineFault.Write) (λ fault. s.fault ≡ fault)) }
+    ensures kept { IfErr result
+        (λ s. IfSome s.writer
+        (λ w. IsErr answer × Keeps (writer_contents W.contents sink.device) (W.contents w))) }
 {
     let (writer, cause) = sink.into_parts();
     match answer {

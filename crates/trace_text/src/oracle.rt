@@ -92,8 +92,13 @@ impl Oracle for GhostOracle {
         ensures told { IfOk result (TellsShown agreed before cpu step reply after.now) }
         ensures judged { IfOk result (λ v. (v.judged ≡ None) ↔ StepAgrees before cpu step reply after.now.kept) }
         ensures first_judged { IfOk result (λ v. IfSome v.judged (IsFirstOfStep before cpu step reply after.now.kept)) }
-        ensures audited { IfOk result (λ v. (v.audited ≡ None) ↔ AuditAgrees (contents_in after.now.kept) (contents_in (walked_in after.now))) }
-        ensures first_audited { IfOk result (λ v. IfSome v.audited (IsFirstDifference (contents_in after.now.kept) (contents_in (walked_in after.now)))) }
+        ensures audited { IfOk result
+            (λ v. (v.audited ≡ None)
+            ↔ AuditAgrees (contents_in after.now.kept) (contents_in (walked_in after.now))) }
+        ensures first_audited { IfOk result
+            (λ v. IfSome v.audited
+            (IsFirstDifference (contents_in after.now.kept)
+            (contents_in (walked_in after.now)))) }
     {
         Ok(Verdict {
             judged: judge_last(global, before, cpu, step, &reply, &after.kept)?,

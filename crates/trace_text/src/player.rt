@@ -41,9 +41,13 @@ pub trait Player {
     ) -> Result<Option<Outcome>, EngineFault>
         requires number { number < 2 ^ 62 }
         requires ready { ready number self.old }
-        ensures played { IfOk result (λ ended. Plays does number line.now self.old self.new (K.contents sink.old) (K.contents sink.new) ended) }
+        ensures played { IfOk result
+            (λ ended. Plays does number line.now self.old self.new (K.contents sink.old)
+            (K.contents sink.new) ended) }
         ensures ready { ready (number + 1) self.new }
-        ensures front { OnErr result (PlaysFront does number line.now self.old (K.contents sink.old) (K.contents sink.new)) }
+        ensures front { OnErr result
+            (PlaysFront does number line.now self.old (K.contents sink.old)
+            (K.contents sink.new)) }
         ensures counted { TellsWrite (K.failures sink.old) (K.failures sink.new) result };
 
     /// Ends the report of a whole trace.
@@ -64,8 +68,12 @@ pub fn play_trace<P: Player, S: Source, K: Sink>(
 ) -> Result<Outcome, EngineFault>
     requires enough { Enough P.does }
     requires ready { P.ready 1 player.old }
-    ensures report { IfOk result (IsWritten P.does P.ends player.old (S.remaining source.old) (K.contents sink.old) (K.contents sink.new)) }
-    ensures begun { OnErr result (IsWriteBegun P.does P.ends player.old (S.remaining source.old) (K.contents sink.old) (K.contents sink.new)) }
+    ensures report { IfOk result
+        (IsWritten P.does P.ends player.old (S.remaining source.old) (K.contents sink.old)
+        (K.contents sink.new)) }
+    ensures begun { OnErr result
+        (IsWriteBegun P.does P.ends player.old (S.remaining source.old) (K.contents sink.old)
+        (K.contents sink.new)) }
     ensures reads { CountsReads (S.failures source.old) (S.failures source.new) result }
     ensures writes { CountsWrites (K.failures sink.old) (K.failures sink.new) result }
 {
@@ -87,8 +95,12 @@ fn play_lines<P: Player, S: Source, K: Sink>(
 ) -> Result<Outcome, EngineFault>
     requires enough { Enough P.does }
     requires ready { P.ready 1 player.old }
-    ensures report { IfOk result (IsWritten P.does P.ends player.old (left ahead.old (S.remaining source.old)) (K.contents sink.old) (K.contents sink.new)) }
-    ensures begun { OnErr result (IsWriteBegun P.does P.ends player.old (left ahead.old (S.remaining source.old)) (K.contents sink.old) (K.contents sink.new)) }
+    ensures report { IfOk result
+        (IsWritten P.does P.ends player.old (left ahead.old (S.remaining source.old))
+        (K.contents sink.old) (K.contents sink.new)) }
+    ensures begun { OnErr result
+        (IsWriteBegun P.does P.ends player.old (left ahead.old (S.remaining source.old))
+        (K.contents sink.old) (K.contents sink.new)) }
     ensures reads { CountsReads (S.failures source.old) (S.failures source.new) result }
     ensures writes { CountsWrites (K.failures sink.old) (K.failures sink.new) result }
 {

@@ -170,7 +170,8 @@ impl<A: Allocator + Copy> Session<A> {
     ) -> Result<Reported, Stop>
         requires few { (standing_of self.old).steps < 2 ^ 62 }
         requires ready { IsReady self.old }
-        ensures done { RunsLine O.gives number line.now (standing_of self.old) (answer_of self.new result) (standing_of self.new) }
+        ensures done { RunsLine O.gives number line.now (standing_of self.old) (answer_of self.new result)
+            (standing_of self.new) }
         ensures steps { (standing_of self.new).steps ≤ (standing_of self.old).steps + 1 }
         ensures looks { Looks self.old self.new }
         ensures ready { IsReady self.new }
@@ -190,7 +191,8 @@ impl<A: Allocator + Copy> Session<A> {
     ) -> Result<Reported, Stop>
         requires few { self.old.steps < 2 ^ 62 }
         requires ready { IsReady self.old }
-        ensures done { DoesLine O.gives number said (standing_of self.old) (answer_of self.new result) (standing_of self.new) }
+        ensures done { DoesLine O.gives number said (standing_of self.old) (answer_of self.new result)
+            (standing_of self.new) }
         ensures steps { self.new.steps ≤ self.old.steps + 1 }
         ensures looks { Looks self.old self.new }
         ensures ready { IsReady self.new }
@@ -210,7 +212,8 @@ impl<A: Allocator + Copy> Session<A> {
     pub fn run_unasked(&mut self, number: u64, line: &[u8]) -> Result<Reported, Stop>
         requires few { (standing_of self.old).steps < 2 ^ 62 }
         requires ready { IsReady self.old }
-        ensures done { RunsLine agreed number line.now (standing_of self.old) (answer_of self.new result) (standing_of self.new) }
+        ensures done { RunsLine agreed number line.now (standing_of self.old) (answer_of self.new result)
+            (standing_of self.new) }
         ensures steps { (standing_of self.new).steps ≤ (standing_of self.old).steps + 1 }
         ensures ready { IsReady self.new }
     {
@@ -225,7 +228,8 @@ impl<A: Allocator + Copy> Session<A> {
     pub fn carry_out_unasked(&mut self, number: u64, said: Line) -> Result<Reported, Stop>
         requires few { (standing_of self.old).steps < 2 ^ 62 }
         requires ready { IsReady self.old }
-        ensures done { DoesLine agreed number said (standing_of self.old) (answer_of self.new result) (standing_of self.new) }
+        ensures done { DoesLine agreed number said (standing_of self.old) (answer_of self.new result)
+            (standing_of self.new) }
         ensures steps { (standing_of self.new).steps ≤ (standing_of self.old).steps + 1 }
         ensures ready { IsReady self.new }
     {
@@ -290,7 +294,8 @@ impl<A: Allocator + Copy> Session<A> {
 
     /// The world of the settings, with this carve-out.
     fn booted(&self, carve: PageRange) -> Result<World<A>, Stop>
-        ensures { let told = told_of self.now.settings in IsWorldOf (memory_of told.regions carve) (config_of told) result }
+        ensures { let told = told_of self.now.settings in
+            IsWorldOf (memory_of told.regions carve) (config_of told) result }
     {
         let map = told_memory(self.global, self.settings.regions.as_slice(), carve)?;
         match World::boot(self.global, self.alloc, &map, self.settings.config()) {
@@ -309,7 +314,8 @@ impl<A: Allocator + Copy> Session<A> {
     ) -> Result<Reported, Stop>
         requires few { self.old.steps < 2 ^ 62 }
         requires ready { IsReady self.old }
-        ensures done { OnMachine (MakesStep O.gives number cpu step) (standing_of self.old) (answer_of self.new result) (standing_of self.new) }
+        ensures done { OnMachine (MakesStep O.gives number cpu step) (standing_of self.old)
+            (answer_of self.new result) (standing_of self.new) }
         ensures steps { self.new.steps ≤ self.old.steps + 1 }
         ensures looks { Looks self.old self.new }
         ensures ready { IsReady self.new }
@@ -341,7 +347,8 @@ impl<A: Allocator + Copy> Session<A> {
     fn make(&mut self, number: u64, cpu: u64, step: Step) -> Result<Reported, Stop>
         requires few { self.old.steps < 2 ^ 62 }
         requires ready { IsReady self.old }
-        ensures done { OnMachine (MakesStep agreed number cpu step) (standing_of self.old) (answer_of self.new result) (standing_of self.new) }
+        ensures done { OnMachine (MakesStep agreed number cpu step) (standing_of self.old)
+            (answer_of self.new result) (standing_of self.new) }
         ensures steps { self.new.steps ≤ self.old.steps + 1 }
         ensures ready { IsReady self.new }
     {
@@ -364,7 +371,8 @@ impl<A: Allocator + Copy> Session<A> {
 
     /// Answers a query.
     fn ask(&self, query: Query) -> Result<Reported, Stop>
-        ensures { OnMachine (Answers query) (standing_of self.now) (answer_of self.now result) (standing_of self.now) }
+        ensures { OnMachine (Answers query) (standing_of self.now) (answer_of self.now result)
+            (standing_of self.now) }
     {
         let Some(world) = self.world.as_ref() else {
             return Err(Stop::Fault(Fault::Line(LineFault::Place)));
@@ -388,7 +396,8 @@ impl<A: Allocator + Copy> Session<A> {
 
     /// The maplets of a tree. None before the boot, and of an Empty guest.
     pub fn maplets(&self, tree: TreeName) -> Option<&Maplets>
-        ensures { MatchOption result (kept_runs self.now tree ≡ []) (λ maplets. maplets.now.runs ≡ kept_runs self.now tree) }
+        ensures { MatchOption result (kept_runs self.now tree ≡ [])
+            (λ maplets. maplets.now.runs ≡ kept_runs self.now tree) }
     {
         let world = self.world.as_ref()?;
         let shared = &world.parts().shared;
@@ -441,7 +450,9 @@ fn checked<A: Allocator + Copy, O: Oracle>(
     requires cpu { cpu < world.old.parts.layout.config.cpus }
     requires remembered { IfSome remembered (IsStateAt world.old) }
     ensures step { IfOk result (λ made. IsStep world.old.parts cpu step made.reply world.new.parts) }
-    ensures given { IfOk result (λ made. O.gives (machine_of world.old) (call_of world.old.parts cpu step made.reply) (state_of world.new.parts) made.verdict) }
+    ensures given { IfOk result
+        (λ made. O.gives (machine_of world.old) (call_of world.old.parts cpu step made.reply)
+        (state_of world.new.parts) made.verdict) }
     ensures after { IfOk result (λ made. IsStateAt world.new made.after) }
     ensures reads { OnOk result (HasRead (count_of reads.old) (world_tables world.new) (count_of reads.new)) }
 {
@@ -468,7 +479,8 @@ fn checked<A: Allocator + Copy, O: Oracle>(
 
 /// What the guest in a slot holds. None where it is Empty, and of a slot past the last.
 fn guest_body<A: Allocator>(world: &World<A>, slot: u64) -> Option<&Body<A>>
-    ensures { MatchOption result (body_at world.now slot ≡ None) (λ body. body_at world.now slot ≡ Some body.now) }
+    ensures { MatchOption result (body_at world.now slot ≡ None)
+        (λ body. body_at world.now slot ≡ Some body.now) }
 {
     let part = world.parts().guests.get(slot as usize)?;
     part.guest.body()
@@ -501,7 +513,9 @@ fn word_on<A: Allocator>(world: &World<A>, tree: TreeName, page: u64, level: u64
 
 /// What a report says of a boot.
 pub fn boot_line<A: Allocator>(world: &World<A>) -> Response
-    ensures { let m = machine_of world.now in result ≡ Response.Boot (tables_told m TreeName.Host) (tables_told m TreeName.Hyp) (free_told m) }
+    ensures { let m = machine_of world.now in
+        result
+        ≡ Response.Boot (tables_told m TreeName.Host) (tables_told m TreeName.Hyp) (free_told m) }
 {
     let shared = &world.parts().shared;
     Response::Boot {

@@ -33,8 +33,11 @@ pub fn replay<A: Allocator + Copy, S: Source, K: Sink>(
     source: &mut S,
     sink: &mut K,
 ) -> Result<Outcome, EngineFault>
-    ensures report { IfOk result (λ outcome. IsReplayed agreed (S.remaining source.old) (K.contents sink.old) (K.contents sink.new) outcome) }
-    ensures begun { OnErr result (IsBegun agreed (S.remaining source.old) (K.contents sink.old) (K.contents sink.new)) }
+    ensures report { IfOk result
+        (λ outcome. IsReplayed agreed (S.remaining source.old) (K.contents sink.old)
+        (K.contents sink.new) outcome) }
+    ensures begun { OnErr result
+        (IsBegun agreed (S.remaining source.old) (K.contents sink.old) (K.contents sink.new)) }
     ensures reads { CountsReads (S.failures source.old) (S.failures source.new) result }
     ensures writes { CountsWrites (K.failures sink.old) (K.failures sink.new) result }
 {
@@ -49,8 +52,11 @@ pub fn replay_with<A: Allocator + Copy, S: Source, K: Sink, O: Oracle>(
     sink: &mut K,
     oracle: &mut O,
 ) -> Result<Outcome, EngineFault>
-    ensures report { IfOk result (λ outcome. IsReplayed O.gives (S.remaining source.old) (K.contents sink.old) (K.contents sink.new) outcome) }
-    ensures begun { OnErr result (IsBegun O.gives (S.remaining source.old) (K.contents sink.old) (K.contents sink.new)) }
+    ensures report { IfOk result
+        (λ outcome. IsReplayed O.gives (S.remaining source.old) (K.contents sink.old)
+        (K.contents sink.new) outcome) }
+    ensures begun { OnErr result
+        (IsBegun O.gives (S.remaining source.old) (K.contents sink.old) (K.contents sink.new)) }
     ensures reads { CountsReads (S.failures source.old) (S.failures source.new) result }
     ensures writes { CountsWrites (K.failures sink.old) (K.failures sink.new) result }
 {
@@ -83,7 +89,8 @@ impl<'a, A: Allocator + Copy, O: Oracle> Replaying<'a, A, O> {
 impl<'a, A: Allocator + Copy, O: Oracle> Player for Replaying<'a, A, O> {
     ghost ready = { λ number replay. IsReady replay.session × ((standing_of replay.session).steps < number) };
 
-    ghost does = { λ number line old answer new. RunsLine O.gives number line (standing_of old.session) answer (standing_of new.session) };
+    ghost does = { λ number line old answer new. RunsLine O.gives number line
+        (standing_of old.session) answer (standing_of new.session) };
 
     ghost ends = { λ replaying. Ends (standing_of replaying.session) };
 
@@ -116,8 +123,11 @@ pub fn tell_answer<A: Allocator + Copy, K: Sink>(
     number: u64,
     ran: Result<Reported, Stop>,
 ) -> Result<Option<Outcome>, EngineFault>
-    ensures ok { IfOk result (Writes number (answer_of session.now ran) (K.contents sink.old) (K.contents sink.new)) }
-    ensures front { OnErr result (WritesFront (lines_told number (answer_of session.now ran)) (K.contents sink.old) (K.contents sink.new)) }
+    ensures ok { IfOk result
+        (Writes number (answer_of session.now ran) (K.contents sink.old) (K.contents sink.new)) }
+    ensures front { OnErr result
+        (WritesFront (lines_told number (answer_of session.now ran)) (K.contents sink.old)
+        (K.contents sink.new)) }
     ensures counted { TellsWrite (K.failures sink.old) (K.failures sink.new) result }
 {
     match ran {
@@ -140,8 +150,12 @@ fn tell_reported<A: Allocator + Copy, K: Sink>(
     text: &mut String,
     reported: Reported,
 ) -> Result<(), EngineFault>
-    ensures ok { OnOk result (Appends (K.contents sink.old) (K.contents sink.new) (text_of_report (lines_reported session.now reported))) }
-    ensures front { OnErr result (WritesFront (lines_reported session.now reported) (K.contents sink.old) (K.contents sink.new)) }
+    ensures ok { OnOk result
+        (Appends (K.contents sink.old) (K.contents sink.new)
+        (text_of_report (lines_reported session.now reported))) }
+    ensures front { OnErr result
+        (WritesFront (lines_reported session.now reported) (K.contents sink.old)
+        (K.contents sink.new)) }
     ensures counted { TellsWrite (K.failures sink.old) (K.failures sink.new) result }
 {
     match reported {
@@ -162,8 +176,12 @@ fn tell_step<K: Sink>(
     told: Response,
     verdict: Verdict,
 ) -> Result<(), EngineFault>
-    ensures ok { OnOk result (Appends (K.contents sink.old) (K.contents sink.new) (text_of_report (ReportLine.Response told ∷ verdict_lines verdict))) }
-    ensures front { OnErr result (WritesFront (ReportLine.Response told ∷ verdict_lines verdict) (K.contents sink.old) (K.contents sink.new)) }
+    ensures ok { OnOk result
+        (Appends (K.contents sink.old) (K.contents sink.new)
+        (text_of_report (ReportLine.Response told ∷ verdict_lines verdict))) }
+    ensures front { OnErr result
+        (WritesFront (ReportLine.Response told ∷ verdict_lines verdict) (K.contents sink.old)
+        (K.contents sink.new)) }
     ensures counted { TellsWrite (K.failures sink.old) (K.failures sink.new) result }
 {
     tell(sink, text, ReportLine::Response(told))?;
@@ -176,8 +194,11 @@ fn tell_verdict<K: Sink>(
     text: &mut String,
     verdict: Verdict,
 ) -> Result<(), EngineFault>
-    ensures ok { OnOk result (Appends (K.contents sink.old) (K.contents sink.new) (text_of_report (verdict_lines verdict))) }
-    ensures front { OnErr result (WritesFront (verdict_lines verdict) (K.contents sink.old) (K.contents sink.new)) }
+    ensures ok { OnOk result
+        (Appends (K.contents sink.old) (K.contents sink.new)
+        (text_of_report (verdict_lines verdict))) }
+    ensures front { OnErr result
+        (WritesFront (verdict_lines verdict) (K.contents sink.old) (K.contents sink.new)) }
     ensures counted { TellsWrite (K.failures sink.old) (K.failures sink.new) result }
 {
     tell_judged(sink, text, verdict.judged)?;
@@ -190,7 +211,9 @@ fn tell_judged<K: Sink>(
     text: &mut String,
     found: Option<Disagreement>,
 ) -> Result<(), EngineFault>
-    ensures ok { OnOk result (Appends (K.contents sink.old) (K.contents sink.new) (text_of_report (judged_lines found))) }
+    ensures ok { OnOk result
+        (Appends (K.contents sink.old) (K.contents sink.new)
+        (text_of_report (judged_lines found))) }
     ensures front { OnErr result (WritesFront (judged_lines found) (K.contents sink.old) (K.contents sink.new)) }
     ensures counted { TellsWrite (K.failures sink.old) (K.failures sink.new) result }
 {
@@ -206,7 +229,9 @@ pub fn tell_audited<K: Sink>(
     text: &mut String,
     found: Option<Disagreement>,
 ) -> Result<(), EngineFault>
-    ensures ok { OnOk result (Appends (K.contents sink.old) (K.contents sink.new) (text_of_report (audited_lines found))) }
+    ensures ok { OnOk result
+        (Appends (K.contents sink.old) (K.contents sink.new)
+        (text_of_report (audited_lines found))) }
     ensures front { OnErr result (WritesFront (audited_lines found) (K.contents sink.old) (K.contents sink.new)) }
     ensures counted { TellsWrite (K.failures sink.old) (K.failures sink.new) result }
 {
@@ -218,8 +243,12 @@ pub fn tell_audited<K: Sink>(
 
 /// Writes a line for each run of maplets.
 fn tell_runs<K: Sink>(sink: &mut K, text: &mut String, runs: Runs<'_>) -> Result<(), EngineFault>
-    ensures ok { OnOk result (Appends (K.contents sink.old) (K.contents sink.new) (text_of_report (map ReportLine.Response (map Response.Run runs.entry)))) }
-    ensures front { OnErr result (WritesFront (map ReportLine.Response (map Response.Run runs.entry)) (K.contents sink.old) (K.contents sink.new)) }
+    ensures ok { OnOk result
+        (Appends (K.contents sink.old) (K.contents sink.new)
+        (text_of_report (map ReportLine.Response (map Response.Run runs.entry)))) }
+    ensures front { OnErr result
+        (WritesFront (map ReportLine.Response (map Response.Run runs.entry))
+        (K.contents sink.old) (K.contents sink.new)) }
     ensures counted { TellsWrite (K.failures sink.old) (K.failures sink.new) result }
 {
     for run in runs {
@@ -230,7 +259,8 @@ fn tell_runs<K: Sink>(sink: &mut K, text: &mut String, runs: Runs<'_>) -> Result
 
 /// Writes a line of the report, which is made in `text` first.
 pub fn tell<K: Sink>(sink: &mut K, text: &mut String, told: ReportLine) -> Result<(), EngineFault>
-    ensures ok { OnOk result (Appends (K.contents sink.old) (K.contents sink.new) (text_of_report (told ∷ []))) }
+    ensures ok { OnOk result
+        (Appends (K.contents sink.old) (K.contents sink.new) (text_of_report (told ∷ []))) }
     ensures front { OnErr result (WritesFront (told ∷ []) (K.contents sink.old) (K.contents sink.new)) }
     ensures counted { TellsWrite (K.failures sink.old) (K.failures sink.new) result }
 {
@@ -250,8 +280,12 @@ pub fn tell_end<K: Sink>(
     steps: u64,
     disagreements: u64,
 ) -> Result<Outcome, EngineFault>
-    ensures ok { IfOk result (EndsWith (ReportLine.End steps disagreements ∷ []) (outcome_of disagreements) (K.contents sink.old) (K.contents sink.new)) }
-    ensures front { OnErr result (WritesFront (ReportLine.End steps disagreements ∷ []) (K.contents sink.old) (K.contents sink.new)) }
+    ensures ok { IfOk result
+        (EndsWith (ReportLine.End steps disagreements ∷ []) (outcome_of disagreements)
+        (K.contents sink.old) (K.contents sink.new)) }
+    ensures front { OnErr result
+        (WritesFront (ReportLine.End steps disagreements ∷ []) (K.contents sink.old)
+        (K.contents sink.new)) }
     ensures counted { TellsWrite (K.failures sink.old) (K.failures sink.new) result }
 {
     let told = ReportLine::End {
@@ -273,8 +307,12 @@ pub fn faulted<K: Sink>(
     line: u64,
     fault: Fault,
 ) -> Result<Outcome, EngineFault>
-    ensures ok { IfOk result (EndsWith (ReportLine.Fault line fault ∷ []) Outcome.Fault (K.contents sink.old) (K.contents sink.new)) }
-    ensures front { OnErr result (WritesFront (ReportLine.Fault line fault ∷ []) (K.contents sink.old) (K.contents sink.new)) }
+    ensures ok { IfOk result
+        (EndsWith (ReportLine.Fault line fault ∷ []) Outcome.Fault (K.contents sink.old)
+        (K.contents sink.new)) }
+    ensures front { OnErr result
+        (WritesFront (ReportLine.Fault line fault ∷ []) (K.contents sink.old)
+        (K.contents sink.new)) }
     ensures counted { TellsWrite (K.failures sink.old) (K.failures sink.new) result }
 {
     tell(sink, text, ReportLine::Fault { line, fault })?;

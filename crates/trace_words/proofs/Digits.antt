@@ -8,11 +8,13 @@ use Rattle.std.proofs.lemmas.List.{take-append-drop, length-append}
 use Rattle.trace_words.specs.Numbers.{digit_of, value_of, in_64_bits}
 
 -- digits behind others: those before count by the power of how many follow
-pub value_of-append : (base : ℕ) (xs ys : List ℕ) → value_of base (xs ++ ys) ≡ value_of base xs * base ^ length ys + value_of base ys
+pub value_of-append : (base : ℕ) (xs ys : List ℕ)
+    → value_of base (xs ++ ys) ≡ value_of base xs * base ^ length ys + value_of base ys
 value_of-append base [] ys = omega arith
 value_of-append base (x ∷ xs) ys =
     let inner = value_of-append base xs ys in
-    let power : base ^ length (xs ++ ys) ≡ base ^ length xs * base ^ length ys = ap (λ n. base ^ n) (length-append xs ys) ∙ pow-add base (length xs) (length ys) in
+    let power : base ^ length (xs ++ ys) ≡ base ^ length xs * base ^ length ys =
+    ap (λ n. base ^ n) (length-append xs ys) ∙ pow-add base (length xs) (length ys) in
     let first : digit_of x * base ^ length (xs ++ ys) ≡ digit_of x * base ^ length xs * base ^ length ys =
     ap (λ n. digit_of x * n) power ∙ sym (mul_assoc (digit_of x) (base ^ length xs) (base ^ length ys)) in
     let all : (digit_of x * base ^ length xs + value_of base xs) * base ^ length ys ≡ digit_of x * base ^ length xs * base ^ length ys + value_of base xs * base ^ length ys =
@@ -23,11 +25,14 @@ pow_one : (n : ℕ) → n ^ 1 ≡ n
 pow_one n = pow-suc n 0 ∙ ap (λ m. m * n) (pow-zero n) ∙ one-mul n
 
 -- one more digit
-pub value_of-more : (base : ℕ) (xs : List ℕ) (i : ℕ) → i < length xs → value_of base (take (i + 1) xs) ≡ value_of base (take i xs) * base + digit_of (get_or xs i 0)
+pub value_of-more : (base : ℕ) (xs : List ℕ) (i : ℕ)
+    → i < length xs
+    → value_of base (take (i + 1) xs) ≡ value_of base (take i xs) * base + digit_of (get_or xs i 0)
 value_of-more base xs i h =
     let cut : take (i + 1) xs ≡ take i xs ++ (get_or xs i 0 ∷ []) = rw add-one (take-suc xs i 0 h) in
     let split = value_of-append base (take i xs) (get_or xs i 0 ∷ []) in
-    let last : value_of base (take i xs) * base ^ 1 + (digit_of (get_or xs i 0) * base ^ 0 + 0) ≡ value_of base (take i xs) * base + digit_of (get_or xs i 0) = simp (pow-zero, pow_one, mul-one) (omega arith) in
+    let last : value_of base (take i xs) * base ^ 1 + (digit_of (get_or xs i 0) * base ^ 0 + 0) ≡ value_of base (take i xs) * base + digit_of (get_or xs i 0) =
+    simp (pow-zero, pow_one, mul-one) (omega arith) in
     ap (value_of base) cut ∙ split ∙ last
 
 -- a front of digits counts no more than all
@@ -61,7 +66,8 @@ stops base value i xs e h one none =
 
 -- a front with one more digit that they hold
 pub goes : (base value next i : ℕ) (xs : List ℕ) → value ≡ value_of base (take i xs) → i < length xs
-    → in_64_bits (value * base + digit_of (get_or xs i 0)) ≡ Some next → (next ≡ value_of base (take (i + 1) xs)) × (next < 2 ^ 64)
+    → in_64_bits (value * base + digit_of (get_or xs i 0)) ≡ Some next
+    → (next ≡ value_of base (take (i + 1) xs)) × (next < 2 ^ 64)
 goes base value next i xs e h some =
     let below = below-in_64_bits (value * base + digit_of (get_or xs i 0)) next some in
     let more = value_of-more base xs i h in

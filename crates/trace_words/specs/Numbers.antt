@@ -22,12 +22,14 @@ value_of base (digit ∷ digits) = digit_of digit * base ^ length digits + value
 -- decimal digits, of which the first isn't 0 unless it is the only one
 abbrev pub is_decimal : List ℕ → Bool
 is_decimal [] = false
-is_decimal (digit ∷ digits) = (nat_lt 48 digit || length digits == 0) && list_all is_decimal_digit (digit ∷ digits)
+is_decimal (digit ∷ digits) =
+    (nat_lt 48 digit || length digits == 0) && list_all is_decimal_digit (digit ∷ digits)
 
 -- `0x` and 1 to 16 hexadecimal digits
 abbrev pub is_hexadecimal : List ℕ → Bool
 is_hexadecimal word =
-    (starts_with nat_eq word (codes "0x") && (nat_le 3 (length word) && nat_le (length word) 18)) && list_all is_hexadecimal_digit (drop 2 word)
+    (starts_with nat_eq word (codes "0x") && (nat_le 3 (length word) && nat_le (length word) 18))
+    && list_all is_hexadecimal_digit (drop 2 word)
 
 -- a value of 64 bits
 abbrev pub in_64_bits : ℕ → Option ℕ

@@ -30,7 +30,8 @@ abbrev pub has_stray_space : List ℕ → Bool
 has_stray_space line = has_empty_word (words_of line)
 
 -- the kept words: the first eight, how many there are, and whether one has no byte
-pub record AreKept {X : Type 0} (now : X → List ℕ) (kept : List X) (count : ℕ) (has_empty : Bool) (words : List (List ℕ)) : Type 0 where
+pub record AreKept {X : Type 0} (now : X → List ℕ) (kept : List X) (count : ℕ) (has_empty : Bool)
+    (words : List (List ℕ)) : Type 0 where
   pub first : map now kept ≡ take 8 words
   pub number : count ≡ length words
   pub empty : has_empty ≡ has_empty_word words

@@ -26,7 +26,8 @@ impl<'a> Model for Words<'a> {
 
     ghost view = { λ words. words_of words.line.now };
 
-    ghost invariant = { λ words. AreKept (λ word. word.now) words.kept.items words.count words.has_empty (words_of words.line.now) };
+    ghost invariant = { λ words. AreKept (λ word. word.now) words.kept.items words.count words.has_empty
+        (words_of words.line.now) };
 }
 
 impl<'a> Words<'a> {

@@ -12,7 +12,10 @@ abbrev vms_told : (ℕ → Slot) → Vms
 vms_told f = record { slot = f }
 
 -- where the changed slot that was read is written, the slot is changed
-pub changed_at : (v : ℕ) (x y : Vms) (old : Slot) (f : Slot → Slot) → y ≡ record x { slot = put_at x.slot v (f old) } → old ≡ x.slot v → y ≡ with_slot v f x
+pub changed_at : (v : ℕ) (x y : Vms) (old : Slot) (f : Slot → Slot)
+    → y ≡ record x { slot = put_at x.slot v (f old) }
+    → old ≡ x.slot v
+    → y ≡ with_slot v f x
 changed_at v x y old f e read = e ∙ ap (λ s. record x { slot = put_at x.slot v (f s) }) read
 
 -- slots that are all Empty stand for the VM part at boot

@@ -15,7 +15,14 @@ stand_of Closing = closing
 
 -- a slot; a vCPU past those of the list is loaded by no CPU
 abbrev pub slot_of : TableSlot → Slot
-slot_of s = record { stand = stand_of s.state; generation = s.generation; kind = s.kind; vcpus = s.vcpus; loaded = λ i. get_or s.loaded i None }
+slot_of s =
+    record {
+      stand = stand_of s.state;
+      generation = s.generation;
+      kind = s.kind;
+      vcpus = s.vcpus;
+      loaded = λ i. get_or s.loaded i None;
+    }
 
 -- the value in place of a slot that the table doesn't have
 abbrev pub no_entry : TableSlot

@@ -111,7 +111,9 @@ impl VmTable {
     /// Another slot in place of one.
     fn put_slot(&mut self, slot: u64, entry: Slot)
         requires { slot < 64 }
-        ensures { vms_of self.new ≡ record (vms_of self.old) { slot = put_at (vms_of self.old).slot slot (slot_of entry) } }
+        ensures { vms_of self.new
+            ≡ record (vms_of self.old)
+            { slot = put_at (vms_of self.old).slot slot (slot_of entry) } }
     {
         self.slots[slot as usize] = entry;
     }

@@ -47,11 +47,16 @@ advance_back x y n h = cc
 record IsSayable (l : Level) (x : Desc) : Type 0 where
   says : IsWellFormed (entry_of_word x) → CanBeSaid l (word_of_entry (entry_of_word x))
 
-either : (l : Level) (b : Bool) (x y : Desc) → (b ≡ true → IsSayable l x) → (b ≡ false → IsSayable l y) → IsSayable l (if b then x else y)
+either : (l : Level) (b : Bool) (x y : Desc)
+    → (b ≡ true → IsSayable l x)
+    → (b ≡ false → IsSayable l y)
+    → IsSayable l (if b then x else y)
 either l true x y f g = f refl
 either l false x y f g = g refl
 
-leaf_said : (l : Level) (form : Bool) (k : Option Kind) (p : Option Prot) (s : Option State) (f : ℕ) → (form ≡ true → IsTrue (has_leaves l) × (f < 2 ^ 36) × (f % level_pages l ≡ 0)) → IsSayable l (leaf_or_malformed form k p s f)
+leaf_said : (l : Level) (form : Bool) (k : Option Kind) (p : Option Prot) (s : Option State) (f : ℕ)
+    → (form ≡ true → IsTrue (has_leaves l) × (f < 2 ^ 36) × (f % level_pages l ≡ 0))
+    → IsSayable l (leaf_or_malformed form k p s f)
 leaf_said l true (Some k) (Some p) (Some s) f h = record { says = λ e. h refl }
 leaf_said l form k p s f h = record { says = λ e. absurd e }
 
@@ -67,14 +72,24 @@ owner_said w p q =
     (omega arith, z)
 
 abbrev leaf_of : Level → ℕ → Desc
-leaf_of l w = leaf_or_malformed (has_leaf_form l w && field w 12 36 % level_pages l == 0) (kind_of_bits (field w 2 4)) (prot_of_bits (field w 6 2) (field w 54 1)) (state_of_bits (field w 55 2)) (field w 12 36)
+leaf_of l w =
+    leaf_or_malformed (has_leaf_form l w && field w 12 36 % level_pages l == 0) (kind_of_bits (field w 2 4))
+    (prot_of_bits (field w 6 2) (field w 54 1)) (state_of_bits (field w 55 2)) (field w 12 36)
 
 word_said : (l : Level) (w : ℕ) → IsSayable l (desc_of l w)
 unfolding desc_of
 word_said l w =
-    either l (w == 0) _ _ (λ _. record { says = λ _. tt }) (λ p. either l _ _ _ (λ q. record { says = λ e. owner_said w p q })
-    (λ _. either l (is_upper l && field w 0 12 == 3 && field w 48 16 == 0) (table_word (record { 0 = field w 12 36 })) (leaf_of l w) (λ _. record { says = λ e. absurd e })
-    (λ _. leaf_said l _ (kind_of_bits (field w 2 4)) (prot_of_bits (field w 6 2) (field w 54 1)) (state_of_bits (field w 55 2)) (field w 12 36) (λ t. ((form_right l w (and-both (has_leaf_form l w) (field w 12 36 % level_pages l == 0) t).0).leaves, omega arith, aligned (has_leaf_form l w) (field w 12 36) (level_pages l) t)))))
+    either l (w == 0) _ _ (λ _. record { says = λ _. tt })
+    (λ p. either l _ _ _ (λ q. record { says = λ e. owner_said w p q })
+    (λ _. either l (is_upper l && field w 0 12 == 3 && field w 48 16 == 0) (table_word (record { 0 = field w 12 36 }))
+    (leaf_of l w) (λ _. record { says = λ e. absurd e })
+    (λ _. leaf_said l _ (kind_of_bits (field w 2 4)) (prot_of_bits (field w 6 2) (field w 54 1))
+    (state_of_bits (field w 55 2)) (field w 12 36)
+    (λ t. (
+      (form_right l w (and-both (has_leaf_form l w) (field w 12 36 % level_pages l == 0) t).0).leaves,
+      omega arith,
+      aligned (has_leaf_form l w) (field w 12 36) (level_pages l) t,
+    )))))
 
 pub fits : (d : ℕ) → d < 4 → FitsWord d (level_at d)
 fits zero p = fits_each_word.0

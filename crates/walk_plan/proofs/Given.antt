@@ -21,7 +21,9 @@ pub one_self : (f : ℕ) → is_one f f ≡ 1
 one_self f = grind (arith, nat_tests)
 
 pub take_drop_length : (n : ℕ) (fs : List ℕ) → length (take n fs) + length (drop n fs) ≡ length fs
-take_drop_length n fs = let e = ap length (take-append-drop n fs) in let a = length-append (take n fs) (drop n fs) in omega (arith, e, a)
+take_drop_length n fs = let e = ap length (take-append-drop n fs) in
+    let a = length-append (take n fs) (drop n fs) in
+    omega (arith, e, a)
 
 -- a list of no length has no element
 pub none_left : (fs : List ℕ) → length fs ≡ 0 → fs ≡ []

@@ -13,7 +13,12 @@ pub record IsIn (d b q : ℕ) : Type 0 where
   pub high : q < b * block_pages d + block_pages d
 
 -- and in one part of it
-held : (s z b q : ℕ) → 1 ≤ s → z ≡ 512 * s → b * z ≤ q → q < b * z + z → ((512 * b + q / s % 512) * s ≤ q) × (q < (512 * b + q / s % 512) * s + s)
+held : (s z b q : ℕ)
+    → 1 ≤ s
+    → z ≡ 512 * s
+    → b * z ≤ q
+    → q < b * z + z
+    → ((512 * b + q / s % 512) * s ≤ q) × (q < (512 * b + q / s % 512) * s + s)
 held s z b q p e low high =
     let x = div-mul-le_self q s in
     let y = lt-div-mul-add {a = q} {b = s} p in
@@ -27,10 +32,16 @@ held s z b q p e low high =
     rw k (x, y)
 
 pub in_part : (d b q : ℕ) → IsIn (suc d) b q → IsIn d (512 * b + index_at d q) q
-in_part d b q h = let low = h.low in let high = h.high in let x = held (block_pages d) (block_pages (suc d)) b q (size_some d) (size_step d) low high in record { low = x.0; high = x.1 }
+in_part d b q h = let low = h.low in
+    let high = h.high in
+    let x = held (block_pages d) (block_pages (suc d)) b q (size_some d) (size_step d) low high in
+    record { low = x.0; high = x.1 }
 
 -- a block of a depth is the one that its first page lies in
-pub top_block : (d b low j : ℕ) → low ≡ d → IsIn (suc d) b (j * block_pages (suc low)) → ◌≡◌ {A = Block} (suc d, b) (suc low, j)
+pub top_block : (d b low j : ℕ)
+    → low ≡ d
+    → IsIn (suc d) b (j * block_pages (suc low))
+    → ◌≡◌ {A = Block} (suc d, b) (suc low, j)
 top_block d b low j e h =
     let s = block_pages (suc d) in
     let in' : IsIn (suc d) b (j * s) = subst (λ z. IsIn (suc d) b (j * block_pages (suc z))) e h in
@@ -55,20 +66,30 @@ index_of_in d b i q p h = index_in d b i q p h.low h.high
 
 -- the pages that share a block with its first page
 own : (low j : ℕ) → j * block_pages (suc low) / block_pages (suc low) ≡ j
-own low j = quotient j (block_pages (suc low)) (j * block_pages (suc low)) (omega arith) (let s = size_some (suc low) in omega arith)
+own low j =
+    quotient j (block_pages (suc low)) (j * block_pages (suc low)) (omega arith)
+    (let s = size_some (suc low) in omega arith)
 
-pub page_under : (low j p : ℕ) → p / block_pages (suc low) ≡ j * block_pages (suc low) / block_pages (suc low) → IsIn (suc low) j p
+pub page_under : (low j p : ℕ)
+    → p / block_pages (suc low) ≡ j * block_pages (suc low) / block_pages (suc low)
+    → IsIn (suc low) j p
 page_under low j p h =
     let e : p / block_pages (suc low) ≡ j = h ∙ own low j in
     let x : p / block_pages (suc low) * block_pages (suc low) ≤ p = div-mul-le_self p (block_pages (suc low)) in
     let y = lt-div-mul-add {a = p} {b = block_pages (suc low)} (size_some (suc low)) in
     record { low = rw e at x; high = rw e at y }
 
-pub under_page : (low j p : ℕ) → IsIn (suc low) j p → p / block_pages (suc low) ≡ j * block_pages (suc low) / block_pages (suc low)
+pub under_page : (low j p : ℕ)
+    → IsIn (suc low) j p
+    → p / block_pages (suc low) ≡ j * block_pages (suc low) / block_pages (suc low)
 under_page low j p h = quotient j (block_pages (suc low)) p h.low h.high ∙ sym (own low j)
 
 -- a block that begins on an input page ends on one
-pub block_within : (top low j p : ℕ) → low < top → j * block_pages (suc low) < block_pages (suc top) → IsIn (suc low) j p → p < block_pages (suc top)
+pub block_within : (top low j p : ℕ)
+    → low < top
+    → j * block_pages (suc low) < block_pages (suc top)
+    → IsIn (suc low) j p
+    → p < block_pages (suc top)
 block_within top low j p l h k =
     let s = block_pages (suc low) in
     let e = size_split (suc top) (suc low) (omega arith) in

@@ -37,20 +37,29 @@ use Rattle.walk_plan.proofs.OfTree.{made_tree, blocks_tree, whole_part, low_dept
 -- steps of the definitions
 
 -- a part that a change meets, of a part
-pub met_part : (d b i : ℕ) (c : Change) (g : ℕ → Change → ℕ) → i < 512 → met d (part (suc d) b c) g i ≡ cond (meets c d (512 * b + i)) (g i (part d (512 * b + i) c)) 0
+pub met_part : (d b i : ℕ) (c : Change) (g : ℕ → Change → ℕ)
+    → i < 512
+    → met d (part (suc d) b c) g i ≡ cond (meets c d (512 * b + i)) (g i (part d (512 * b + i) c)) 0
 unfolding met
 met_part d b i c g p = ap (λ (z : Change). cond (nat_lt z.first z.end) (g i z) 0) (part_part d b i c p)
 
-pub block_need_step : (d : ℕ) (x : Entry) (c : Change) → block_need (suc d) x c ≡ cond (is_one_word_after (suc d) x c) 0 (1 + sum_to (met d c (λ i. block_need d (advance x (i * block_pages d)))) 512)
+pub block_need_step : (d : ℕ) (x : Entry) (c : Change)
+    → block_need (suc d) x c
+    ≡ cond (is_one_word_after (suc d) x c) 0
+    (1 + sum_to (met d c (λ i. block_need d (advance x (i * block_pages d)))) 512)
 unfolding block_need
 block_need_step d x c = refl
 
 module _ {A : Type 0} where
-  pub need_word : (d w : ℕ) (s : Slot A) (c : Change) → s ≡ Word w → slot_need (suc d) s c ≡ block_need (suc d) (entry_of_word (desc_of (level_at (suc d)) w)) c
+  pub need_word : (d w : ℕ) (s : Slot A) (c : Change)
+      → s ≡ Word w
+      → slot_need (suc d) s c ≡ block_need (suc d) (entry_of_word (desc_of (level_at (suc d)) w)) c
   unfolding slot_need
   need_word d w s c e = rw e (case_word _ _ w)
 
-  pub need_child : (d : ℕ) (b : Box (Table A) A) (s : Slot A) (c : Change) → s ≡ Child b → slot_need (suc d) s c ≡ table_need d b.value c
+  pub need_child : (d : ℕ) (b : Box (Table A) A) (s : Slot A) (c : Change)
+      → s ≡ Child b
+      → slot_need (suc d) s c ≡ table_need d b.value c
   unfolding slot_need table_parts
   need_child d b s c e = rw e (case_child _ _ b)
 
@@ -82,13 +91,24 @@ module _ (c : Change) (n : Map) (ts : Block → Option ℕ) where
   pub needed_unmet : (d b : ℕ) → meets c d b ≡ false → needed d b ≡ []
   needed_unmet d b h = rw (under_unmet c d b h) refl
 
-  needed_met : (d b : ℕ) → meets c (suc d) b ≡ true → needed (suc d) b ≡ cond (is_needed ts n (suc d, b)) ((suc d, b) ∷ needed_below d b) (needed_below d b)
-  needed_met d b h = ap (filter (is_needed ts n)) (under_met c d b h) ∙ ap (λ xs. cond (is_needed ts n (suc d, b)) ((suc d, b) ∷ xs) xs) (filter_joined (is_needed ts n) (λ i. under c d (512 * b + i)) 512)
+  needed_met : (d b : ℕ)
+      → meets c (suc d) b ≡ true
+      → needed (suc d) b ≡ cond (is_needed ts n (suc d, b)) ((suc d, b) ∷ needed_below d b) (needed_below d b)
+  needed_met d b h =
+      ap (filter (is_needed ts n)) (under_met c d b h)
+      ∙ ap (λ xs. cond (is_needed ts n (suc d, b)) ((suc d, b) ∷ xs) xs)
+      (filter_joined (is_needed ts n) (λ i. under c d (512 * b + i)) 512)
 
-  pub needed_head : (d b : ℕ) → meets c (suc d) b ≡ true → is_needed ts n (suc d, b) ≡ true → needed (suc d) b ≡ (suc d, b) ∷ needed_below d b
+  pub needed_head : (d b : ℕ)
+      → meets c (suc d) b ≡ true
+      → is_needed ts n (suc d, b) ≡ true
+      → needed (suc d) b ≡ (suc d, b) ∷ needed_below d b
   needed_head d b h k = needed_met d b h ∙ ap (λ t. cond t ((suc d, b) ∷ needed_below d b) (needed_below d b)) k
 
-  pub needed_past : (d b : ℕ) → meets c (suc d) b ≡ true → is_needed ts n (suc d, b) ≡ false → needed (suc d) b ≡ needed_below d b
+  pub needed_past : (d b : ℕ)
+      → meets c (suc d) b ≡ true
+      → is_needed ts n (suc d, b) ≡ false
+      → needed (suc d) b ≡ needed_below d b
   needed_past d b h k = needed_met d b h ∙ ap (λ t. cond t ((suc d, b) ∷ needed_below d b) (needed_below d b)) k
 
   -- a block that is one word needs no table, nor does one below it
@@ -96,7 +116,9 @@ module _ (c : Change) (n : Map) (ts : Block → Option ℕ) where
   one_word_none zero b p h = needed_page b
   one_word_none (suc d) b p h =
       by_test (meets c (suc d) b)
-      (λ t. needed_past d b t (one_word_not (suc d, b) h) ∙ joined_none (λ i. needed d (512 * b + i)) 512 (λ i q. one_word_none d (512 * b + i) (omega arith) (one_word_part n d b i q h)))
+      (λ t. needed_past d b t (one_word_not (suc d, b) h)
+      ∙ joined_none (λ i. needed d (512 * b + i)) 512
+      (λ i q. one_word_none d (512 * b + i) (omega arith) (one_word_part n d b i q h)))
       (needed_unmet (suc d) b)
 
   -- the number of needed blocks
@@ -104,60 +126,99 @@ module _ (c : Change) (n : Map) (ts : Block → Option ℕ) where
   abbrev pub count : ℕ → ℕ → ℕ
   count d b = length (needed d b)
 
-  pub count_below : (d b : ℕ) (g : ℕ → Change → ℕ) → ((i : ℕ) → i < 512 → count d (512 * b + i) ≡ cond (meets c d (512 * b + i)) (g i (part d (512 * b + i) c)) 0) → length (needed_below d b) ≡ sum_to (met d (part (suc d) b c) g) 512
-  count_below d b g h = length_joined (λ i. needed d (512 * b + i)) 512 ∙ sum_same (λ i. count d (512 * b + i)) (met d (part (suc d) b c) g) 512 (λ i p. h i p ∙ sym (met_part d b i c g p))
+  pub count_below : (d b : ℕ) (g : ℕ → Change → ℕ)
+      → ((i : ℕ) → i < 512 → count d (512 * b + i) ≡ cond (meets c d (512 * b + i)) (g i (part d (512 * b + i) c)) 0)
+      → length (needed_below d b) ≡ sum_to (met d (part (suc d) b c) g) 512
+  count_below d b g h =
+      length_joined (λ i. needed d (512 * b + i)) 512
+      ∙ sum_same (λ i. count d (512 * b + i)) (met d (part (suc d) b c) g) 512
+      (λ i p. h i p ∙ sym (met_part d b i c g p))
 
   count_unmet : (d b k : ℕ) → meets c d b ≡ false → count d b ≡ cond (meets c d b) k 0
   count_unmet d b k h = ap length (needed_unmet d b h) ∙ ap (λ t. cond t k 0) (sym h)
 
 module _ (c : Change) (m n : Map) (ts : Block → Option ℕ) (made : IsMade c m n) where
-  pub block_count : (d b : ℕ) (x : Entry) → d < 4 → fits_word d x ≡ true → IsBare m ts d b x → count c n ts d b ≡ cond (meets c d b) (block_need d x (part d b c)) 0
+  pub block_count : (d b : ℕ) (x : Entry)
+      → d < 4
+      → fits_word d x ≡ true
+      → IsBare m ts d b x
+      → count c n ts d b ≡ cond (meets c d b) (block_need d x (part d b c)) 0
   unfolding block_need
-  block_count zero b x p fits h = by_test (meets c zero b) (λ t. ap length (needed_page c n ts b) ∙ ap (λ z. cond z 0 0) (sym t)) (count_unmet c n ts zero b 0)
+  block_count zero b x p fits h =
+      by_test (meets c zero b) (λ t. ap length (needed_page c n ts b) ∙ ap (λ z. cond z 0 0) (sym t))
+      (count_unmet c n ts zero b 0)
   block_count (suc d) b x p fits h =
       by_test (meets c (suc d) b)
       (λ t.
       let same = one_word_same c m n made (suc d) b x t fits (bare_map m ts (suc d) b x h) in
       let is = bare_needed c n ts (suc d, b) (bare_here m ts d b x h) in
       let parts : length (needed_below c n ts d b) ≡ sum_to (met d (part (suc d) b c) (λ i. block_need d (advance x (i * block_pages d)))) 512 =
-      count_below c n ts d b (λ i. block_need d (advance x (i * block_pages d))) (λ i q. block_count d (512 * b + i) (advance x (i * block_pages d)) (omega arith) (fits_part d i x q fits) (bare_part m ts d b i x q h)) in
+      count_below c n ts d b (λ i. block_need d (advance x (i * block_pages d)))
+      (λ i q. block_count d (512 * b + i) (advance x (i * block_pages d)) (omega arith) (fits_part d i x q fits)
+      (bare_part m ts d b i x q h)) in
       let goal : count c n ts (suc d) b ≡ block_need (suc d) x (part (suc d) b c) =
       by_test (is_one_word n (suc d, b))
-      (λ u. ap length (one_word_none c n ts (suc d) b p u) ∙ sym (block_need_step d x (part (suc d) b c) ∙ rw (sym same, u) refl))
-      (λ u. ap length (needed_head c n ts d b t (is ∙ ap not u)) ∙ ap suc parts ∙ sym (block_need_step d x (part (suc d) b c) ∙ rw (sym same, u) (omega arith))) in
+      (λ u. ap length (one_word_none c n ts (suc d) b p u)
+      ∙ sym (block_need_step d x (part (suc d) b c) ∙ rw (sym same, u) refl))
+      (λ u. ap length (needed_head c n ts d b t (is ∙ ap not u)) ∙ ap suc parts
+      ∙ sym (block_need_step d x (part (suc d) b c) ∙ rw (sym same, u) (omega arith))) in
       goal ∙ ap (λ z. cond z (block_need (suc d) x (part (suc d) b c)) 0) (sym t))
       (count_unmet c n ts (suc d) b (block_need (suc d) x (part (suc d) b c)))
 
   -- a slot of a table, and a table
   module _ {A : Type 0} where
-    pub slot_count : (d b : ℕ) (s : Slot A) → d < 4 → IsSlot d s → Matches m ts d d b (slot_entry d s) (slot_table d s) → count c n ts d b ≡ cond (meets c d b) (slot_need d s (part d b c)) 0
+    pub slot_count : (d b : ℕ) (s : Slot A)
+        → d < 4
+        → IsSlot d s
+        → Matches m ts d d b (slot_entry d s) (slot_table d s)
+        → count c n ts d b ≡ cond (meets c d b) (slot_need d s (part d b c)) 0
     unfolding slot_need table_parts
-    slot_count zero b s p shape h = by_test (meets c zero b) (λ t. ap length (needed_page c n ts b) ∙ ap (λ z. cond z 0 0) (sym t)) (count_unmet c n ts zero b 0)
+    slot_count zero b s p shape h =
+        by_test (meets c zero b) (λ t. ap length (needed_page c n ts b) ∙ ap (λ z. cond z 0 0) (sym t))
+        (count_unmet c n ts zero b 0)
     slot_count (suc d) b s p shape h =
         by_slot s
-        (λ w e. block_count (suc d) b (entry_of_word (desc_of (level_at (suc d)) w)) p (word_fits (suc d) w p (slot_word_is (suc d) w s shape e)) (match_word m ts (suc d) b w s e h)
+        (λ w e. block_count (suc d) b (entry_of_word (desc_of (level_at (suc d)) w)) p
+        (word_fits (suc d) w p (slot_word_is (suc d) w s shape e)) (match_word m ts (suc d) b w s e h)
         ∙ ap (λ k. cond (meets c (suc d) b) k 0) (sym (need_word d w s (part (suc d) b c) e)))
         (λ x e. by_test (meets c (suc d) b)
         (λ t.
         let has = child_here m ts d b s x e h in
-        let all = count_below c n ts d b (table_parts d x.value) (λ i q. slot_count d (512 * b + i) (slot_at x.value i) (omega arith) (shaped_slot d x.value i (child_shaped d x s shape e) q) (match_slot m ts d b i x.value q (match_child m ts d b s x e h))) in
-        ap length (needed_past c n ts d b t (table_not c n ts (suc d, b) _ has)) ∙ all ∙ sym (need_child d x s (part (suc d) b c) e) ∙ ap (λ z. cond z (slot_need (suc d) s (part (suc d) b c)) 0) (sym t))
+        let all =
+        count_below c n ts d b (table_parts d x.value)
+        (λ i q. slot_count d (512 * b + i) (slot_at x.value i) (omega arith)
+        (shaped_slot d x.value i (child_shaped d x s shape e) q)
+        (match_slot m ts d b i x.value q (match_child m ts d b s x e h))) in
+        ap length (needed_past c n ts d b t (table_not c n ts (suc d, b) _ has)) ∙ all
+        ∙ sym (need_child d x s (part (suc d) b c) e)
+        ∙ ap (λ z. cond z (slot_need (suc d) s (part (suc d) b c)) 0) (sym t))
         (count_unmet c n ts (suc d) b (slot_need (suc d) s (part (suc d) b c))))
 
-    pub table_count : (d b : ℕ) (t : Table A) → d < 4 → IsShaped d t → Matches m ts d (suc d) b (entry_at d t) (table_in d t) → length (needed_below c n ts d b) ≡ table_need d t (part (suc d) b c)
+    pub table_count : (d b : ℕ) (t : Table A)
+        → d < 4
+        → IsShaped d t
+        → Matches m ts d (suc d) b (entry_at d t) (table_in d t)
+        → length (needed_below c n ts d b) ≡ table_need d t (part (suc d) b c)
     unfolding table_parts
-    table_count d b t p shape h = count_below c n ts d b (table_parts d t) (λ i q. slot_count d (512 * b + i) (slot_at t i) p (shaped_slot d t i shape q) (match_slot m ts d b i t q h))
+    table_count d b t p shape h =
+        count_below c n ts d b (table_parts d t)
+        (λ i q. slot_count d (512 * b + i) (slot_at t i) p (shaped_slot d t i shape q)
+        (match_slot m ts d b i t q h))
 
 -- the need of a change of a tree
-module _ {A : Type 0} (t : Tree A) (first count : ℕ) (e : Entry) (c : Change) (some : 0 < count) (within : first + count ≤ input_pages t.geometry) (from : c.first ≡ first) (to : c.end ≡ first + count) (gives : c.entry ≡ e) where
+module _ {A : Type 0} (t : Tree A) (first count : ℕ) (e : Entry) (c : Change) (some : 0 < count)
+    (within : first + count ≤ input_pages t.geometry) (from : c.first ≡ first) (to : c.end ≡ first + count)
+    (gives : c.entry ≡ e) where
   abbrev top : ℕ
   top = levels_below t.geometry
 
-  pub needs_walked : needs top (tree_of t) (put first count e) ≡ needed_below c (update (meaning t) first count e) (λ b. table_at t b.0 b.1) top 0
+  pub needs_walked : needs top (tree_of t) (put first count e)
+      ≡ needed_below c (update (meaning t) first count e) (λ b. table_at t b.0 b.1) top 0
   unfolding needs
   needs_walked =
       let pass = is_needed (λ b. table_at t b.0 b.1) (update (meaning t) first count e) in
-      ap (filter pass) (blocks_tree t first count e c some within from to gives) ∙ filter_joined pass (λ i. under c top (512 * 0 + i)) 512
+      ap (filter pass) (blocks_tree t first count e c some within from to gives)
+      ∙ filter_joined pass (λ i. under c top (512 * 0 + i)) 512
 
   pub need_walked : table_need top t.table c ≡ need top (tree_of t) (put first count e)
   need_walked =
@@ -166,4 +227,6 @@ module _ {A : Type 0} (t : Tree A) (first count : ℕ) (e : Entry) (c : Change) 
       let ts : Block → Option ℕ = λ b. table_at t b.0 b.1 in
       let made = made_tree t first count e c some within from to gives in
       let all = table_count c m n ts made top 0 t.table (low_depth t.geometry) t.shaped (match_tree t) in
-      sym (ap length needs_walked ∙ all ∙ ap (table_need top t.table) (whole_part t first count e c some within from to gives))
+      sym
+      (ap length needs_walked ∙ all
+      ∙ ap (table_need top t.table) (whole_part t first count e c some within from to gives))

@@ -26,24 +26,33 @@ not_root d low root j h = let e : (suc low == d + 1) ≡ false = grind (arith, n
 new_bare : (d root b : ℕ) → IsBare empty_map (root_tree d root).table d b Unmapped
 new_bare d root b = record { map = λ q l u. refl; tables = λ low j k l u. not_root d low root j k }
 
-module _ (d root first count : ℕ) (e : Entry) (c : Change) (low : d < 4) (some : 0 < count) (within : first + count ≤ block_pages (suc d)) (from : c.first ≡ first) (to : c.end ≡ first + count) (gives : c.entry ≡ e) where
+module _ (d root first count : ℕ) (e : Entry) (c : Change) (low : d < 4) (some : 0 < count)
+    (within : first + count ≤ block_pages (suc d)) (from : c.first ≡ first) (to : c.end ≡ first + count)
+    (gives : c.entry ≡ e) where
   made_new : IsMade c empty_map (update empty_map first count e)
   made_new = record {
     inside = λ q p r. rw (from, gives) (update_inside empty_map first count e q (omega arith) (omega arith));
-    outside = λ q h. update_outside empty_map first count e q (elim h [ inl p ↦ inl (omega arith) | inr p ↦ inr (omega arith) ]);
+    outside =
+        λ q h. update_outside empty_map first count e q
+        (elim h [ inl p ↦ inl (omega arith) | inr p ↦ inr (omega arith) ]);
   }
 
-  new_walked : needs d (root_tree d root) (put first count e) ≡ needed_below c (update empty_map first count e) (root_tree d root).table d 0
+  new_walked : needs d (root_tree d root) (put first count e)
+      ≡ needed_below c (update empty_map first count e) (root_tree d root).table d 0
   unfolding needs
   new_walked =
       let pass = is_needed (root_tree d root).table (update empty_map first count e) in
-      ap (filter pass) (blocks_below c d first count some within from to) ∙ filter_joined pass (λ i. under c d (512 * 0 + i)) 512
+      ap (filter pass) (blocks_below c d first count some within from to)
+      ∙ filter_joined pass (λ i. under c d (512 * 0 + i)) 512
 
   pub new_need : sum_to (met d c (block_parts d Unmapped)) 512 ≡ need d (root_tree d root) (put first count e)
   unfolding block_parts
   new_need =
       let n = update empty_map first count e in
       let ts = (root_tree d root).table in
-      let all = count_below c n ts d 0 (block_parts d Unmapped) (λ i p. block_count c empty_map n ts made_new d (512 * 0 + i) Unmapped low refl (new_bare d root (512 * 0 + i))) in
+      let all =
+      count_below c n ts d 0 (block_parts d Unmapped)
+      (λ i p. block_count c empty_map n ts made_new d (512 * 0 + i) Unmapped low refl
+      (new_bare d root (512 * 0 + i))) in
       let whole : part (suc d) 0 c ≡ c = part_all (suc d) c (omega arith) in
       sym (ap length new_walked ∙ all ∙ ap (λ z. sum_to (met d z (block_parts d Unmapped)) 512) whole)

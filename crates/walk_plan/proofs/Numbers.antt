@@ -19,7 +19,11 @@ quotient k s q low high =
     let less : q - k * s < s = omega arith in
     ap (λ n. n / s) e ∙ div-mul-add k s (q - k * s) less
 
-pub index_in : (d b i q : ℕ) → i < 512 → (512 * b + i) * block_pages d ≤ q → q < (512 * b + i) * block_pages d + block_pages d → index_at d q ≡ i
+pub index_in : (d b i q : ℕ)
+    → i < 512
+    → (512 * b + i) * block_pages d ≤ q
+    → q < (512 * b + i) * block_pages d + block_pages d
+    → index_at d q ≡ i
 index_in d b i q p low high = rw (quotient (512 * b + i) (block_pages d) q low high) (omega arith)
 
 rest : (k s q : ℕ) → k * s ≤ q → q < k * s + s → q % s ≡ q - k * s
@@ -28,7 +32,10 @@ rest k s q low high =
     let x : k * s ≡ q / s * s = ap (λ n. n * s) (sym e) in
     omega arith
 
-pub place_in : (d b q : ℕ) → b * block_pages d ≤ q → q < b * block_pages d + block_pages d → q % block_pages d ≡ q - b * block_pages d
+pub place_in : (d b q : ℕ)
+    → b * block_pages d ≤ q
+    → q < b * block_pages d + block_pages d
+    → q % block_pages d ≡ q - b * block_pages d
 place_in d b q low high = rest b (block_pages d) q low high
 
 pub place_small : (d q : ℕ) → q < block_pages d → q % block_pages d ≡ q
@@ -72,8 +79,11 @@ part_part d b i c p =
     same_change
     (begins (block_pages d) (block_pages (suc d)) b i c.first z)
     (ends (block_pages d) (block_pages (suc d)) b i c.end z p)
-    (advance-more c.entry (b * block_pages (suc d) - c.first) (i * block_pages d - (c.first - b * block_pages (suc d))) ∙ ap (λ n. advance c.entry n) (gaps (block_pages d) (block_pages (suc d)) b i c.first z))
+    (advance-more c.entry (b * block_pages (suc d) - c.first) (i * block_pages d - (c.first - b * block_pages (suc d)))
+    ∙ ap (λ n. advance c.entry n) (gaps (block_pages d) (block_pages (suc d)) b i c.first z))
 
 -- a change of a block is its own part
 pub part_all : (d : ℕ) (c : Change) → c.end ≤ block_pages d → part d 0 c ≡ c
-part_all d c h = same_change (omega arith) (omega arith) (let e : 0 * block_pages d - c.first ≡ 0 = omega arith in rw e (advance-none c.entry))
+part_all d c h =
+    same_change (omega arith) (omega arith)
+    (let e : 0 * block_pages d - c.first ≡ 0 = omega arith in rw e (advance-none c.entry))

@@ -20,11 +20,15 @@ use Rattle.walk_plan.proofs.Matched.{all_pages}
 pub low_depth : (g : Geometry) → levels_below g < 4
 low_depth g = let most = levels_most g in omega arith
 
-module _ {A : Type 0} (t : Tree A) (first count : ℕ) (e : Entry) (c : Change) (some : 0 < count) (within : first + count ≤ input_pages t.geometry) (from : c.first ≡ first) (to : c.end ≡ first + count) (gives : c.entry ≡ e) where
+module _ {A : Type 0} (t : Tree A) (first count : ℕ) (e : Entry) (c : Change) (some : 0 < count)
+    (within : first + count ≤ input_pages t.geometry) (from : c.first ≡ first) (to : c.end ≡ first + count)
+    (gives : c.entry ≡ e) where
   pub made_tree : IsMade c (meaning t) (update (meaning t) first count e)
   made_tree = record {
     inside = λ q p r. rw (from, gives) (update_inside (meaning t) first count e q (omega arith) (omega arith));
-    outside = λ q h. update_outside (meaning t) first count e q (elim h [ inl p ↦ inl (omega arith) | inr p ↦ inr (omega arith) ]);
+    outside =
+        λ q h. update_outside (meaning t) first count e q
+        (elim h [ inl p ↦ inl (omega arith) | inr p ↦ inr (omega arith) ]);
   }
 
   pub blocks_tree : blocks_on (levels_below t.geometry) first count ≡ below c (levels_below t.geometry) 0

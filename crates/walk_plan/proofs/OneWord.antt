@@ -44,14 +44,22 @@ pub record IsMade (c : Change) (m n : Map) : Type 0 where
 
 -- and what it is in a block
 module _ (c : Change) (m n : Map) (made : IsMade c m n) (d b : ℕ) where
-  pub made_inside : (i : ℕ) → (part d b c).first ≤ i → i < (part d b c).end → n (b * block_pages d + i) ≡ advance (part d b c).entry (i - (part d b c).first)
+  pub made_inside : (i : ℕ)
+      → (part d b c).first ≤ i
+      → i < (part d b c).end
+      → n (b * block_pages d + i) ≡ advance (part d b c).entry (i - (part d b c).first)
   made_inside i p q =
       let k = b * block_pages d in
       let e : k - c.first + (i - (c.first - k)) ≡ k + i - c.first = omega arith in
-      made.inside (k + i) (omega arith) (omega arith) ∙ sym (advance-more c.entry (k - c.first) (i - (c.first - k)) ∙ ap (λ z. advance c.entry z) e)
+      made.inside (k + i) (omega arith) (omega arith)
+      ∙ sym (advance-more c.entry (k - c.first) (i - (c.first - k)) ∙ ap (λ z. advance c.entry z) e)
 
-  pub made_outside : (i : ℕ) → i < block_pages d → (i < (part d b c).first) ⊎ ((part d b c).end ≤ i) → n (b * block_pages d + i) ≡ m (b * block_pages d + i)
-  made_outside i p h = made.outside (b * block_pages d + i) (elim h [ inl q ↦ inl (omega arith) | inr q ↦ inr (omega arith) ])
+  pub made_outside : (i : ℕ)
+      → i < block_pages d
+      → (i < (part d b c).first) ⊎ ((part d b c).end ≤ i)
+      → n (b * block_pages d + i) ≡ m (b * block_pages d + i)
+  made_outside i p h =
+      made.outside (b * block_pages d + i) (elim h [ inl q ↦ inl (omega arith) | inr q ↦ inr (omega arith) ])
 
 -- what the test of a block says
 
@@ -61,7 +69,10 @@ Along n s d b = (fits_word d (n (b * s)) ≡ true) × ((i : ℕ) → i < s → n
 one_word_says : (n : Map) (d b : ℕ) → is_one_word n (d, b) ≡ true → Along n (block_pages d) d b
 one_word_says n d b h = (one_word_means n (d, b)).0 h
 
-pub one_word_made : (n : Map) (d b : ℕ) (y : Entry) → fits_word d y ≡ true → ((i : ℕ) → i < block_pages d → n (b * block_pages d + i) ≡ advance y i) → is_one_word n (d, b) ≡ true
+pub one_word_made : (n : Map) (d b : ℕ) (y : Entry)
+    → fits_word d y ≡ true
+    → ((i : ℕ) → i < block_pages d → n (b * block_pages d + i) ≡ advance y i)
+    → is_one_word n (d, b) ≡ true
 one_word_made n d b y f h =
     let z : b * block_pages d + 0 ≡ b * block_pages d = omega arith in
     let e : n (b * block_pages d) ≡ y = ap n (sym z) ∙ h 0 (size_some d) ∙ advance-none y in
@@ -69,7 +80,10 @@ one_word_made n d b y f h =
     (one_word_means n (d, b)).1 along
 
 -- the parts of a block that is one word are one word
-pub one_word_part : (n : Map) (d b i : ℕ) → i < 512 → is_one_word n (suc d, b) ≡ true → is_one_word n (d, 512 * b + i) ≡ true
+pub one_word_part : (n : Map) (d b i : ℕ)
+    → i < 512
+    → is_one_word n (suc d, b) ≡ true
+    → is_one_word n (d, 512 * b + i) ≡ true
 one_word_part n d b i q h =
     let y = n (b * block_pages (suc d)) in
     let x = one_word_says n (suc d) b h in
@@ -78,14 +92,19 @@ one_word_part n d b i q h =
     let at = places (block_pages d) (block_pages (suc d)) b i j (size_step d) q r in
     ap n at.0 ∙ x.1 (i * block_pages d + j) at.1 ∙ sym (advance-more y (i * block_pages d) j))
   where
-    places : (s z b i j : ℕ) → z ≡ 512 * s → i < 512 → j < s → ((512 * b + i) * s + j ≡ b * z + (i * s + j)) × (i * s + j < z)
+    places : (s z b i j : ℕ)
+        → z ≡ 512 * s
+        → i < 512
+        → j < s
+        → ((512 * b + i) * s + j ≡ b * z + (i * s + j)) × (i * s + j < z)
     places s z b i j e p q =
         let k : i + 1 ≤ 512 = omega arith in
         let y = mul-le-mul_right s k in
         (rw e (omega arith), rw e (omega (arith, y)))
 
 -- a block without a table is one word after a change just where the code's test says so
-module _ (c : Change) (m n : Map) (made : IsMade c m n) (d b : ℕ) (x : Entry) (met : meets c d b ≡ true) (fits : fits_word d x ≡ true) (old : (i : ℕ) → i < block_pages d → m (b * block_pages d + i) ≡ advance x i) where
+module _ (c : Change) (m n : Map) (made : IsMade c m n) (d b : ℕ) (x : Entry) (met : meets c d b ≡ true)
+    (fits : fits_word d x ≡ true) (old : (i : ℕ) → i < block_pages d → m (b * block_pages d + i) ≡ advance x i) where
   abbrev f : ℕ
   f = (part d b c).first
 
@@ -110,7 +129,9 @@ module _ (c : Change) (m n : Map) (made : IsMade c m n) (d b : ℕ) (x : Entry) 
       let u = and-both (f == 0) (e == size) t.0 in
       let start : f ≡ 0 = eq-same f 0 u.0 in
       let stop : e ≡ size = eq-same e size u.1 in
-      one_word_made n d b y t.1 (λ i q. let z : i - f ≡ i = omega arith in made_inside c m n made d b i (omega arith) (omega arith) ∙ ap (λ k. advance y k) z)
+      one_word_made n d b y t.1
+      (λ i q. let z : i - f ≡ i = omega arith in
+      made_inside c m n made d b i (omega arith) (omega arith) ∙ ap (λ k. advance y k) z)
 
   same_word : advance x f ≡ y → is_one_word n (d, b) ≡ true
   same_word h =
@@ -118,14 +139,19 @@ module _ (c : Change) (m n : Map) (made : IsMade c m n) (d b : ℕ) (x : Entry) 
       (λ i q. by_lt i f
       (λ r. made_outside c m n made d b i q (inl r) ∙ old i q)
       (λ r. by_lt i e
-      (λ t. let z : f + (i - f) ≡ i = omega arith in made_inside c m n made d b i r t ∙ ap (λ w. advance w (i - f)) (sym h) ∙ advance-more x f (i - f) ∙ ap (λ k. advance x k) z)
+      (λ t. let z : f + (i - f) ≡ i = omega arith in
+      made_inside c m n made d b i r t ∙ ap (λ w. advance w (i - f)) (sym h) ∙ advance-more x f (i - f)
+      ∙ ap (λ k. advance x k) z)
       (λ t. made_outside c m n made d b i q (inr t) ∙ old i q)))
 
   one_to : is_one_word_after d x (part d b c) ≡ true → is_one_word n (d, b) ≡ true
-  one_to h = by_or (is_whole d (part d b c)) (entry_eq (advance x f) y) h whole_word (λ k. same_word (entry_eq-same (advance x f) y k))
+  one_to h =
+      by_or (is_whole d (part d b c)) (entry_eq (advance x f) y) h whole_word
+      (λ k. same_word (entry_eq-same (advance x f) y k))
 
   at_first : n (b * size + f) ≡ y
-  at_first = let z : f - f ≡ 0 = omega arith in made_inside c m n made d b f (omega arith) some ∙ ap (λ k. advance y k) z ∙ advance-none y
+  at_first = let z : f - f ≡ 0 = omega arith in
+      made_inside c m n made d b f (omega arith) some ∙ ap (λ k. advance y k) z ∙ advance-none y
 
   same_left : advance x f ≡ y → is_one_word_after d x (part d b c) ≡ true
   same_left h = or_right (is_whole d (part d b c)) (entry_eq (advance x f) y) (rw h (entry_eq-self y))
@@ -141,13 +167,15 @@ module _ (c : Change) (m n : Map) (made : IsMade c m n) (d b : ℕ) (x : Entry) 
       (λ less.
       let last : size - 1 < size = omega arith in
       let new : n (b * size + (size - 1)) ≡ advance w (size - 1) = along.1 (size - 1) last in
-      let was : n (b * size + (size - 1)) ≡ advance x (size - 1) = made_outside c m n made d b (size - 1) last (inr (omega arith)) ∙ old (size - 1) last in
+      let was : n (b * size + (size - 1)) ≡ advance x (size - 1) =
+      made_outside c m n made d b (size - 1) last (inr (omega arith)) ∙ old (size - 1) last in
       let same : x ≡ w = advance_back x w (size - 1) (sym was ∙ new) in
       same_left (ap (λ k. advance x k) g ∙ advance-none x ∙ same ∙ is))
       (λ more.
       let stop : e ≡ size = omega arith in
       or_left (is_whole d (part d b c)) (entry_eq (advance x f) y)
-      (and-join (f == 0 && e == size) (fits_word d y) (and-join (f == 0) (e == size) (eq-made f 0 g) (eq-made e size stop)) (ap (fits_word d) (sym is) ∙ along.0)))
+      (and-join (f == 0 && e == size) (fits_word d y)
+      (and-join (f == 0) (e == size) (eq-made f 0 g) (eq-made e size stop)) (ap (fits_word d) (sym is) ∙ along.0)))
 
   -- it begins later
   past_start : is_one_word n (d, b) ≡ true → 0 < f → is_one_word_after d x (part d b c) ≡ true
@@ -155,8 +183,11 @@ module _ (c : Change) (m n : Map) (made : IsMade c m n) (d b : ℕ) (x : Entry) 
       let w = n (b * size) in
       let along = one_word_says n d b h in
       let z : b * size ≡ b * size + 0 = omega arith in
-      let is : w ≡ x = ap n z ∙ made_outside c m n made d b 0 (size_some d) (inl g) ∙ old 0 (size_some d) ∙ advance-none x in
+      let is : w ≡ x =
+      ap n z ∙ made_outside c m n made d b 0 (size_some d) (inl g) ∙ old 0 (size_some d) ∙ advance-none x in
       same_left (ap (λ v. advance v f) (sym is) ∙ sym (along.1 f (omega (arith, some, within))) ∙ at_first)
 
   pub one_word_same : is_one_word n (d, b) ≡ is_one_word_after d x (part d b c)
-  one_word_same = same_test (is_one_word n (d, b)) (is_one_word_after d x (part d b c)) (λ h. by_lt 0 f (past_start h) (λ g. let z : f ≡ 0 = omega arith in at_start h z)) one_to
+  one_word_same =
+      same_test (is_one_word n (d, b)) (is_one_word_after d x (part d b c))
+      (λ h. by_lt 0 f (past_start h) (λ g. let z : f ≡ 0 = omega arith in at_start h z)) one_to

@@ -43,17 +43,24 @@ under_all c (suc d) b a some h =
     (λ p.
     let s = h.shallow in
     let e : a.0 ≡ suc d = omega arith in
-    let low : b * block_pages (suc d) ≤ a.1 * block_pages (suc d) = subst (λ n. b * block_pages (suc d) ≤ a.1 * block_pages n) e h.low in
-    let high : a.1 * block_pages (suc d) + block_pages (suc d) ≤ b * block_pages (suc d) + block_pages (suc d) = subst (λ n. a.1 * block_pages n + block_pages n ≤ b * block_pages (suc d) + block_pages (suc d)) e h.high in
+    let low : b * block_pages (suc d) ≤ a.1 * block_pages (suc d) =
+    subst (λ n. b * block_pages (suc d) ≤ a.1 * block_pages n) e h.low in
+    let high : a.1 * block_pages (suc d) + block_pages (suc d) ≤ b * block_pages (suc d) + block_pages (suc d) =
+    subst (λ n. a.1 * block_pages n + block_pages n ≤ b * block_pages (suc d) + block_pages (suc d)) e h.high in
     let at : a.1 ≡ b = same_place (block_pages (suc d)) a.1 b (size_some (suc d)) low high in
     rw met (0, omega arith, sym (same_block a (suc d, b) e at)))
     (λ p.
     let x = under_in c d b a h p in
-    let y : Contains (below c d b) a = contains_joined (λ i. under c d (512 * b + i)) 512 x.0 a x.1 (under_all c d (512 * b + x.0) a some x.2) in
+    let y : Contains (below c d b) a =
+    contains_joined (λ i. under c d (512 * b + i)) 512 x.0 a x.1 (under_all c d (512 * b + x.0) a some x.2) in
     let z : y.0 < _ = y.1 in
     rw met (suc y.0, omega arith, y.2))
 
-below_all : (c : Change) (d b : ℕ) (a : Block) → c.first < c.end → IsUnder c (suc d) b a → a.0 ≤ d → Contains (below c d b) a
+below_all : (c : Change) (d b : ℕ) (a : Block)
+    → c.first < c.end
+    → IsUnder c (suc d) b a
+    → a.0 ≤ d
+    → Contains (below c d b) a
 below_all c d b a some h p =
     let x = under_in c d b a h p in
     contains_joined (λ i. under c d (512 * b + i)) 512 x.0 a x.1 (under_all c d (512 * b + x.0) a some x.2)
@@ -73,7 +80,11 @@ head_first c d b a h p =
     (λ q. inl q)
     (λ q. let same : b * block_pages (suc d) ≡ a.1 * block_pages a.0 = omega arith in inr (same, omega arith))
 
-parts_first : (c : Change) (d b i j : ℕ) (x y : Block) → i < j → IsUnder c d (512 * b + i) x → IsUnder c d (512 * b + j) y → ComesBefore x y
+parts_first : (c : Change) (d b i j : ℕ) (x y : Block)
+    → i < j
+    → IsUnder c d (512 * b + i) x
+    → IsUnder c d (512 * b + j) y
+    → ComesBefore x y
 parts_first c d b i j x y p h k =
     let high = h.high in
     let low = k.low in
@@ -82,18 +93,27 @@ parts_first c d b i j x y p h k =
     let z = mul-le-mul_right (block_pages d) q in
     inl (apart (block_pages d) b i j _ _ (block_pages x.0) r z high low)
   where
-    apart : (s b i j x y u : ℕ) → 1 ≤ u → (i + 1) * s ≤ j * s → x + u ≤ (512 * b + i) * s + s → (512 * b + j) * s ≤ y → x < y
+    apart : (s b i j x y u : ℕ)
+        → 1 ≤ u
+        → (i + 1) * s ≤ j * s
+        → x + u ≤ (512 * b + i) * s + s
+        → (512 * b + j) * s ≤ y
+        → x < y
     apart s b i j x y u h k p q = omega arith
 
-below_ordered : (c : Change) (d b : ℕ) → ((k : ℕ) → AllPairs ComesBefore (under c d k)) → AllPairs ComesBefore (below c d b)
+below_ordered : (c : Change) (d b : ℕ)
+    → ((k : ℕ) → AllPairs ComesBefore (under c d k))
+    → AllPairs ComesBefore (below c d b)
 below_ordered c d b h = pairs_joined ComesBefore (λ i. under c d (512 * b + i)) 512 (λ i p. h (512 * b + i))
     (λ i j p q. All-weaker (IsUnder c d (512 * b + i)) (λ x. All (ComesBefore x) (under c d (512 * b + j)))
-    (λ x k. All-weaker (IsUnder c d (512 * b + j)) (ComesBefore x) (λ y l. parts_first c d b i j x y p k l) (under c d (512 * b + j)) (all_under c d (512 * b + j)))
+    (λ x k. All-weaker (IsUnder c d (512 * b + j)) (ComesBefore x) (λ y l. parts_first c d b i j x y p k l)
+    (under c d (512 * b + j)) (all_under c d (512 * b + j)))
     (under c d (512 * b + i)) (all_under c d (512 * b + i)))
 
 pub all_below : (c : Change) (d b : ℕ) → All (λ a. IsUnder c (suc d) b a × (a.0 ≤ d)) (below c d b)
 all_below c d b = all_joined (λ a. IsUnder c (suc d) b a × (a.0 ≤ d)) (λ i. under c d (512 * b + i)) 512
-    (λ i p. All-weaker (IsUnder c d (512 * b + i)) (λ a. IsUnder c (suc d) b a × (a.0 ≤ d)) (λ a h. (part_under c d b i a p h, h.shallow)) (under c d (512 * b + i)) (all_under c d (512 * b + i)))
+    (λ i p. All-weaker (IsUnder c d (512 * b + i)) (λ a. IsUnder c (suc d) b a × (a.0 ≤ d))
+    (λ a h. (part_under c d b i a p h, h.shallow)) (under c d (512 * b + i)) (all_under c d (512 * b + i)))
 
 under_ordered : (c : Change) (d b : ℕ) → AllPairs ComesBefore (under c d b)
 unfolding under
@@ -101,22 +121,28 @@ under_ordered c zero b = pairs_nil ComesBefore
 under_ordered c (suc d) b =
     by_test (meets c (suc d) b)
     (λ h. rw h (AllPairs-cons ComesBefore (suc d, b) (below c d b)
-    (All-weaker (λ a. IsUnder c (suc d) b a × (a.0 ≤ d)) (ComesBefore (suc d, b)) (λ a x. head_first c d b a x.0 x.1) (below c d b) (all_below c d b))
+    (All-weaker (λ a. IsUnder c (suc d) b a × (a.0 ≤ d)) (ComesBefore (suc d, b)) (λ a x. head_first c d b a x.0 x.1)
+    (below c d b) (all_below c d b))
     (below_ordered c d b (under_ordered c d))))
     (λ h. rw h (pairs_nil ComesBefore))
 
 -- the blocks on a range of a tree
-module _ (c : Change) (top first count : ℕ) (some : 0 < count) (within : first + count ≤ block_pages (suc top)) (from : c.first ≡ first) (to : c.end ≡ first + count) where
+module _ (c : Change) (top first count : ℕ) (some : 0 < count) (within : first + count ≤ block_pages (suc top))
+    (from : c.first ≡ first) (to : c.end ≡ first + count) where
   change_some : c.first < c.end
   change_some = omega arith
 
-  on_under : (a : Block) → (1 ≤ a.0) × (a.0 ≤ top) × (first_page a < first + count) × (first < first_page a + span a) → IsUnder c (suc top) 0 a
+  on_under : (a : Block)
+      → (1 ≤ a.0) × (a.0 ≤ top) × (first_page a < first + count) × (first < first_page a + span a)
+      → IsUnder c (suc top) 0 a
   on_under a h =
       let p : a.1 * block_pages a.0 < c.end = rw (sym to) at h.2 in
       let q : c.first < a.1 * block_pages a.0 + block_pages a.0 = rw (sym from) at h.3 in
       let split = size_split (suc top) a.0 (omega (arith, h.1)) in
       let low : a.1 * block_pages a.0 < block_pages (suc top - a.0) * block_pages a.0 = omega arith in
-      let less : a.1 + 1 ≤ block_pages (suc top - a.0) = let x = less_scaled a.1 (block_pages (suc top - a.0)) (block_pages a.0) low in omega arith in
+      let less : a.1 + 1 ≤ block_pages (suc top - a.0) =
+      let x = less_scaled a.1 (block_pages (suc top - a.0)) (block_pages a.0) low in
+      omega arith in
       let high = mul-le-mul_right (block_pages a.0) less in
       record {
         deep = h.0;
@@ -126,7 +152,10 @@ module _ (c : Change) (top first count : ℕ) (some : 0 < count) (within : first
         met = block_met c a.0 a.1 change_some q p;
       }
 
-  under_on : (a : Block) → IsUnder c (suc top) 0 a → a.0 ≤ top → (1 ≤ a.0) × (a.0 ≤ top) × (first_page a < first + count) × (first < first_page a + span a)
+  under_on : (a : Block)
+      → IsUnder c (suc top) 0 a
+      → a.0 ≤ top
+      → (1 ≤ a.0) × (a.0 ≤ top) × (first_page a < first + count) × (first < first_page a + span a)
   under_on a h p =
       let m = met_block c a.0 a.1 h.met in
       let x : a.1 * block_pages a.0 < first + count = omega (arith, m.1) in
@@ -135,6 +164,9 @@ module _ (c : Change) (top first count : ℕ) (some : 0 < count) (within : first
 
   pub blocks_below : blocks_on top first count ≡ below c top 0
   blocks_below =
-      same_list ComesBefore strict (blocks_on top first count) (below c top 0) (blocks_ordered top first count) (below_ordered c top 0 (under_ordered c top))
+      same_list ComesBefore strict (blocks_on top first count) (below c top 0) (blocks_ordered top first count)
+      (below_ordered c top 0 (under_ordered c top))
       (λ a h. let m = (blocks_meet top first count a some).0 h in below_all c top 0 a change_some (on_under a m) m.1)
-      (λ a h. let x = All-contains (λ a. IsUnder c (suc top) 0 a × (a.0 ≤ top)) (below c top 0) a (all_below c top 0) h in (blocks_meet top first count a some).1 (under_on a x.0 x.1))
+      (λ a h. let x =
+      All-contains (λ a. IsUnder c (suc top) 0 a × (a.0 ≤ top)) (below c top 0) a (all_below c top 0) h in
+      (blocks_meet top first count a some).1 (under_on a x.0 x.1))

@@ -52,15 +52,20 @@ place_later a b bs h = rw h refl
 pub place_none : (bs : List Block) (b : Block) → All (λ a. block_eq a b ≡ false) bs → place bs b ≡ None
 place_none [] b h = place_nil b
 place_none (a ∷ bs) b h =
-    place_later a b bs (All-head (λ a. block_eq a b ≡ false) a bs h) ∙ ap (later 1) (place_none bs b (All-tail (λ a. block_eq a b ≡ false) a bs h))
+    place_later a b bs (All-head (λ a. block_eq a b ≡ false) a bs h)
+    ∙ ap (later 1) (place_none bs b (All-tail (λ a. block_eq a b ≡ false) a bs h))
 
 -- a block that doesn't pass has no place among those that do
-pub place_filter : (pass : Block → Bool) (bs : List Block) (b : Block) → pass b ≡ false → place (filter pass bs) b ≡ None
+pub place_filter : (pass : Block → Bool) (bs : List Block) (b : Block)
+    → pass b ≡ false
+    → place (filter pass bs) b ≡ None
 place_filter pass [] b h = place_nil b
 place_filter pass (a ∷ bs) b h =
     by_test (pass a)
     (λ t. rw t (by_test (block_eq a b)
-    (λ e. let same : pass a ≡ pass b = ap pass (block_eq-same a b e) in let wrong : true ≡ false = sym t ∙ same ∙ h in cc)
+    (λ e. let same : pass a ≡ pass b = ap pass (block_eq-same a b e) in
+    let wrong : true ≡ false = sym t ∙ same ∙ h in
+    cc)
     (λ e. place_later a b (filter pass bs) e ∙ ap (later 1) (place_filter pass bs b h))))
     (λ t. rw t (place_filter pass bs b h))
 
@@ -83,23 +88,32 @@ place_right (x ∷ xs) ys b h =
     (λ e.
     let more = later_some (place xs b) (sym (place_later x b xs e) ∙ h) in
     let n : 1 + length xs ≡ suc (length xs) = omega arith in
-    place_later x b (xs ++ ys) e ∙ ap (later 1) (place_right xs ys b more) ∙ later_twice 1 (length xs) (place ys b) ∙ ap (λ k. later k (place ys b)) n)
+    place_later x b (xs ++ ys) e ∙ ap (later 1) (place_right xs ys b more) ∙ later_twice 1 (length xs) (place ys b)
+    ∙ ap (λ k. later k (place ys b)) n)
 
-pub place_joined_none : (f : ℕ → List Block) (n : ℕ) (b : Block) → ((k : ℕ) → k < n → place (f k) b ≡ None) → place (gathered f n) b ≡ None
+pub place_joined_none : (f : ℕ → List Block) (n : ℕ) (b : Block)
+    → ((k : ℕ) → k < n → place (f k) b ≡ None)
+    → place (gathered f n) b ≡ None
 unfolding gathered
 place_joined_none f zero b h = place_nil b
-place_joined_none f (suc n) b h = place_left (gathered f n) (f n) b (h n (omega arith)) ∙ place_joined_none f n b (λ k p. h k (omega arith))
+place_joined_none f (suc n) b h =
+    place_left (gathered f n) (f n) b (h n (omega arith)) ∙ place_joined_none f n b (λ k p. h k (omega arith))
 
 -- the place of a block that is in one part alone
-pub place_joined : (f : ℕ → List Block) (n i : ℕ) (b : Block) → i < n → ((k : ℕ) → k < n → (k ≡ i → ⊥) → place (f k) b ≡ None) → place (gathered f n) b ≡ later (sum_to (λ k. length (f k)) i) (place (f i) b)
+pub place_joined : (f : ℕ → List Block) (n i : ℕ) (b : Block)
+    → i < n
+    → ((k : ℕ) → k < n → (k ≡ i → ⊥) → place (f k) b ≡ None)
+    → place (gathered f n) b ≡ later (sum_to (λ k. length (f k)) i) (place (f i) b)
 unfolding gathered
 place_joined f zero i b p h = absurd (omega arith)
 place_joined f (suc n) i b p h =
     by_last i n p
-    (λ q. let ne : n ≡ i → ⊥ = λ e. omega arith in place_left (gathered f n) (f n) b (h n (omega arith) ne) ∙ place_joined f n i b q (λ k r. h k (omega arith)))
+    (λ q. let ne : n ≡ i → ⊥ = λ e. omega arith in
+    place_left (gathered f n) (f n) b (h n (omega arith) ne) ∙ place_joined f n i b q (λ k r. h k (omega arith)))
     (λ q.
     let none = place_joined_none f n b (λ k r. h k (omega arith) (λ e. omega arith)) in
-    place_right (gathered f n) (f n) b none ∙ ap (λ k. later k (place (f n) b)) (length_joined f n) ∙ ap (λ k. later (sum_to (λ j. length (f j)) k) (place (f k) b)) (sym q))
+    place_right (gathered f n) (f n) b none ∙ ap (λ k. later k (place (f n) b)) (length_joined f n)
+    ∙ ap (λ k. later (sum_to (λ j. length (f j)) k) (place (f k) b)) (sym q))
 
 -- the frame that a block gets
 
@@ -107,7 +121,10 @@ later_given : (f : ℕ) (fs : List ℕ) (p : Option ℕ) → given_rank (f ∷ f
 later_given f fs None = refl
 later_given f fs (Some r) = let e : 1 + r ≡ suc r = omega arith in ap (λ k. Some (get_or (f ∷ fs) k 0)) e
 
-pub placed_given : (bs : List Block) (fs : List ℕ) (old : Block → Option ℕ) (b : Block) → length bs ≤ length fs → old b ≡ None → placed bs fs old b ≡ given_rank fs None (place bs b)
+pub placed_given : (bs : List Block) (fs : List ℕ) (old : Block → Option ℕ) (b : Block)
+    → length bs ≤ length fs
+    → old b ≡ None
+    → placed bs fs old b ≡ given_rank fs None (place bs b)
 unfolding place
 placed_given [] fs old b p h = h
 placed_given (a ∷ bs) [] old b p h = absurd (omega arith)
@@ -116,7 +133,9 @@ placed_given (a ∷ bs) (f ∷ fs) old b p h =
     (λ e. rw e refl)
     (λ e. rw e (placed_given bs fs old b (omega arith) h ∙ sym (later_given f fs (place bs b))))
 
-pub placed_old : (bs : List Block) (fs : List ℕ) (old : Block → Option ℕ) (b : Block) → place bs b ≡ None → placed bs fs old b ≡ old b
+pub placed_old : (bs : List Block) (fs : List ℕ) (old : Block → Option ℕ) (b : Block)
+    → place bs b ≡ None
+    → placed bs fs old b ≡ old b
 placed_old [] fs old b h = refl
 placed_old (a ∷ bs) [] old b h = refl
 placed_old (a ∷ bs) (f ∷ fs) old b h =

@@ -33,10 +33,14 @@ pub first_part : (s i a : ℕ) → 1 ≤ s → a / s ≤ i → a < (i + 1) * s
 first_part s i a k h = let m : s * (a / s) ≤ s * i = mul-le-mul_left s h in omega (arith, m)
 
 pub last_part : (s i b : ℕ) → 1 ≤ s → 1 ≤ b → i < (b - 1) / s + 1 → i * s < b
-last_part s i b k p h = let q : i ≤ (b - 1) / s = omega arith in let m : s * i ≤ s * ((b - 1) / s) = mul-le-mul_left s q in omega (arith, m)
+last_part s i b k p h = let q : i ≤ (b - 1) / s = omega arith in
+    let m : s * i ≤ s * ((b - 1) / s) = mul-le-mul_left s q in
+    omega (arith, m)
 
 pub before_part : (s i a : ℕ) → 1 ≤ s → i < a / s → (i + 1) * s ≤ a
-before_part s i a k h = let q : i + 1 ≤ a / s = omega arith in let m : s * (i + 1) ≤ s * (a / s) = mul-le-mul_left s q in omega (arith, m)
+before_part s i a k h = let q : i + 1 ≤ a / s = omega arith in
+    let m : s * (i + 1) ≤ s * (a / s) = mul-le-mul_left s q in
+    omega (arith, m)
 
 pub after_part : (s i b : ℕ) → 1 ≤ s → 1 ≤ b → (b - 1) / s + 1 ≤ i → b ≤ i * s
 after_part s i b k p h = let m : s * ((b - 1) / s + 1) ≤ s * i = mul-le-mul_left s h in omega (arith, m)
@@ -48,7 +52,11 @@ part_in d i c h q =
     let m : 512 ≤ i → 512 * 2 ^ (9 * d) ≤ i * 2 ^ (9 * d) = λ z. mul-le-mul_right (2 ^ (9 * d)) z in
     let w = h.within in by_lt i 512 (λ z. z) (λ z. absurd (omega (arith, l, e, w, m z)))
 
-pub part_is : (d i : ℕ) (c : Change) → IsChange (d + 1) c → c.first / 2 ^ (9 * d) ≤ i → i < (c.end - 1) / 2 ^ (9 * d) + 1 → IsChange d (part d i c)
+pub part_is : (d i : ℕ) (c : Change)
+    → IsChange (d + 1) c
+    → c.first / 2 ^ (9 * d) ≤ i
+    → i < (c.end - 1) / 2 ^ (9 * d) + 1
+    → IsChange d (part d i c)
 part_is d i c h p q =
     let s = 2 ^ (9 * d) in
     let a : c.first < (i + 1) * s = first_part s i c.first (size_some d) p in
@@ -68,10 +76,15 @@ unfolding met
 met_none d i c f h = grind (arith, nat_tests)
 
 pub met_before : (d i : ℕ) (c : Change) (f : ℕ → Change → ℕ) → i < c.first / 2 ^ (9 * d) → met d c f i ≡ 0
-met_before d i c f h = let b = before_part (2 ^ (9 * d)) i c.first (size_some d) h in met_none d i c f (omega (arith, b))
+met_before d i c f h = let b = before_part (2 ^ (9 * d)) i c.first (size_some d) h in
+    met_none d i c f (omega (arith, b))
 
-pub met_after : (d i : ℕ) (c : Change) (f : ℕ → Change → ℕ) → 1 ≤ c.end → (c.end - 1) / 2 ^ (9 * d) + 1 ≤ i → met d c f i ≡ 0
-met_after d i c f k h = let b = after_part (2 ^ (9 * d)) i c.end (size_some d) k h in met_none d i c f (omega (arith, b))
+pub met_after : (d i : ℕ) (c : Change) (f : ℕ → Change → ℕ)
+    → 1 ≤ c.end
+    → (c.end - 1) / 2 ^ (9 * d) + 1 ≤ i
+    → met d c f i ≡ 0
+met_after d i c f k h = let b = after_part (2 ^ (9 * d)) i c.end (size_some d) k h in
+    met_none d i c f (omega (arith, b))
 
 pub sum_next : (f : ℕ → ℕ) (n : ℕ) → sum_to f (n + 1) ≡ sum_to f n + f n
 unfolding sum_to
@@ -85,7 +98,9 @@ sum_none f (suc n) h = omega (arith, sum_none f n (λ k p. h k (omega arith)), h
 -- a table without levels below it needs none
 pub leaf_need : {A : Type 0} (t : Table A) (d : ℕ) (c : Change) → d ≡ 0 → table_need d t c ≡ 0
 unfolding met slot_need table_parts
-leaf_need t d c e = ap (λ n. table_need n t c) e ∙ sum_none (met 0 c (table_parts 0 t)) 512 (λ k l. either (nat_lt (part 0 k c).first (part 0 k c).end))
+leaf_need t d c e =
+    ap (λ n. table_need n t c) e
+    ∙ sum_none (met 0 c (table_parts 0 t)) 512 (λ k l. either (nat_lt (part 0 k c).first (part 0 k c).end))
   where
     either : (b : Bool) → cond {A = ℕ} b 0 0 ≡ 0
     either true = refl
@@ -94,18 +109,24 @@ leaf_need t d c e = ap (λ n. table_need n t c) e ∙ sum_none (met 0 c (table_p
 sum_rest : (f : ℕ → ℕ) (n m : ℕ) → ((k : ℕ) → n ≤ k → f k ≡ 0) → sum_to f (n + m) ≡ sum_to f n
 unfolding sum_to
 sum_rest f n zero h = ap (λ k. sum_to f k) (omega arith)
-sum_rest f n (suc m) h = let e : n + suc m ≡ suc (n + m) = omega arith in rw e (omega (arith, sum_rest f n m h, h (n + m) (omega arith)))
+sum_rest f n (suc m) h = let e : n + suc m ≡ suc (n + m) = omega arith in
+    rw e (omega (arith, sum_rest f n m h, h (n + m) (omega arith)))
 
 pub sum_mono : (f : ℕ → ℕ) (n m : ℕ) → n ≤ m → sum_to f n ≤ sum_to f m
 unfolding sum_to
 sum_mono f n zero h = let e : n ≡ 0 = omega arith in rw e (omega arith)
-sum_mono f n (suc m) h = by_eq n (suc m) (λ z. rw z (omega arith)) (λ z. let le : n ≤ m = omega arith in omega (arith, sum_mono f n m le))
+sum_mono f n (suc m) h =
+    by_eq n (suc m) (λ z. rw z (omega arith)) (λ z. let le : n ≤ m = omega arith in omega (arith, sum_mono f n m le))
 
 -- the sum over the parts that a change meets
 pub met_start : (d : ℕ) (c : Change) (f : ℕ → Change → ℕ) → sum_to (met d c f) (c.first / 2 ^ (9 * d)) ≡ 0
 met_start d c f = sum_none _ _ (λ k p. met_before d k c f p)
 
-pub met_end : (d i : ℕ) (c : Change) (f : ℕ → Change → ℕ) → IsChange (d + 1) c → (c.end - 1) / 2 ^ (9 * d) + 1 ≤ i → i ≤ 512 → sum_to (met d c f) 512 ≡ sum_to (met d c f) i
+pub met_end : (d i : ℕ) (c : Change) (f : ℕ → Change → ℕ)
+    → IsChange (d + 1) c
+    → (c.end - 1) / 2 ^ (9 * d) + 1 ≤ i
+    → i ≤ 512
+    → sum_to (met d c f) 512 ≡ sum_to (met d c f) i
 met_end d i c f h p q =
     let e : 512 ≡ i + (512 - i) = omega arith in
     let k : 1 ≤ c.end = omega (arith, h.some) in
@@ -120,18 +141,26 @@ unfolding block_need
 block_one zero x c e = refl
 block_one (suc n) x c e = rw e refl
 
-pub block_split : (n : ℕ) (x : Entry) (c : Change) → 1 ≤ n → stays_one_word n x c ≡ false → block_need n x c ≡ 1 + sum_to (met (n - 1) c (block_parts (n - 1) x)) 512
+pub block_split : (n : ℕ) (x : Entry) (c : Change)
+    → 1 ≤ n
+    → stays_one_word n x c ≡ false
+    → block_need n x c ≡ 1 + sum_to (met (n - 1) c (block_parts (n - 1) x)) 512
 unfolding block_need block_parts
 block_split zero x c k e = absurd (omega arith)
 block_split (suc n) x c k e = rw e (simp unary_clauses)
 
 module _ {A : Type 0} where
-  pub slot_word : (n w : ℕ) (s : Slot A) (c : Change) → s ≡ Word w → slot_need n s c ≡ block_need n (entry_of_word (desc_of (level_at n) w)) c
+  pub slot_word : (n w : ℕ) (s : Slot A) (c : Change)
+      → s ≡ Word w
+      → slot_need n s c ≡ block_need n (entry_of_word (desc_of (level_at n) w)) c
   unfolding slot_need block_need
   slot_word zero w s c e = refl
   slot_word (suc n) w s c e = rw e (case_word _ _ w)
 
-  pub slot_child : (n : ℕ) (b : Box (Table A) A) (s : Slot A) (c : Change) → 1 ≤ n → s ≡ Child b → slot_need n s c ≡ table_need (n - 1) b.value c
+  pub slot_child : (n : ℕ) (b : Box (Table A) A) (s : Slot A) (c : Change)
+      → 1 ≤ n
+      → s ≡ Child b
+      → slot_need n s c ≡ table_need (n - 1) b.value c
   unfolding slot_need table_parts
   slot_child zero b s c k e = absurd (omega arith)
   slot_child (suc n) b s c k e = rw e (case_child _ _ b ∙ simp unary_clauses)
@@ -150,7 +179,11 @@ pub change_below : (d : ℕ) (c : Change) → 1 ≤ d → IsChange d c → IsCha
 change_below d c k h = let e : d - 1 + 1 ≡ d = omega arith in rw e h
 
 -- a part of a block that the last level can say
-pub block_part : (d i : ℕ) (x : Entry) → 1 ≤ d → i < 512 → IsRangeEntry (2 ^ (9 * d)) x → IsRangeEntry (2 ^ (9 * (d - 1))) (advance x (i * 2 ^ (9 * (d - 1))))
+pub block_part : (d i : ℕ) (x : Entry)
+    → 1 ≤ d
+    → i < 512
+    → IsRangeEntry (2 ^ (9 * d)) x
+    → IsRangeEntry (2 ^ (9 * (d - 1))) (advance x (i * 2 ^ (9 * (d - 1))))
 block_part d i x k p' h =
     let p : i + 1 ≤ 512 = omega arith in
     let m : (i + 1) * 2 ^ (9 * (d - 1)) ≤ 512 * 2 ^ (9 * (d - 1)) = mul-le-mul_right (2 ^ (9 * (d - 1))) p in
@@ -158,10 +191,14 @@ block_part d i x k p' h =
 
 pow_some : (a d : ℕ) → 1 ≤ a → 1 ≤ a ^ d
 pow_some a zero h = omega (arith, pow-zero a)
-pow_some a (suc d) h = let e : a ^ suc d ≡ a * a ^ d = pow-succ' a d in let m : a * 1 ≤ a * a ^ d = mul-le-mul_left a (pow_some a d h) in omega (arith, e, m)
+pow_some a (suc d) h = let e : a ^ suc d ≡ a * a ^ d = pow-succ' a d in
+    let m : a * 1 ≤ a * a ^ d = mul-le-mul_left a (pow_some a d h) in
+    omega (arith, e, m)
 
 -- the parts that the loops go over
-pub span : (d : ℕ) (c : Change) → IsChange (d + 1) c → (c.first / 2 ^ (9 * d) ≤ (c.end - 1) / 2 ^ (9 * d) + 1) × ((c.end - 1) / 2 ^ (9 * d) + 1 ≤ 512)
+pub span : (d : ℕ) (c : Change)
+    → IsChange (d + 1) c
+    → (c.first / 2 ^ (9 * d) ≤ (c.end - 1) / 2 ^ (9 * d) + 1) × ((c.end - 1) / 2 ^ (9 * d) + 1 ≤ 512)
 span d c h =
     let s = 2 ^ (9 * d) in
     let e : 1 ≤ c.end = omega (arith, h.some) in
@@ -175,11 +212,13 @@ span d c h =
 pub thousand : (d : ℕ) → 1 ≤ 1024 ^ d
 thousand d = pow_some 1024 d (omega arith)
 
-pub block_parts_is : (d : ℕ) (x : Entry) (i : ℕ) (c : Change) → block_parts d x i c ≡ block_need d (advance x (i * 2 ^ (9 * d))) c
+pub block_parts_is : (d : ℕ) (x : Entry) (i : ℕ) (c : Change)
+    → block_parts d x i c ≡ block_need d (advance x (i * 2 ^ (9 * d))) c
 unfolding block_parts
 block_parts_is d x i c = refl
 
-pub table_parts_is : {A : Type 0} (d : ℕ) (t : Table A) (i : ℕ) (c : Change) → table_parts d t i c ≡ slot_need d (slot_at t i) c
+pub table_parts_is : {A : Type 0} (d : ℕ) (t : Table A) (i : ℕ) (c : Change)
+    → table_parts d t i c ≡ slot_need d (slot_at t i) c
 unfolding table_parts
 table_parts_is d t i c = refl
 
@@ -190,7 +229,10 @@ powers_next (suc (suc zero)) p = (omega arith, omega arith, omega arith)
 powers_next (suc (suc (suc zero))) p = (omega arith, omega arith, omega arith)
 powers_next (suc (suc (suc (suc n)))) p = absurd (omega arith)
 
-pub powers : (n : ℕ) → 1 ≤ n → n < 4 → (1024 ^ n ≡ 1024 * 1024 ^ (n - 1)) × (1 ≤ 1024 ^ (n - 1)) × (1024 ^ (n - 1) ≤ 1048576)
+pub powers : (n : ℕ)
+    → 1 ≤ n
+    → n < 4
+    → (1024 ^ n ≡ 1024 * 1024 ^ (n - 1)) × (1 ≤ 1024 ^ (n - 1)) × (1024 ^ (n - 1) ≤ 1048576)
 powers zero p q = absurd (omega arith)
 powers (suc zero) p q = (omega arith, omega arith, omega arith)
 powers (suc (suc zero)) p q = (omega arith, omega arith, omega arith)

@@ -23,10 +23,16 @@ meets_pages f e k s h = let x : f - k < min (e - k) s = grind (arith, nat_tests)
 pages_meet : (f e k s : ℕ) → 1 ≤ s → f < e → f < k + s → k < e → nat_lt (f - k) (min (e - k) s) ≡ true
 pages_meet f e k s p q r t = let x : f - k < min (e - k) s = omega arith in grind (arith, nat_tests)
 
-pub met_block : (c : Change) (d b : ℕ) → meets c d b ≡ true → (c.first < b * block_pages d + block_pages d) × (b * block_pages d < c.end)
+pub met_block : (c : Change) (d b : ℕ)
+    → meets c d b ≡ true
+    → (c.first < b * block_pages d + block_pages d) × (b * block_pages d < c.end)
 met_block c d b h = meets_pages c.first c.end (b * block_pages d) (block_pages d) h
 
-pub block_met : (c : Change) (d b : ℕ) → c.first < c.end → c.first < b * block_pages d + block_pages d → b * block_pages d < c.end → meets c d b ≡ true
+pub block_met : (c : Change) (d b : ℕ)
+    → c.first < c.end
+    → c.first < b * block_pages d + block_pages d
+    → b * block_pages d < c.end
+    → meets c d b ≡ true
 block_met c d b p q r = pages_meet c.first c.end (b * block_pages d) (block_pages d) (size_some d) p q r
 
 -- a block and those below it that a change meets
@@ -76,8 +82,12 @@ unfolding under
 all_under c zero b = All-nil (IsUnder c zero b)
 all_under c (suc d) b =
     by_test (meets c (suc d) b)
-    (λ h. rw h (All-cons (IsUnder c (suc d) b) (suc d, b) (below c d b) (record { deep = omega arith; shallow = omega arith; low = omega arith; high = omega arith; met = h })
-    (all_joined (IsUnder c (suc d) b) (λ i. under c d (512 * b + i)) 512 (λ i p. All-weaker (IsUnder c d (512 * b + i)) (IsUnder c (suc d) b) (λ a. part_under c d b i a p) (under c d (512 * b + i)) (all_under c d (512 * b + i))))))
+    (λ h. rw h
+    (All-cons (IsUnder c (suc d) b) (suc d, b) (below c d b)
+    (record { deep = omega arith; shallow = omega arith; low = omega arith; high = omega arith; met = h })
+    (all_joined (IsUnder c (suc d) b) (λ i. under c d (512 * b + i)) 512
+    (λ i p. All-weaker (IsUnder c d (512 * b + i)) (IsUnder c (suc d) b) (λ a. part_under c d b i a p)
+    (under c d (512 * b + i)) (all_under c d (512 * b + i))))))
     (λ h. rw h (All-nil (IsUnder c (suc d) b)))
 
 -- of the parts of a block, the one that holds a block
@@ -90,7 +100,14 @@ record IsPlaced (t s u n b : ℕ) : Type 0 where
   low : n / t * s ≤ n * u
   high : n * u + u ≤ n / t * s + s
 
-place_of : (t s u z n b : ℕ) → 1 ≤ t → 1 ≤ u → s ≡ t * u → z ≡ 512 * s → b * z ≤ n * u → n * u + u ≤ b * z + z → IsPlaced t s u n b
+place_of : (t s u z n b : ℕ)
+    → 1 ≤ t
+    → 1 ≤ u
+    → s ≡ t * u
+    → z ≡ 512 * s
+    → b * z ≤ n * u
+    → n * u + u ≤ b * z + z
+    → IsPlaced t s u n b
 place_of t s u z n b p q e f low high =
     let at = part_of t n p in
     let x : n / t * t * u ≤ n * u = mul-le-mul_right u at.0 in
@@ -104,13 +121,21 @@ place_of t s u z n b p q e f low high =
     let three : 512 * b < n / t + 1 = less_scaled (512 * b) (n / t + 1) s one in
     record { from = omega arith; to = less_scaled (n / t) (512 * b + 512) s two; low = omega arith; high = omega arith }
 
-pub under_in : (c : Change) (d b : ℕ) (a : Block) → IsUnder c (suc d) b a → a.0 ≤ d → (i : ℕ) × (i < 512) × IsUnder c d (512 * b + i) a
+pub under_in : (c : Change) (d b : ℕ) (a : Block)
+    → IsUnder c (suc d) b a
+    → a.0 ≤ d
+    → (i : ℕ) × (i < 512) × IsUnder c d (512 * b + i) a
 under_in c d b a h p =
     let low = h.low in
     let high = h.high in
-    let x = place_of (block_pages (d - a.0)) (block_pages d) (block_pages a.0) (block_pages (suc d)) a.1 b (size_some (d - a.0)) (size_some a.0) (size_split d a.0 p) (size_step d) low high in
+    let x =
+    place_of (block_pages (d - a.0)) (block_pages d) (block_pages a.0) (block_pages (suc d)) a.1 b
+    (size_some (d - a.0)) (size_some a.0) (size_split d a.0 p) (size_step d) low high in
     let k = a.1 / block_pages (d - a.0) in
     let f = x.from in
     let t = x.to in
-    let e : k ≡ 512 * b + (k - 512 * b) = omega arith in
-    (k - 512 * b, omega arith, subst (λ n. IsUnder c d n a) e (record { deep = h.deep; shallow = p; low = x.low; high = x.high; met = h.met }))
+    let e : k ≡ 512 * b + (k - 512 * b) = omega arith in (
+      k - 512 * b,
+      omega arith,
+      subst (λ n. IsUnder c d n a) e (record { deep = h.deep; shallow = p; low = x.low; high = x.high; met = h.met }),
+    )

@@ -1,4 +1,5 @@
--- Changes of some pages of a block, their parts, and what they need. Depths count the levels below, pages the block's.
+-- Changes of some pages of a block, their parts, and what they need. Depths count the levels below,
+-- pages the block's.
 use Rattle.std.specs.Prelude.{ℕ, ◌-◌, ◌*◌, ◌%◌, ◌<◌, ◌≤◌, ◌==◌, ◌&&◌, ◌||◌, nat_lt, nat_le, min, Bool, if◌then◌else◌}
 use Rattle.descriptor.specs.Word.{CanBeSaid}
 use Rattle.descriptor.specs.declared.Level.TheVariants.{Three}
@@ -25,11 +26,22 @@ pages_of c = c.end - c.first
 
 -- the entries `m` of a block with a change made
 abbrev pub changed_entry : ℕ → (ℕ → Entry) → Change → ℕ → Entry
-changed_entry depth m c q = if nat_le c.first (q % block_pages depth) && nat_lt (q % block_pages depth) c.end then advance c.entry (q % block_pages depth - c.first) else m q
+changed_entry depth m c q =
+    if nat_le c.first (q % block_pages depth)
+    && nat_lt (q % block_pages depth) c.end
+    then advance c.entry (q % block_pages depth - c.first)
+    else m q
 
 -- what a change does in part `i` of its block, whose parts have `depth` levels below them
 abbrev pub part : ℕ → ℕ → Change → Change
-part depth i c = record { first = c.first - i * block_pages depth; end = min (c.end - i * block_pages depth) (block_pages depth); entry = advance c.entry (i * block_pages depth - c.first) }
+part depth i c =
+    record {
+      first = c.first - i * block_pages depth;
+      end =
+          min (c.end - i * block_pages depth) (block_pages depth);
+      entry =
+          advance c.entry (i * block_pages depth - c.first);
+    }
 
 -- a change of a whole block to what one word can say
 abbrev pub is_whole : ℕ → Change → Bool

@@ -1,4 +1,5 @@
--- A change of a tree with tables in hand: the tables that it needs, takes, leaves and gives back. `t` and `p` are the tree and the pool before, `u` and `q` afterwards.
+-- A change of a tree with tables in hand: the tables that it needs, takes, leaves and gives back.
+-- `t` and `p` are the tree and the pool before, `u` and `q` afterwards.
 use Rattle.std.specs.Prelude.{◌≡◌, ℕ, ◌+◌, ◌-◌, ◌<◌, ◌≤◌, ◌↔◌, List, length, take, drop}
 use Rattle.hyp_pool.specs.Pools.{StoredFrames}
 use Rattle.hyp_pool.specs.declared.PoolFault.{PoolFault}
@@ -43,13 +44,15 @@ module _ {A : Type 0} where
     pub geometry : u.geometry ≡ t.geometry
     pub table : u.table ≡ t.table
 
-  -- each frame is in hand, free, or that of one table at most, and the pool has room for all but the root's
+  -- each frame is in hand, free, or that of one table at most, and the pool has room for all but
+  -- the root's
   pub record AreApart (t : Tree A) (fs : List ℕ) (p : StoredFrames) : Type 0 where
     pub distinct : (f : ℕ) → uses t f + frame_count f fs + frame_count f p.frames ≤ 1
     pub covered : tables_of t + length fs + length p.frames ≤ p.room + 1
 
   -- the pool's `n` lowest frames were taken in hand, with a table for each, the tree's spares first
-  pub record IsTaken (n : ℕ) (t : Tree A) (p : StoredFrames) (u : Tree A) (q : StoredFrames) (fs : List ℕ) : Type 0 where
+  pub record IsTaken (n : ℕ) (t : Tree A) (p : StoredFrames) (u : Tree A) (q : StoredFrames)
+      (fs : List ℕ) : Type 0 where
     pub frames : fs ≡ take n p.frames
     pub pool : q.frames ≡ drop n p.frames
     pub enough : n ≤ length p.frames
@@ -60,36 +63,44 @@ module _ {A : Type 0} where
     pub pool : q ≡ p
     pub spares : spares_of t ≤ spares_of u
 
-  -- why `n` tables weren't taken: NoPool exactly where fewer frames are free, NoMemory only where the spares are too few
-  pub record IsRefused (n : ℕ) (t : Tree A) (p : StoredFrames) (u : Tree A) (q : StoredFrames) (fault : PoolFault) : Type 0 where
+  -- why `n` tables weren't taken: NoPool exactly where fewer frames are free, NoMemory only where
+  -- the spares are too few
+  pub record IsRefused (n : ℕ) (t : Tree A) (p : StoredFrames) (u : Tree A) (q : StoredFrames)
+      (fault : PoolFault) : Type 0 where
     pub left : IsLeft t p u q
     pub no_pool : (fault ≡ NoPool) ↔ (length p.frames < n)
     pub no_memory : fault ≡ NoMemory → spares_of t < n
 
   -- frames in hand went back to the pool, and their tables to the tree's spares
-  pub record IsGivenBack (fs : List ℕ) (t : Tree A) (p : StoredFrames) (u : Tree A) (q : StoredFrames) : Type 0 where
+  pub record IsGivenBack (fs : List ℕ) (t : Tree A) (p : StoredFrames) (u : Tree A)
+      (q : StoredFrames) : Type 0 where
     pub stays : Stays t u
     pub frames : q.frames ≡ all_given fs p.frames
     pub room : q.room ≡ p.room
     pub spares : spares_of u ≡ spares_of t + length fs
 
   -- no frame is lost between hand, tree and pool; geometry, root and room stay
-  pub record KeepsFrames (t : Tree A) (fs : List ℕ) (p : StoredFrames) (u : Tree A) (q : StoredFrames) : Type 0 where
+  pub record KeepsFrames (t : Tree A) (fs : List ℕ) (p : StoredFrames) (u : Tree A)
+      (q : StoredFrames) : Type 0 where
     pub geometry : u.geometry ≡ t.geometry
     pub root : root_of u ≡ root_of t
     pub room : q.room ≡ p.room
-    pub frames : (f : ℕ) → uses u f + frame_count f q.frames ≡ uses t f + frame_count f fs + frame_count f p.frames
+    pub frames : (f : ℕ)
+        → uses u f + frame_count f q.frames ≡ uses t f + frame_count f fs + frame_count f p.frames
     pub tables : tables_of u + length q.frames ≡ tables_of t + length fs + length p.frames
 
-  -- an edit was made with these frames in hand; the frames and tables that went are the pool's and the spares
-  pub record IsEdited (e : Edit) (fs : List ℕ) (t : Tree A) (p : StoredFrames) (u : Tree A) (q : StoredFrames) : Type 0 where
+  -- an edit was made with these frames in hand; the frames and tables that went are the pool's and
+  -- the spares
+  pub record IsEdited (e : Edit) (fs : List ℕ) (t : Tree A) (p : StoredFrames) (u : Tree A)
+      (q : StoredFrames) : Type 0 where
     pub tree : tree_of u ≡ after_in t e fs
     pub pool : q.frames ≡ all_given (back_in t e) p.frames
     pub spares : spares_of u ≡ spares_of t + length (back_in t e)
     pub keeps : KeepsFrames t fs p u q
 
   -- an edit was made, with the pool's lowest frames and the tree's spares
-  pub record IsChanged (e : Edit) (t : Tree A) (p : StoredFrames) (u : Tree A) (q : StoredFrames) : Type 0 where
+  pub record IsChanged (e : Edit) (t : Tree A) (p : StoredFrames) (u : Tree A)
+      (q : StoredFrames) : Type 0 where
     pub enough : need_in t e ≤ length p.frames
     pub tree : tree_of u ≡ after_in t e p.frames
     pub pool : q.frames ≡ all_given (back_in t e) (drop (need_in t e) p.frames)

@@ -54,8 +54,11 @@ fn need_of_table<A: Allocator>(
     requires change_in { IsChange (depth + 1) change }
     ensures value { result ≡ table_need depth table.now change }
     ensures small { result + 1 ≤ 1024 ^ (depth + 1) }
-    ensures reads { 2 * count_of reads.new + 1 ≤ 2 * count_of reads.old + 3 * pages_of change + edges (2 * depth) (depth + 1) change }
-    ensures whole { change.first ≡ 0 → change.end ≡ block_pages (depth + 1) → 2 * count_of reads.new + 512 ≤ 2 * count_of reads.old + 3 * pages_of change }
+    ensures reads { 2 * count_of reads.new + 1 ≤ 2 * count_of reads.old + 3 * pages_of change + edges
+        (2 * depth) (depth + 1) change }
+    ensures whole { change.first ≡ 0
+        → change.end ≡ block_pages (depth + 1)
+        → 2 * count_of reads.new + 512 ≤ 2 * count_of reads.old + 3 * pages_of change }
 {
     let mut count = 0;
     for i in change.first >> (9 * depth)..((change.end - 1) >> (9 * depth)) + 1 {
@@ -86,7 +89,8 @@ pub fn need<A: Allocator>(
 ) -> usize
     requires { FitsTree tree.now.geometry range entry.now }
     ensures value { result ≡ need_in tree.now (edit_on range entry.now) }
-    ensures by_map { result ≡ map_need (levels_below tree.now.geometry) (meaning tree.now) (edit_on range entry.now) }
+    ensures by_map { result
+        ≡ map_need (levels_below tree.now.geometry) (meaning tree.now) (edit_on range entry.now) }
     ensures small { result ≤ 2 ^ 40 }
     ensures reads { 2 * count_of reads.new ≤ 2 * count_of reads.old + 3 * range.count + 12 }
 {
@@ -114,7 +118,10 @@ fn need_of_empty(depth: u32, change: Change) -> usize
 /// The tables that a change of a range needs in a tree of its root alone, in which nothing is mapped. It takes no memory.
 pub fn need_of_new(geometry: Geometry, range: PageRange, entry: &Entry) -> usize
     requires { FitsTree geometry range entry.now }
-    ensures { (root : ℕ) → result ≡ need_of (levels_below geometry) (root_tree (levels_below geometry) root) (edit_on range entry.now) }
+    ensures { (root : ℕ)
+        → result
+        ≡ need_of (levels_below geometry) (root_tree (levels_below geometry) root)
+        (edit_on range entry.now) }
 {
     let change = Change {
         first: range.first.0,

@@ -29,8 +29,13 @@ pub fn reserve<A: Allocator + Copy>(
     reads: &mut Reads,
 ) -> Result<Spare<A>, PoolFault>
     requires { FitsTree tree.old.geometry range entry.now }
-    ensures taken { IfOk result (λ s. IsTaken (need_in tree.old (edit_on range entry.now)) tree.old pool.old tree.new pool.new (frames_of s.stock)) }
-    ensures refused { IfErr result (IsRefused (need_in tree.old (edit_on range entry.now)) tree.old pool.old tree.new pool.new) }
+    ensures taken { IfOk result
+        (λ s. IsTaken
+        (need_in tree.old (edit_on range entry.now)) tree.old pool.old tree.new pool.new
+        (frames_of s.stock)) }
+    ensures refused { IfErr result
+        (IsRefused
+        (need_in tree.old (edit_on range entry.now)) tree.old pool.old tree.new pool.new) }
     ensures stays { Stays tree.old tree.new }
     ensures room { pool.new.room ≡ pool.old.room }
     ensures reads { 2 * count_of reads.new ≤ 2 * count_of reads.old + 3 * range.count + 12 }

@@ -73,7 +73,8 @@ guests_tell : Tells guests.ghosts.eq
 guests_tell x y =
     Decides-like (guests.ghosts.eq x y) (λ p i. record { handle = p.0 i; gfn = p.1 i })
     (λ e. ((λ i. (e i).handle), (λ i. (e i).gfn)))
-    (both_tell numbers.ghosts.eq numbers.ghosts.eq numbers_tell numbers_tell x.handle y.handle x.gfn y.gfn)
+    (both_tell numbers.ghosts.eq numbers.ghosts.eq numbers_tell numbers_tell x.handle y.handle
+    x.gfn y.gfn)
 
 decodings_tell : Tells decodings.ghosts.eq
 decodings_tell =

@@ -29,24 +29,36 @@ module _ (d : ℕ) (m : ℕ → Entry) (c : Change) where
 
   pub folded_fits : is_folded d m c ≡ true → fits_word d (left 0) ≡ true
   unfolding is_folded
-  folded_fits h = (and-both (fits_word d (left 0)) (all_below (2 ^ (9 * d)) (λ i. entry_eq (left i) (advance (left 0) i))) h).0
+  folded_fits h =
+      (and-both (fits_word d (left 0)) (all_below (2 ^ (9 * d)) (λ i. entry_eq (left i) (advance (left 0) i))) h).0
 
   pub folded_each : is_folded d m c ≡ true → (q : ℕ) → q < 2 ^ (9 * d) → left q ≡ advance (left 0) q
   unfolding is_folded
   folded_each h q p =
-      let all = (and-both (fits_word d (left 0)) (all_below (2 ^ (9 * d)) (λ i. entry_eq (left i) (advance (left 0) i))) h).1 in
-      entry_eq-same (left q) (advance (left 0) q) (all_from-each 0 (2 ^ (9 * d)) (λ i. entry_eq (left i) (advance (left 0) i)) all q (omega arith) (omega arith))
+      let all =
+      (and-both (fits_word d (left 0))
+      (all_below (2 ^ (9 * d)) (λ i. entry_eq (left i) (advance (left 0) i))) h).1 in
+      entry_eq-same (left q) (advance (left 0) q)
+      (all_from-each 0 (2 ^ (9 * d)) (λ i. entry_eq (left i) (advance (left 0) i)) all q (omega arith)
+      (omega arith))
 
-  pub folded_by : (x : Entry) → fits_word d x ≡ true → ((q : ℕ) → q < 2 ^ (9 * d) → left q ≡ advance x q) → is_folded d m c ≡ true
+  pub folded_by : (x : Entry)
+      → fits_word d x ≡ true
+      → ((q : ℕ) → q < 2 ^ (9 * d) → left q ≡ advance x q)
+      → is_folded d m c ≡ true
   unfolding is_folded
   folded_by x f h =
       let some = size_some d in
       let first : left 0 ≡ x = h 0 (omega (arith, some)) ∙ advance-none x in
-      and-join (fits_word d (left 0)) (all_below (2 ^ (9 * d)) (λ i. entry_eq (left i) (advance (left 0) i))) (ap (fits_word d) first ∙ f)
-      (all_from-by 0 (2 ^ (9 * d)) (λ i. entry_eq (left i) (advance (left 0) i)) (λ i a b. let e : left i ≡ advance (left 0) i = h i (omega arith) ∙ ap (λ y. advance y i) (sym first) in rw e (entry_eq-self (advance (left 0) i))))
+      and-join (fits_word d (left 0)) (all_below (2 ^ (9 * d)) (λ i. entry_eq (left i) (advance (left 0) i)))
+      (ap (fits_word d) first ∙ f)
+      (all_from-by 0 (2 ^ (9 * d)) (λ i. entry_eq (left i) (advance (left 0) i))
+      (λ i a b. let e : left i ≡ advance (left 0) i = h i (omega arith) ∙ ap (λ y. advance y i) (sym first) in
+      rw e (entry_eq-self (advance (left 0) i))))
 
   -- what a split block has afterwards no word can say
-  module _ (x : Entry) (change : IsChange d c) (fits : fits_word d x ≡ true) (old : (q : ℕ) → m q ≡ advance x (q % 2 ^ (9 * d))) where
+  module _ (x : Entry) (change : IsChange d c) (fits : fits_word d x ≡ true)
+      (old : (q : ℕ) → m q ≡ advance x (q % 2 ^ (9 * d))) where
     abbrev after : Map
     after = update m c.first (c.end - c.first) c.entry
 
@@ -55,7 +67,9 @@ module _ (d : ℕ) (m : ℕ → Entry) (c : Change) where
         let some = change.some in
         record {
           inside = λ q l u. update_inside m c.first (c.end - c.first) c.entry q l (omega arith);
-          outside = λ q o. update_outside m c.first (c.end - c.first) c.entry q (elim o [ inl l ↦ inl l | inr u ↦ inr (omega arith) ]);
+          outside =
+              λ q o. update_outside m c.first (c.end - c.first) c.entry q
+              (elim o [ inl l ↦ inl l | inr u ↦ inr (omega arith) ]);
         }
 
     whole : part d 0 c ≡ c
@@ -75,12 +89,15 @@ module _ (d : ℕ) (m : ℕ → Entry) (c : Change) where
         ap after z ∙ by_lt i c.first
         (λ a. made.outside i (inl a) ∙ sym (changed_before d m c i (omega (arith, k))))
         (λ a. by_lt i c.end
-        (λ b. made.inside i a b ∙ ap (λ n. advance c.entry (n - c.first)) (sym k) ∙ sym (changed_in d m c i (omega (arith, k)) (omega (arith, k))))
+        (λ b. made.inside i a b ∙ ap (λ n. advance c.entry (n - c.first)) (sym k)
+        ∙ sym (changed_in d m c i (omega (arith, k)) (omega (arith, k))))
         (λ b. made.outside i (inr b) ∙ sym (changed_after d m c i (omega (arith, k)))))
 
     pub split_not : stays_one_word d x c ≡ false → is_folded d m c ≡ true → ⊥
     split_not z h =
-        let same : is_one_word after (d, 0) ≡ stays_one_word d x c = one_word_same c m after made d 0 x met fits was ∙ ap (λ y. stays_one_word d x y) whole in
-        let one : is_one_word after (d, 0) ≡ true = one_word_made after d 0 (left 0) (folded_fits h) (λ i l. here i l ∙ folded_each h i l) in
+        let same : is_one_word after (d, 0) ≡ stays_one_word d x c =
+        one_word_same c m after made d 0 x met fits was ∙ ap (λ y. stays_one_word d x y) whole in
+        let one : is_one_word after (d, 0) ≡ true =
+        one_word_made after d 0 (left 0) (folded_fits h) (λ i l. here i l ∙ folded_each h i l) in
         let bad : true ≡ false = sym one ∙ same ∙ z in
         cc

@@ -14,20 +14,33 @@ use Rattle.walk_plan.specs.declared.change.Change.{Change}
 use Rattle.walk_plan.specs.Changes.{part, changed_entry}
 use Rattle.walker.specs.inner.Walks.{upto}
 
-pub changed_in : (d : ℕ) (m : ℕ → Entry) (c : Change) (q : ℕ) → c.first ≤ q % 2 ^ (9 * d) → q % 2 ^ (9 * d) < c.end → changed_entry d m c q ≡ advance c.entry (q % 2 ^ (9 * d) - c.first)
+pub changed_in : (d : ℕ) (m : ℕ → Entry) (c : Change) (q : ℕ)
+    → c.first ≤ q % 2 ^ (9 * d)
+    → q % 2 ^ (9 * d) < c.end
+    → changed_entry d m c q ≡ advance c.entry (q % 2 ^ (9 * d) - c.first)
 changed_in d m c q a b = grind (arith, nat_tests)
 
-pub changed_before : (d : ℕ) (m : ℕ → Entry) (c : Change) (q : ℕ) → q % 2 ^ (9 * d) < c.first → changed_entry d m c q ≡ m q
+pub changed_before : (d : ℕ) (m : ℕ → Entry) (c : Change) (q : ℕ)
+    → q % 2 ^ (9 * d) < c.first
+    → changed_entry d m c q ≡ m q
 changed_before d m c q a = grind (arith, nat_tests)
 
 pub changed_after : (d : ℕ) (m : ℕ → Entry) (c : Change) (q : ℕ) → c.end ≤ q % 2 ^ (9 * d) → changed_entry d m c q ≡ m q
 changed_after d m c q a = grind (arith, nat_tests)
 
-pub changed_at : (d : ℕ) (m n : ℕ → Entry) (c : Change) (q : ℕ) → m q ≡ n q → changed_entry d m c q ≡ changed_entry d n c q
-changed_at d m n c q e = ap (λ x. cond (nat_le c.first (q % 2 ^ (9 * d)) && nat_lt (q % 2 ^ (9 * d)) c.end) (advance c.entry (q % 2 ^ (9 * d) - c.first)) x) e
+pub changed_at : (d : ℕ) (m n : ℕ → Entry) (c : Change) (q : ℕ)
+    → m q ≡ n q
+    → changed_entry d m c q ≡ changed_entry d n c q
+changed_at d m n c q e =
+    ap
+    (λ x. cond (nat_le c.first (q % 2 ^ (9 * d)) && nat_lt (q % 2 ^ (9 * d)) c.end)
+    (advance c.entry (q % 2 ^ (9 * d) - c.first)) x) e
 
 -- a page of part `i` under the whole change, and under the part's
-pub part_map : (d i : ℕ) (c : Change) (m n : ℕ → Entry) (q : ℕ) → index_at d q ≡ i → m q ≡ n q → changed_entry d m (part d i c) q ≡ changed_entry (d + 1) n (upto c ((i + 1) * 2 ^ (9 * d))) q
+pub part_map : (d i : ℕ) (c : Change) (m n : ℕ → Entry) (q : ℕ)
+    → index_at d q ≡ i
+    → m q ≡ n q
+    → changed_entry d m (part d i c) q ≡ changed_entry (d + 1) n (upto c ((i + 1) * 2 ^ (9 * d))) q
 part_map d i c m n q x e =
     let s = 2 ^ (9 * d) in
     let z = size_some d in
@@ -36,18 +49,23 @@ part_map d i c m n q x e =
     let k : u ≡ i * s + r = digits d q ∙ ap (λ j. j * s + r) x in
     let l : r < s = omega (arith, z) in
     by_lt u c.first
-    (λ a. changed_before d m (part d i c) q (omega (arith, k)) ∙ e ∙ sym (changed_before (d + 1) n (upto c ((i + 1) * s)) q a))
+    (λ a. changed_before d m (part d i c) q (omega (arith, k)) ∙ e
+    ∙ sym (changed_before (d + 1) n (upto c ((i + 1) * s)) q a))
     (λ a. by_lt u c.end
     (λ b.
     let v : c.first - i * s ≤ r = omega (arith, k) in
     let w : r < min (c.end - i * s) s = omega (arith, k) in
     let w' : u < min c.end ((i + 1) * s) = omega (arith, k) in
     let o : (i * s - c.first) + (r - (c.first - i * s)) ≡ u - c.first = omega (arith, k) in
-    changed_in d m (part d i c) q v w ∙ advance-more c.entry (i * s - c.first) (r - (c.first - i * s)) ∙ ap (λ j. advance c.entry j) o ∙ sym (changed_in (d + 1) n (upto c ((i + 1) * s)) q a w'))
-    (λ b. changed_after d m (part d i c) q (omega (arith, k)) ∙ e ∙ sym (changed_after (d + 1) n (upto c ((i + 1) * s)) q (omega (arith, b)))))
+    changed_in d m (part d i c) q v w ∙ advance-more c.entry (i * s - c.first) (r - (c.first - i * s))
+    ∙ ap (λ j. advance c.entry j) o ∙ sym (changed_in (d + 1) n (upto c ((i + 1) * s)) q a w'))
+    (λ b. changed_after d m (part d i c) q (omega (arith, k)) ∙ e
+    ∙ sym (changed_after (d + 1) n (upto c ((i + 1) * s)) q (omega (arith, b)))))
 
 -- a page of another part
-pub other_map : (d i : ℕ) (c : Change) (m : ℕ → Entry) (q : ℕ) → index_at d q ≢ i → changed_entry (d + 1) m (upto c (i * 2 ^ (9 * d))) q ≡ changed_entry (d + 1) m (upto c ((i + 1) * 2 ^ (9 * d))) q
+pub other_map : (d i : ℕ) (c : Change) (m : ℕ → Entry) (q : ℕ)
+    → index_at d q ≢ i
+    → changed_entry (d + 1) m (upto c (i * 2 ^ (9 * d))) q ≡ changed_entry (d + 1) m (upto c ((i + 1) * 2 ^ (9 * d))) q
 other_map d i c m q x =
     let s = 2 ^ (9 * d) in
     let z = size_some d in
@@ -69,11 +87,14 @@ other_map d i c m q x =
     (λ y.
     let p : i + 1 ≤ j = omega arith in
     let t : (i + 1) * s ≤ j * s = mul-le-mul_right s p in
-    changed_after (d + 1) m (upto c (i * s)) q (omega (arith, k, t)) ∙ sym (changed_after (d + 1) m (upto c ((i + 1) * s)) q (omega (arith, k, t)))))
-    (λ b. changed_after (d + 1) m (upto c (i * s)) q (omega (arith, b)) ∙ sym (changed_after (d + 1) m (upto c ((i + 1) * s)) q (omega (arith, b)))))
+    changed_after (d + 1) m (upto c (i * s)) q (omega (arith, k, t))
+    ∙ sym (changed_after (d + 1) m (upto c ((i + 1) * s)) q (omega (arith, k, t)))))
+    (λ b. changed_after (d + 1) m (upto c (i * s)) q (omega (arith, b))
+    ∙ sym (changed_after (d + 1) m (upto c ((i + 1) * s)) q (omega (arith, b)))))
 
 -- nothing is done before the first part
-pub start_map : (d : ℕ) (c : Change) (m : ℕ → Entry) (q : ℕ) → m q ≡ changed_entry (d + 1) m (upto c (c.first / 2 ^ (9 * d) * 2 ^ (9 * d))) q
+pub start_map : (d : ℕ) (c : Change) (m : ℕ → Entry) (q : ℕ)
+    → m q ≡ changed_entry (d + 1) m (upto c (c.first / 2 ^ (9 * d) * 2 ^ (9 * d))) q
 start_map d c m q =
     let s = 2 ^ (9 * d) in
     let u = q % 2 ^ (9 * (d + 1)) in
@@ -83,7 +104,10 @@ start_map d c m q =
     (λ a. sym (changed_after (d + 1) m (upto c (c.first / s * s)) q (omega (arith, z, a))))
 
 -- all is done after the last one
-pub end_map : (d i : ℕ) (c : Change) (m : ℕ → Entry) (q : ℕ) → 1 ≤ c.end → (c.end - 1) / 2 ^ (9 * d) + 1 ≤ i → changed_entry (d + 1) m (upto c (i * 2 ^ (9 * d))) q ≡ changed_entry (d + 1) m c q
+pub end_map : (d i : ℕ) (c : Change) (m : ℕ → Entry) (q : ℕ)
+    → 1 ≤ c.end
+    → (c.end - 1) / 2 ^ (9 * d) + 1 ≤ i
+    → changed_entry (d + 1) m (upto c (i * 2 ^ (9 * d))) q ≡ changed_entry (d + 1) m c q
 end_map d i c m q k p =
     let s = 2 ^ (9 * d) in
     let z = size_some d in
@@ -92,14 +116,17 @@ end_map d i c m q k p =
     ap (λ n. changed_entry (d + 1) m (record { first = c.first; end = n; entry = c.entry }) q) e
 
 -- pages of part `i` and of those after it are as before
-pub untouched : (d i : ℕ) (c : Change) (m : ℕ → Entry) (q : ℕ) → i ≤ index_at d q → changed_entry (d + 1) m (upto c (i * 2 ^ (9 * d))) q ≡ m q
+pub untouched : (d i : ℕ) (c : Change) (m : ℕ → Entry) (q : ℕ)
+    → i ≤ index_at d q
+    → changed_entry (d + 1) m (upto c (i * 2 ^ (9 * d))) q ≡ m q
 untouched d i c m q h =
     let k = digits d q in
     let t : i * 2 ^ (9 * d) ≤ index_at d q * 2 ^ (9 * d) = mul-le-mul_right (2 ^ (9 * d)) h in
     changed_after (d + 1) m (upto c (i * 2 ^ (9 * d))) q (omega (arith, k, t))
 
 -- one more part is done
-pub next_map : (d i : ℕ) (c : Change) (o m n : ℕ → Entry) → ((q : ℕ) → m q ≡ changed_entry (d + 1) o (upto c (i * 2 ^ (9 * d))) q)
+pub next_map : (d i : ℕ) (c : Change) (o m n : ℕ → Entry)
+    → ((q : ℕ) → m q ≡ changed_entry (d + 1) o (upto c (i * 2 ^ (9 * d))) q)
     → ((q : ℕ) → index_at d q ≡ i → n q ≡ changed_entry d m (part d i c) q) → ((q : ℕ) → index_at d q ≢ i → n q ≡ m q)
     → (q : ℕ) → n q ≡ changed_entry (d + 1) o (upto c ((i + 1) * 2 ^ (9 * d))) q
 next_map d i c o m n before here other q =

@@ -27,15 +27,24 @@ zero_either true x e = e
 zero_either false x e = refl
 
 module _ {A : Type 0} where
-  pub part_made : (n k w m : ℕ) (x : Entry) (s : Slot A) → s ≡ Word w → IsEntryWord n w → entry_of_word (desc_of (level_at n) w) ≡ advance x m → m ≡ k * block_pages n → IsPart n x k s
+  pub part_made : (n k w m : ℕ) (x : Entry) (s : Slot A)
+      → s ≡ Word w
+      → IsEntryWord n w
+      → entry_of_word (desc_of (level_at n) w) ≡ advance x m
+      → m ≡ k * block_pages n
+      → IsPart n x k s
   unfolding IsPart
   part_made n k w m x s a b c e = (w, a, b, c ∙ ap (λ y. advance x y) e)
 
-  part_need : (n k : ℕ) (x : Entry) (s : Slot A) (c : Change) → IsPart n x k s → slot_need n s c ≡ block_need n (advance x (k * block_pages n)) c
+  part_need : (n k : ℕ) (x : Entry) (s : Slot A) (c : Change)
+      → IsPart n x k s
+      → slot_need n s c ≡ block_need n (advance x (k * block_pages n)) c
   unfolding IsPart
   part_need n k x s c h = slot_word n h.0 s c h.1 ∙ ap (λ y. block_need n y c) h.3
 
-  part_rank : (n k : ℕ) (x : Entry) (s : Slot A) (c : Change) (low q : ℕ) → IsPart n x k s → slot_rank n s c low q ≡ block_rank n (advance x (k * block_pages n)) c low q
+  part_rank : (n k : ℕ) (x : Entry) (s : Slot A) (c : Change) (low q : ℕ)
+      → IsPart n x k s
+      → slot_rank n s c low q ≡ block_rank n (advance x (k * block_pages n)) c low q
   unfolding IsPart
   part_rank n k x s c low q h = slot_rank_word n h.0 s c low q h.1 ∙ ap (λ y. block_rank n y c low q) h.3
 
@@ -45,7 +54,8 @@ module _ {A : Type 0} where
   gone_word (suc n) w f s c e = rw e (case_word _ _ w)
 
   pub gone_child : (n f : ℕ) (b : Box (Table A) A) (s : Slot A) (c : Change) → s ≡ Child b
-      → slot_gone (suc n) s c f ≡ table_gone n b.value c f + cond (is_folded (suc n) (entry_at n b.value) c) (is_one (frame_of b.value) f) 0
+      → slot_gone (suc n) s c f
+      ≡ table_gone n b.value c f + cond (is_folded (suc n) (entry_at n b.value) c) (is_one (frame_of b.value) f) 0
   unfolding slot_gone gone_parts
   gone_child n f b s c e = rw e (case_child _ _ b)
 
@@ -53,21 +63,43 @@ module _ {A : Type 0} where
   unfolding IsPart
   part_gone n k f x s c h = gone_word n h.0 f s c h.1
 
-  parts_sum : (n : ℕ) (x : Entry) (t : Table A) → ((k : ℕ) → k < 512 → IsPart n x k (slot_at t k)) → (c : Change) (i : ℕ) → i ≤ 512 → sum_to (met n c (table_parts n t)) i ≡ sum_to (met n c (block_parts n x)) i
+  parts_sum : (n : ℕ) (x : Entry) (t : Table A)
+      → ((k : ℕ) → k < 512 → IsPart n x k (slot_at t k))
+      → (c : Change) (i : ℕ)
+      → i ≤ 512
+      → sum_to (met n c (table_parts n t)) i ≡ sum_to (met n c (block_parts n x)) i
   unfolding met table_parts block_parts
-  parts_sum n x t h c i r = sum_same _ _ i (λ k p. ap (λ v. cond (nat_lt (part n k c).first (part n k c).end) v 0) (part_need n k x (slot_at t k) (part n k c) (h k (omega arith))))
+  parts_sum n x t h c i r =
+      sum_same _ _ i
+      (λ k p. ap (λ v. cond (nat_lt (part n k c).first (part n k c).end) v 0)
+      (part_need n k x (slot_at t k) (part n k c) (h k (omega arith))))
 
   -- what a change needs there, which table it makes where, and that none goes
-  pub parts_need : (n : ℕ) (x : Entry) (t : Table A) → ((k : ℕ) → k < 512 → IsPart n x k (slot_at t k)) → (c : Change) → table_need n t c ≡ sum_to (met n c (block_parts n x)) 512
+  pub parts_need : (n : ℕ) (x : Entry) (t : Table A)
+      → ((k : ℕ) → k < 512 → IsPart n x k (slot_at t k))
+      → (c : Change)
+      → table_need n t c ≡ sum_to (met n c (block_parts n x)) 512
   parts_need n x t h c = parts_sum n x t h c 512 (omega arith)
 
-  pub parts_ranked : (n : ℕ) (x : Entry) (t : Table A) → ((k : ℕ) → k < 512 → IsPart n x k (slot_at t k)) → (c : Change) (low q : ℕ) → table_rank n t c low q ≡ parts_rank n x c low q
+  pub parts_ranked : (n : ℕ) (x : Entry) (t : Table A)
+      → ((k : ℕ) → k < 512 → IsPart n x k (slot_at t k))
+      → (c : Change) (low q : ℕ)
+      → table_rank n t c low q ≡ parts_rank n x c low q
   unfolding table_rank parts_rank
   parts_ranked n x t h c low q =
       let i = index_at n q in
-      let r = met_at_same n i c (λ j d. slot_rank n (slot_at t j) d low q) (λ j d. block_rank n (advance x (j * 2 ^ (9 * n))) d low q) (part_rank n i x (slot_at t i) (part n i c) low q (h i (omega arith))) in
+      let r =
+      met_at_same n i c (λ j d. slot_rank n (slot_at t j) d low q)
+      (λ j d. block_rank n (advance x (j * 2 ^ (9 * n))) d low q)
+      (part_rank n i x (slot_at t i) (part n i c) low q (h i (omega arith))) in
       rw (parts_sum n x t h c i (omega arith)) (ap (λ v. later (sum_to (met n c (block_parts n x)) i) v) r)
 
-  pub parts_gone : (n f : ℕ) (x : Entry) (t : Table A) → ((k : ℕ) → k < 512 → IsPart n x k (slot_at t k)) → (c : Change) → table_gone n t c f ≡ 0
+  pub parts_gone : (n f : ℕ) (x : Entry) (t : Table A)
+      → ((k : ℕ) → k < 512 → IsPart n x k (slot_at t k))
+      → (c : Change)
+      → table_gone n t c f ≡ 0
   unfolding met gone_parts
-  parts_gone n f x t h c = sum_none _ 512 (λ k p. zero_either (nat_lt (part n k c).first (part n k c).end) _ (part_gone n k f x (slot_at t k) (part n k c) (h k p)))
+  parts_gone n f x t h c =
+      sum_none _ 512
+      (λ k p. zero_either (nat_lt (part n k c).first (part n k c).end) _
+      (part_gone n k f x (slot_at t k) (part n k c) (h k p)))

@@ -31,43 +31,82 @@ no_rank frames None rank e = rw e refl
 
 module _ {A : Type 0} where
   -- a word written for part `i` of a block
-  pub written_map : (d i w m : ℕ) (x p : Entry) (t u : Table A) → IsWritten i w t u → entry_of_word (desc_of (level_at d) w) ≡ p → p ≡ advance x m → m ≡ i * block_pages d
-      → ((q : ℕ) → index_at d q < i → entry_at d t q ≡ advance x (q % block_pages (d + 1))) → (q : ℕ) → index_at d q < i + 1 → entry_at d u q ≡ advance x (q % block_pages (d + 1))
+  pub written_map : (d i w m : ℕ) (x p : Entry) (t u : Table A)
+      → IsWritten i w t u
+      → entry_of_word (desc_of (level_at d) w) ≡ p
+      → p ≡ advance x m
+      → m ≡ i * block_pages d
+      → ((q : ℕ) → index_at d q < i → entry_at d t q ≡ advance x (q % block_pages (d + 1)))
+      → (q : ℕ)
+      → index_at d q < i + 1
+      → entry_at d u q ≡ advance x (q % block_pages (d + 1))
   written_map d i w m x p t u h a b c before q l =
       by_eq (index_at d q) i
       (λ z. h.map d q ∙ ap (λ o. cond o (word_entry d q w) (entry_at d t q)) (eq-made (index_at d q) i z)
-      ∙ ap (λ e. advance e (q % block_pages d)) (a ∙ b ∙ ap (λ k. advance x k) (c ∙ ap (λ j. j * block_pages d) (sym z))) ∙ advance-more x (index_at d q * block_pages d) (q % block_pages d) ∙ ap (λ k. advance x k) (sym (digits d q)))
-      (λ z. h.map d q ∙ ap (λ o. cond o (word_entry d q w) (entry_at d t q)) (eq-other (index_at d q) i z) ∙ before q (omega arith))
+      ∙ ap (λ e. advance e (q % block_pages d))
+      (a ∙ b ∙ ap (λ k. advance x k) (c ∙ ap (λ j. j * block_pages d) (sym z)))
+      ∙ advance-more x (index_at d q * block_pages d) (q % block_pages d)
+      ∙ ap (λ k. advance x k) (sym (digits d q)))
+      (λ z. h.map d q ∙ ap (λ o. cond o (word_entry d q w) (entry_at d t q)) (eq-other (index_at d q) i z)
+      ∙ before q (omega arith))
 
-  pub written_parts : (d i w m : ℕ) (x p : Entry) (t u : Table A) → IsWide t → i < 512 → slots_of u ≡ set (slots_of t) i (Word w) → IsEntryWord d w → entry_of_word (desc_of (level_at d) w) ≡ p → p ≡ advance x m → m ≡ i * block_pages d
+  pub written_parts : (d i w m : ℕ) (x p : Entry) (t u : Table A)
+      → IsWide t
+      → i < 512
+      → slots_of u ≡ set (slots_of t) i (Word w)
+      → IsEntryWord d w
+      → entry_of_word (desc_of (level_at d) w) ≡ p
+      → p ≡ advance x m
+      → m ≡ i * block_pages d
       → ((k : ℕ) → k < i → IsPart d x k (slot_at t k)) → (k : ℕ) → k < i + 1 → IsPart d x k (slot_at u k)
   written_parts d i w m x p t u wide l e said a b c before k q =
       by_eq k i
-      (λ z. part_made d k w m x (slot_at u k) (set_here t u i k (Word w) e l wide z) said (a ∙ b) (c ∙ ap (λ j. j * block_pages d) (sym z)))
+      (λ z. part_made d k w m x (slot_at u k) (set_here t u i k (Word w) e l wide z) said (a ∙ b)
+      (c ∙ ap (λ j. j * block_pages d) (sym z)))
       (λ z. rw (set_others t u i k (Word w) e z) (before k (omega arith)))
 
   -- the pages of the other slots, after a write
-  pub written_other : (d i w : ℕ) (t u : Table A) → IsWritten i w t u → (q : ℕ) → index_at d q ≢ i → entry_at d u q ≡ entry_at d t q
-  written_other d i w t u h q x = h.map d q ∙ ap (λ o. cond o (word_entry d q w) (entry_at d t q)) (eq-other (index_at d q) i x)
+  pub written_other : (d i w : ℕ) (t u : Table A)
+      → IsWritten i w t u
+      → (q : ℕ)
+      → index_at d q ≢ i
+      → entry_at d u q ≡ entry_at d t q
+  written_other d i w t u h q x =
+      h.map d q ∙ ap (λ o. cond o (word_entry d q w) (entry_at d t q)) (eq-other (index_at d q) i x)
 
   -- a child put into slot `i`
   module _ (d i : ℕ) (t u c : Table A) (a : IsAttached i t u c) where
     pub put_here : (q : ℕ) → index_at (d + 1) q ≡ i → entry_at (d + 1) u q ≡ entry_at d c q
-    put_here q x = a.map d q ∙ ap (λ z. cond z (entry_at d c q) (entry_at (d + 1) t q)) (eq-made (index_at (d + 1) q) i x)
+    put_here q x =
+        a.map d q ∙ ap (λ z. cond z (entry_at d c q) (entry_at (d + 1) t q)) (eq-made (index_at (d + 1) q) i x)
 
     pub put_other : (q : ℕ) → index_at (d + 1) q ≢ i → entry_at (d + 1) u q ≡ entry_at (d + 1) t q
-    put_other q x = a.map d q ∙ ap (λ z. cond z (entry_at d c q) (entry_at (d + 1) t q)) (eq-other (index_at (d + 1) q) i x)
+    put_other q x =
+        a.map d q ∙ ap (λ z. cond z (entry_at d c q) (entry_at (d + 1) t q)) (eq-other (index_at (d + 1) q) i x)
 
-    pub put_stand : (low q : ℕ) → low < d + 1 → index_at (d + 1) q ≢ i → table_in (d + 1) u low q ≡ table_in (d + 1) t low q
-    put_stand low q l x = a.standing d low q (omega arith) ∙ ap (λ z. cond z (table_in d c low q) (table_in (d + 1) t low q)) (eq-other (index_at (d + 1) q) i x)
+    pub put_stand : (low q : ℕ)
+        → low < d + 1
+        → index_at (d + 1) q ≢ i
+        → table_in (d + 1) u low q ≡ table_in (d + 1) t low q
+    put_stand low q l x =
+        a.standing d low q (omega arith)
+        ∙ ap (λ z. cond z (table_in d c low q) (table_in (d + 1) t low q)) (eq-other (index_at (d + 1) q) i x)
 
   -- a slot that got the word that the change makes of its word
   module _ (d i w : ℕ) (c : Change) (t u : Table A) (h : IsWritten i w t u) (r : IsRewritten d i t c w) where
     pub word_map : (q : ℕ) → index_at d q ≡ i → entry_at d u q ≡ changed_entry d (entry_at d t) c q
-    word_map q x = h.map d q ∙ ap (λ o. cond o (word_entry d q w) (entry_at d t q)) (eq-made (index_at d q) i x) ∙ r.map q x
+    word_map q x =
+        h.map d q ∙ ap (λ o. cond o (word_entry d q w) (entry_at d t q)) (eq-made (index_at d q) i x) ∙ r.map q x
 
-    pub word_kept : (fs : List ℕ) (low q : ℕ) → low < d → index_at d q ≡ i → (IsOneWordAt (low + 1) (entry_at d u) q → ⊥) → table_in d u low q ≡ given_rank fs (table_in d t low q) (slot_rank d (slot_at t i) c low q)
-    word_kept fs low q l x n = h.standing d low q ∙ no_rank fs (table_in d t low q) (slot_rank d (slot_at t i) c low q) (r.rank low q)
+    pub word_kept : (fs : List ℕ) (low q : ℕ)
+        → low < d
+        → index_at d q ≡ i
+        → (IsOneWordAt (low + 1) (entry_at d u) q → ⊥)
+        → table_in d u low q ≡ given_rank fs (table_in d t low q) (slot_rank d (slot_at t i) c low q)
+    word_kept fs low q l x n =
+        h.standing d low q ∙ no_rank fs (table_in d t low q) (slot_rank d (slot_at t i) c low q) (r.rank low q)
 
-    pub word_uses : (fs : List ℕ) (f : ℕ) → uses_in d u f + slot_gone d (slot_at t i) c f ≡ uses_in d t f + frame_count f (take (slot_need d (slot_at t i) c) fs)
+    pub word_uses : (fs : List ℕ) (f : ℕ)
+        → uses_in d u f + slot_gone d (slot_at t i) c f
+        ≡ uses_in d t f + frame_count f (take (slot_need d (slot_at t i) c) fs)
     word_uses fs f = rw (r.need, r.gone f) (ap (λ n. n + 0) (h.uses d f))

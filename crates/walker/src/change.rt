@@ -74,11 +74,14 @@ pub fn set<A: Allocator + Copy>(
     requires fits { FitsTree tree.old.geometry range entry }
     requires apart { AreApart tree.old [] pool.old }
     ensures changed { OnOk result (IsChanged (edit_on range entry) tree.old pool.old tree.new pool.new) }
-    ensures refused { IfErr result (IsRefused (need_in tree.old (edit_on range entry)) tree.old pool.old tree.new pool.new) }
+    ensures refused { IfErr result
+        (IsRefused (need_in tree.old (edit_on range entry)) tree.old pool.old tree.new pool.new) }
     ensures stays { OnErr result (Stays tree.old tree.new) }
     ensures keeps { KeepsFrames tree.old [] pool.old tree.new pool.new }
     ensures canonical { IsCanonical (levels_below tree.new.geometry) (tree_of tree.new) }
-    ensures by_map { (result ≡ Err NoPool) ↔ (length pool.old.frames < map_need (levels_below tree.old.geometry) (meaning tree.old) (edit_on range entry)) }
+    ensures by_map { (result ≡ Err NoPool)
+        ↔ (length pool.old.frames < map_need (levels_below tree.old.geometry)
+        (meaning tree.old) (edit_on range entry)) }
     ensures reads { count_of reads.new ≤ count_of reads.old + 4 * range.count + 4096 }
 {
     let spare = reserve(alloc, tree, pool, range, &entry, reads)?;

@@ -28,7 +28,10 @@ fn word_after(depth: u32, word: u64, change: Change) -> Option<u64>
     requires change_in { IsChange depth change }
     ensures some { is_some result ≡ stays_one_word depth (entry_of_word (desc_of (level_at depth) word)) change }
     ensures entry { IfSome result (λ w. IsEntryWord depth w) }
-    ensures map { IfSome result (λ w. (q : ℕ) → word_entry depth q w ≡ changed_entry depth (λ p. word_entry depth p word) change q) }
+    ensures map { IfSome result
+        (λ w. (q : ℕ)
+        → word_entry depth q w
+        ≡ changed_entry depth (λ p. word_entry depth p word) change q) }
 {
     page_state::laws::block_tests();
     if change.is_whole(depth) {
@@ -121,7 +124,8 @@ pub(crate) fn opened<A: Allocator>(
     requires first { IsFirst (depth + 1) (slot_at table.old i) first }
     requires seen { IsSeen i table.old (slot_at table.old i) }
     requires enough { fresh (slot_at table.old i) ≤ length (frames_of spare.old) }
-    ensures { IsOpened (depth + 1) depth i table.old table.new result.value (frames_of spare.old) (frames_of spare.new) }
+    ensures { IsOpened (depth + 1) depth i table.old table.new result.value (frames_of spare.old)
+        (frames_of spare.new) }
 {
     match first {
         Some(entry) => {
@@ -150,7 +154,11 @@ fn goes_on<A: Allocator>(table: &Table<A>, depth: u32, first: Entry, reads: &mut
     requires depth_in { IsDepth depth }
     requires wide { IsWide table.now }
     requires small { HasSmallFrame first }
-    ensures on { Decides result ((k : ℕ) → 1 ≤ k → k < 512 → HasEntry depth (advance first (k * block_pages depth)) (slot_at table.now k)) }
+    ensures on { Decides result
+        ((k : ℕ)
+        → 1 ≤ k
+        → k < 512
+        → HasEntry depth (advance first (k * block_pages depth)) (slot_at table.now k)) }
     ensures reads { count_of reads.new ≤ count_of reads.old + 511 }
 {
     for i in 1..512usize {
@@ -213,7 +221,8 @@ pub(crate) fn put_back<A: Allocator>(
     requires child_wide { IsWide child.value }
     ensures frame { frame_of table.new ≡ frame_of table.old }
     ensures slots_elsewhere { (j : ℕ) → j ≢ i → slot_at table.new j ≡ slot_at table.old j }
-    ensures put { IsPutBack depth i table.old table.new child.value (frames_of freed.old) (frames_of freed.new) }
+    ensures put { IsPutBack depth i table.old table.new child.value (frames_of freed.old)
+        (frames_of freed.new) }
     ensures reads { count_of reads.new ≤ count_of reads.old + 512 }
 {
     let mut child = child;

@@ -37,9 +37,12 @@ fn set_slot<A: Allocator>(
     requires tight { IsTight depth table.old }
     requires change_in { IsChange depth change }
     requires enough { slot_need depth (slot_at table.old i) change ≤ length (frames_of walk.old.spare) }
-    ensures changed { IsSlotChanged depth i table.old table.new change (frames_of walk.old.spare) (frames_of walk.new.spare) }
-    ensures freed { IsSlotFreed depth i table.old table.new change (frames_of walk.old.freed) (frames_of walk.new.freed) }
-    ensures reads { 2 * count_of walk.new.reads + 3 ≤ 2 * count_of walk.old.reads + 5 * pages_of change + edges (1028 * depth) depth change }
+    ensures changed { IsSlotChanged depth i table.old table.new change (frames_of walk.old.spare)
+        (frames_of walk.new.spare) }
+    ensures freed { IsSlotFreed depth i table.old table.new change (frames_of walk.old.freed)
+        (frames_of walk.new.freed) }
+    ensures reads { 2 * count_of walk.new.reads + 3 ≤ 2 * count_of walk.old.reads + 5 * pages_of change + edges
+        (1028 * depth) depth change }
 {
     let first = match look_for(table, depth, i, change, &mut walk.reads) {
         Found::Word(word) => {
@@ -66,9 +69,12 @@ pub(crate) fn set_all<A: Allocator>(
     requires tight { IsTight depth table.old }
     requires change_in { IsChange (depth + 1) change }
     requires enough { table_need depth table.old change ≤ length (frames_of walk.old.spare) }
-    ensures changed { IsTableChanged depth table.old table.new change (frames_of walk.old.spare) (frames_of walk.new.spare) }
-    ensures freed { IsTableFreed depth table.old table.new change (frames_of walk.old.freed) (frames_of walk.new.freed) }
-    ensures reads { 2 * count_of walk.new.reads + 3 ≤ 2 * count_of walk.old.reads + 5 * pages_of change + edges (1028 * depth) (depth + 1) change }
+    ensures changed { IsTableChanged depth table.old table.new change (frames_of walk.old.spare)
+        (frames_of walk.new.spare) }
+    ensures freed { IsTableFreed depth table.old table.new change (frames_of walk.old.freed)
+        (frames_of walk.new.freed) }
+    ensures reads { 2 * count_of walk.new.reads + 3 ≤ 2 * count_of walk.old.reads + 5 * pages_of change + edges
+        (1028 * depth) (depth + 1) change }
     ensures whole { IsWholeLook depth change (count_of walk.old.reads) (count_of walk.new.reads) }
 {
     for i in change.first >> (9 * depth)..((change.end - 1) >> (9 * depth)) + 1 {

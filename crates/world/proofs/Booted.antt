@@ -35,7 +35,9 @@ minus-none n = omega arith
 pair : {X Y : Type 0} {a b : X} {d e : Y} → a ≡ b → d ≡ e → ◌≡◌ {A = X × Y} (a, d) (b, e)
 pair m n = cc
 
-each_empty : {P : Type 0} (log : P → StoredCalls) (n : ℕ) (xs : List P) (v : ℕ) → All (λ p. IsNewLog n (log p)) xs → at_place [] (λ p. (log p).calls) (slice_get xs v) ≡ []
+each_empty : {P : Type 0} (log : P → StoredCalls) (n : ℕ) (xs : List P) (v : ℕ)
+    → All (λ p. IsNewLog n (log p)) xs
+    → at_place [] (λ p. (log p).calls) (slice_get xs v) ≡ []
 each_empty log n xs v h = elim (slice_get_cases xs v).1 [
   | inl (k, inside, at, is) ↦ rw at (subst (λ x. (log x).calls ≡ []) is (h v k inside).empty)
   | inr past ↦ rw past.1 refl
@@ -54,7 +56,10 @@ module _ {A : Type 0} (m : Memory) (c : Config) (g : Geometry) (p : Parts A)
   l = layout_for m c g
 
   layout_is : parts_layout p ≡ l
-  layout_is = ap (λ x. layout x p.layout.config (levels_below p.layout.geometry)) mapped ∙ ap (λ x. layout m x (levels_below p.layout.geometry)) configured ∙ ap (λ x. layout m c (levels_below x)) deep
+  layout_is =
+      ap (λ x. layout x p.layout.config (levels_below p.layout.geometry)) mapped
+      ∙ ap (λ x. layout m x (levels_below p.layout.geometry)) configured
+      ∙ ap (λ x. layout m c (levels_below x)) deep
 
   cpu_is : (cpu : ℕ) → at_place no_cpu cpu_of (slice_get p.cpus.items cpu) ≡ no_cpu
   cpu_is cpu = elim (slice_get_cases p.cpus.items cpu).1 [
@@ -77,18 +82,23 @@ module _ {A : Type 0} (m : Memory) (c : Config) (g : Geometry) (p : Parts A)
   }
 
   -- what there is by parts and logs
-  abbrev standing : Layout → Vms × List Call → Shared × List Call → (ℕ → Guest × List Call) → (ℕ → Cpu × List Call) → Reference
-  standing lay vms shared guests cpus = held_state lay (record { vms = vms; shared = shared; guest = guests; cpu = cpus })
+  abbrev standing : Layout → Vms × List Call → Shared × List Call → (ℕ → Guest × List Call) → (ℕ → Cpu × List Call)
+      → Reference
+  standing lay vms shared guests cpus =
+      held_state lay (record { vms = vms; shared = shared; guest = guests; cpu = cpus })
 
   module _ (made : shared_of p.shared ≡ (booted l).shared) where
     stands : boot l ≡ held_state l (kept_of p)
     unfolding booted
     stands =
         ap (λ n. record { contents = booted l; rooms = all_rooms n }) (minus-none c.log)
-        ∙ ap (λ x. standing l x ((booted l).shared, []) (λ v. (no_guest, [])) (λ k. (no_cpu, []))) (sym (pair vacant none.vms))
+        ∙ ap (λ x. standing l x ((booted l).shared, []) (λ v. (no_guest, [])) (λ k. (no_cpu, [])))
+        (sym (pair vacant none.vms))
         ∙ ap (λ x. standing l (kept_of p).vms x (λ v. (no_guest, [])) (λ k. (no_cpu, []))) (sym (pair made none.shared))
-        ∙ ap (λ x. standing l (kept_of p).vms (kept_of p).shared x (λ k. (no_cpu, []))) (sym (fun_ext (λ v. pair (guest_is v) (none.guests v))))
-        ∙ ap (standing l (kept_of p).vms (kept_of p).shared (kept_of p).guest) (sym (fun_ext (λ k. pair (cpu_is k) (none.cpus k))))
+        ∙ ap (λ x. standing l (kept_of p).vms (kept_of p).shared x (λ k. (no_cpu, [])))
+        (sym (fun_ext (λ v. pair (guest_is v) (none.guests v))))
+        ∙ ap (standing l (kept_of p).vms (kept_of p).shared (kept_of p).guest)
+        (sym (fun_ext (λ k. pair (cpu_is k) (none.cpus k))))
 
     -- the parts have booted
     pub has_booted : IsAccepted m → IsConfig c g → IsCarveEnough l → IsBooted m c p
@@ -107,6 +117,10 @@ pub err_is : {X : Type 0} {a b : BootFault} → ◌≡◌ {A = Result X BootFaul
 err_is h = cc
 
 -- want of memory, where no test fails
-pub no_memory : {A : Type 0} (m : Memory) (c : Config) (g : Geometry) (r : Result (Parts A) BootFault) → IsConfig c g → IsCarveEnough (layout_for m c g) → IsErrAnd r (λ f. f ≡ NoMemory) → MatchResult r (IsBooted m c) (λ fault. IsNoBoot fault m c)
+pub no_memory : {A : Type 0} (m : Memory) (c : Config) (g : Geometry) (r : Result (Parts A) BootFault)
+    → IsConfig c g
+    → IsCarveEnough (layout_for m c g)
+    → IsErrAnd r (λ f. f ≡ NoMemory)
+    → MatchResult r (IsBooted m c) (λ fault. IsNoBoot fault m c)
 no_memory m c g (Ok p) accepted enough h = absurd h
 no_memory m c g (Err f) accepted enough h = subst (λ x. IsNoBoot x m c) (sym h) (g, accepted, enough)

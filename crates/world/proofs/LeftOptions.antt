@@ -1,4 +1,5 @@
--- What is left of an option of a reference, over any type, in the terms that a goal on it computes to. Over a part the tactics stop inside its fields.
+-- What is left of an option of a reference, over any type, in the terms that a goal on it computes to. Over a part the
+-- tactics stop inside its fields.
 use Rattle.std.proofs.Common.{◌≡◌, false, Option, Some, None, inl, inr, refl, sym, ap, subst}
 use Rattle.std.specs.Prelude.{◌⊎◌, is_some}
 use Rattle.std.specs.Borrow.{MutBor}
@@ -10,7 +11,11 @@ use denote.Enum.Declared.{left_or, right_or}
 use borrow.Kind.EnumInner.{or_inl, or_inr}
 
 -- the last values of a choice, from the value that stands in its place at the return
-abbrev last_of : {X Y : Type 0} (e : Exit X) (f : Exit Y) → ((x y : X) → Last e x) → ((x y : Y) → Last f x) → (a c : X ⊎ Y) → Last (or_else e f) a
+abbrev last_of : {X Y : Type 0} (e : Exit X) (f : Exit Y)
+    → ((x y : X) → Last e x)
+    → ((x y : Y) → Last f x)
+    → (a c : X ⊎ Y)
+    → Last (or_else e f) a
 last_of e f g h (inl x) c = or_inl e f x (g x (left_or x c))
 last_of e f g h (inr y) c = or_inr e f y (h y (right_or y c))
 
@@ -41,7 +46,9 @@ module _ (X : Type 0) where
   choice_of o = as_row (chosen o)
 
   abbrev lasts : (a c : OptionLeft X) → Last option_left a
-  lasts = last_of unchanged (or_else field_left unchanged) (λ x y. tt) (last_of field_left unchanged (λ x y. (y.0.now, tt)) (λ x y. tt))
+  lasts =
+      last_of unchanged (or_else field_left unchanged) (λ x y. tt)
+      (last_of field_left unchanged (λ x y. (y.0.now, tt)) (λ x y. tt))
 
 module _ {X : Type 0} where
   -- the last values of an option, the option that they are at the return, and those where what r refers to is n
@@ -68,5 +75,7 @@ module _ {X : Type 0} where
   left_none None e w = refl
   left_none (Some r) e w = cc
 
-  pub left_some : (o : Option (MutBor X)) (r : MutBor X) (n : X) → o ≡ Some r → left (exit_of o (last_at o r n)) ≡ Some n
+  pub left_some : (o : Option (MutBor X)) (r : MutBor X) (n : X)
+      → o ≡ Some r
+      → left (exit_of o (last_at o r n)) ≡ Some n
   left_some o r n is = subst (λ z. left (exit_of z (last_at z r n)) ≡ Some n) (sym is) refl

@@ -86,19 +86,27 @@ without c (x ∷ xs) = taken_from (same_call x c) xs (x ∷ without c xs)
 some_same : (x y : Call) → Some x ≡ Some y → x ≡ y
 some_same x y e = cc
 
-without_in : (f : Call → Bool) (c : Call) (m : List Call) → f c ≡ true → first_of (filter f m) ≡ Some c → filter f (without c m) ≡ rest_of (filter f m)
+without_in : (f : Call → Bool) (c : Call) (m : List Call)
+    → f c ≡ true
+    → first_of (filter f m) ≡ Some c
+    → filter f (without c m) ≡ rest_of (filter f m)
 unfolding without
 without_in f c [] of e = absurd cc
 without_in f c (x ∷ xs) of e = go (λ q. without_in f c xs of q) (same_call x c)
   where
-    go : (first_of (filter f xs) ≡ Some c → filter f (without c xs) ≡ rest_of (filter f xs)) → (d : (x ≡ c) ⊎ (x ≢ c)) → filter f (taken_from d xs (x ∷ without c xs)) ≡ rest_of (filter f (x ∷ xs))
+    go : (first_of (filter f xs) ≡ Some c → filter f (without c xs) ≡ rest_of (filter f xs))
+        → (d : (x ≡ c) ⊎ (x ≢ c))
+        → filter f (taken_from d xs (x ∷ without c xs)) ≡ rest_of (filter f (x ∷ xs))
     go ih (inl is) = sym (ap rest_of (filter-true f x xs (ap f is ∙ of)))
     go ih (inr ne) = elim (both (f x)) [
       | inl t ↦ absurd (ne (some_same x c (sym (ap first_of (filter-true f x xs t)) ∙ e)))
-      | inr n ↦ filter-false f x (without c xs) n ∙ (ih (sym (ap first_of (filter-false f x xs n)) ∙ e) ∙ sym (ap rest_of (filter-false f x xs n)))
+      | inr n ↦ filter-false f x (without c xs) n
+          ∙ (ih (sym (ap first_of (filter-false f x xs n)) ∙ e) ∙ sym (ap rest_of (filter-false f x xs n)))
     ]
 
-cons_same : (f : Call → Bool) (x : Call) (xs ys : List Call) → filter f xs ≡ filter f ys → filter f (x ∷ xs) ≡ filter f (x ∷ ys)
+cons_same : (f : Call → Bool) (x : Call) (xs ys : List Call)
+    → filter f xs ≡ filter f ys
+    → filter f (x ∷ xs) ≡ filter f (x ∷ ys)
 cons_same f x xs ys e = elim (both (f x)) [
   | inl t ↦ filter-true f x xs t ∙ (ap (λ l. x ∷ l) e ∙ sym (filter-true f x ys t))
   | inr n ↦ filter-false f x xs n ∙ (e ∙ sym (filter-false f x ys n))
@@ -109,7 +117,9 @@ unfolding without
 without_out f c [] out = refl
 without_out f c (x ∷ xs) out = go (without_out f c xs out) (same_call x c)
   where
-    go : filter f (without c xs) ≡ filter f xs → (d : (x ≡ c) ⊎ (x ≢ c)) → filter f (taken_from d xs (x ∷ without c xs)) ≡ filter f (x ∷ xs)
+    go : filter f (without c xs) ≡ filter f xs
+        → (d : (x ≡ c) ⊎ (x ≢ c))
+        → filter f (taken_from d xs (x ∷ without c xs)) ≡ filter f (x ∷ xs)
     go ih (inl is) = sym (filter-false f x xs (ap f is ∙ out))
     go ih (inr ne) = cons_same f x (without c xs) xs ih
 
@@ -117,17 +127,24 @@ front : (l : List Call) (c : Call) → first_of l ≡ Some c → l ≡ c ∷ res
 front [] c e = absurd cc
 front (x ∷ xs) c e = ap (λ (y : Call). y ∷ xs) (some_same x c e)
 
-pub used_call : (rests : LogName → List Call) (c : Call) (x : LogName) → has x c ≡ true → after_call rests c x ≡ rest_of (rests x)
+pub used_call : (rests : LogName → List Call) (c : Call) (x : LogName)
+    → has x c ≡ true
+    → after_call rests c x ≡ rest_of (rests x)
 used_call rests c x t = if-true (has x c) (rest_of (rests x)) (rests x) t
 
-pub unused_call : (rests : LogName → List Call) (c : Call) (x : LogName) → has x c ≡ false → after_call rests c x ≡ rests x
+pub unused_call : (rests : LogName → List Call) (c : Call) (x : LogName)
+    → has x c ≡ false
+    → after_call rests c x ≡ rests x
 unused_call rests c x f = if-false (has x c) (rest_of (rests x)) (rests x) f
 
-filter_one : (f : Call → Bool) (done : List Call) (c : Call) → f c ≡ true → filter f (done ++ c ∷ []) ≡ filter f done ++ c ∷ []
+filter_one : (f : Call → Bool) (done : List Call) (c : Call)
+    → f c ≡ true
+    → filter f (done ++ c ∷ []) ≡ filter f done ++ c ∷ []
 filter_one f done c t = filter-append f done (c ∷ []) ∙ ap (λ l. filter f done ++ l) (filter-true f c [] t)
 
 filter_none : (f : Call → Bool) (done : List Call) (c : Call) → f c ≡ false → filter f (done ++ c ∷ []) ≡ filter f done
-filter_none f done c t = filter-append f done (c ∷ []) ∙ (ap (λ l. filter f done ++ l) (filter-false f c [] t) ∙ append-nil (filter f done))
+filter_none f done c t =
+    filter-append f done (c ∷ []) ∙ (ap (λ l. filter f done ++ l) (filter-false f c [] t) ∙ append-nil (filter f done))
 
 module _ (logs rests : LogName → List Call) where
   -- the calls go on from what is left
@@ -140,21 +157,37 @@ module _ (logs rests : LogName → List Call) where
   pub begins : ((x : LogName) → rests x ≡ logs x) → IsBegun logs rests []
   begins same = record { each_log = λ x. sym (same x); goes_on = λ all h. (all, (λ x. h x ∙ sym (same x))) }
 
-  pub goes_further : (later : LogName → List Call) (done : List Call) (c : Call) → IsBegun logs rests done → IsNext rests c → ((x : LogName) → later x ≡ after_call rests c x) → IsBegun logs later (done ++ c ∷ [])
+  pub goes_further : (later : LogName → List Call) (done : List Call) (c : Call)
+      → IsBegun logs rests done
+      → IsNext rests c
+      → ((x : LogName) → later x ≡ after_call rests c x)
+      → IsBegun logs later (done ++ c ∷ [])
   goes_further later done c b next is = record {
     each_log = λ x. elim (both (has x c)) [
-      | inl t ↦ b.each_log x ∙ (ap (λ l. filter (has x) done ++ l) (front (rests x) c (next x t) ∙ ap (λ l. c ∷ l) (sym (is x ∙ used_call rests c x t)))
-          ∙ (sym (append_assoc (filter (has x) done) (c ∷ []) (later x)) ∙ ap (λ l. l ++ later x) (sym (filter_one (has x) done c t))))
-      | inr f ↦ b.each_log x ∙ (ap (λ l. filter (has x) done ++ l) (sym (is x ∙ unused_call rests c x f)) ∙ ap (λ l. l ++ later x) (sym (filter_none (has x) done c f)))
+      | inl t ↦ b.each_log x
+          ∙ (ap (λ l. filter (has x) done ++ l)
+          (front (rests x) c (next x t) ∙ ap (λ l. c ∷ l) (sym (is x ∙ used_call rests c x t)))
+          ∙ (sym (append_assoc (filter (has x) done) (c ∷ []) (later x))
+          ∙ ap (λ l. l ++ later x) (sym (filter_one (has x) done c t))))
+      | inr f ↦ b.each_log x
+          ∙ (ap (λ l. filter (has x) done ++ l) (sym (is x ∙ unused_call rests c x f))
+          ∙ ap (λ l. l ++ later x) (sym (filter_none (has x) done c f)))
     ];
     goes_on = λ all h. let m = b.goes_on all h in (without c m.0, (λ x. has_on c m.0 next m.1 x ∙ sym (is x)));
   }
 
   pub ends : (done : List Call) → IsBegun logs rests done → ((x : LogName) → rests x ≡ []) → Has logs done
-  ends done b empty x = sym (b.each_log x ∙ (ap (λ l. filter (has x) done ++ l) (empty x) ∙ append-nil (filter (has x) done)))
+  ends done b empty x =
+      sym (b.each_log x ∙ (ap (λ l. filter (has x) done ++ l) (empty x) ∙ append-nil (filter (has x) done)))
 
   -- where no call is next, and something is left, there is no list that has them all
-  pub no_list : (done : List Call) → IsBegun logs rests done → ((c : Call) → IsNext rests c → ⊥) → (((x : LogName) → rests x ≡ []) → ⊥) → (all : List Call) → Has logs all → ⊥
+  pub no_list : (done : List Call)
+      → IsBegun logs rests done
+      → ((c : Call) → IsNext rests c → ⊥)
+      → (((x : LogName) → rests x ≡ []) → ⊥)
+      → (all : List Call)
+      → Has logs all
+      → ⊥
   no_list done b none some_left all h = let m = b.goes_on all h in stuck m.0 m.1
     where
       stuck : (m : List Call) → Has rests m → ⊥
@@ -166,23 +199,36 @@ shorter : (l : List Call) (c : Call) → first_of l ≡ Some c → length (rest_
 shorter [] c e = absurd cc
 shorter (x ∷ xs) c e = omega arith
 
-same_lengths : (rests later : LogName → List Call) (n : ℕ) → ((k : ℕ) → k < n → later (by k) ≡ rests (by k)) → left_by later n ≡ left_by rests n
+same_lengths : (rests later : LogName → List Call) (n : ℕ)
+    → ((k : ℕ) → k < n → later (by k) ≡ rests (by k))
+    → left_by later n ≡ left_by rests n
 same_lengths rests later zero same = refl
 same_lengths rests later (suc n) same =
     let e = same_lengths rests later n (λ k less. same k (omega (arith, less))) in
     let f = ap length (same n (omega arith)) in
     omega (arith, e, f)
 
-pub fewer : (rests later : LogName → List Call) (c : Call) → IsNext rests c → ((x : LogName) → later x ≡ after_call rests c x) → (n : ℕ) → c.cpu < n → left_by later n < left_by rests n
+pub fewer : (rests later : LogName → List Call) (c : Call)
+    → IsNext rests c
+    → ((x : LogName) → later x ≡ after_call rests c x)
+    → (n : ℕ)
+    → c.cpu < n
+    → left_by later n < left_by rests n
 fewer rests later c next is zero less = absurd (omega (arith, less))
 fewer rests later c next is (suc n) less = elim (both (c.cpu == n)) [
   | inl t ↦
-      let here : length (later (by n)) + 1 ≡ length (rests (by n)) = ap (λ l. length l + 1) (is (by n) ∙ used_call rests c (by n) t) ∙ shorter (rests (by n)) c (next (by n) t) in
-      let others : left_by later n ≡ left_by rests n = same_lengths rests later n (λ k below. is (by k) ∙ unused_call rests c (by k) (eq-other c.cpu k (λ e. let f = eq-same c.cpu n t in omega (arith, e, f, below)))) in
+      let here : length (later (by n)) + 1 ≡ length (rests (by n)) =
+      ap (λ l. length l + 1) (is (by n) ∙ used_call rests c (by n) t) ∙ shorter (rests (by n)) c (next (by n) t) in
+      let others : left_by later n ≡ left_by rests n =
+      same_lengths rests later n
+      (λ k below. is (by k)
+      ∙ unused_call rests c (by k)
+      (eq-other c.cpu k (λ e. let f = eq-same c.cpu n t in omega (arith, e, f, below)))) in
       omega (arith, here, others)
   | inr f ↦
       let here : length (later (by n)) ≡ length (rests (by n)) = ap length (is (by n) ∙ unused_call rests c (by n) f) in
-      let unlike : c.cpu ≢ n = λ e. let t : (c.cpu == n) ≡ true = subst (λ k. (c.cpu == k) ≡ true) e (eq-self c.cpu) in cc in
+      let unlike : c.cpu ≢ n = λ e. let t : (c.cpu == n) ≡ true = subst (λ k. (c.cpu == k) ≡ true) e (eq-self c.cpu) in
+      cc in
       let others : left_by later n < left_by rests n = fewer rests later c next is n (omega (arith, less, unlike)) in
       omega (arith, here, others)
 ]
@@ -204,7 +250,9 @@ index_of [] j d less e = absurd (omega (arith, less))
 index_of (y ∷ ys) zero d less e = sym e
 index_of (y ∷ ys) (suc j) d less e = index_of ys j d (omega (arith, less)) e
 
-pub log_here : {Z : Type 0} (logs : List (Vec Call Z)) (i : ℕ) (v : Vec Call Z) → slice_get logs i ≡ Some v → log_at logs i ≡ v.items
+pub log_here : {Z : Type 0} (logs : List (Vec Call Z)) (i : ℕ) (v : Vec Call Z)
+    → slice_get logs i ≡ Some v
+    → log_at logs i ≡ v.items
 log_here logs i v e = ap (at_place [] (λ w. w.items)) e
 
 pub log_past : {Z : Type 0} (logs : List (Vec Call Z)) (i : ℕ) → length logs ≤ i → log_at logs i ≡ []
@@ -221,53 +269,101 @@ zeros (suc n) zero = refl
 zeros (suc n) (suc k) = zeros n k
 
 -- nothing is left of a log whose calls were given, as a look at it told
-pub given_here : {Z : Type 0} (logs : List (Vec Call Z)) (i place : ℕ) (v : Vec Call Z) (read : List Call) → i < length logs → v ≡ slice_index_or logs i v → read ≡ v.items → drop place read ≡ [] → drop place (log_at logs i) ≡ []
-given_here logs i place v read inside log is none = ap (drop place) (log_here logs i v (get_of logs i v inside log) ∙ sym is) ∙ none
+pub given_here : {Z : Type 0} (logs : List (Vec Call Z)) (i place : ℕ) (v : Vec Call Z) (read : List Call)
+    → i < length logs
+    → v ≡ slice_index_or logs i v
+    → read ≡ v.items
+    → drop place read ≡ []
+    → drop place (log_at logs i) ≡ []
+given_here logs i place v read inside log is none =
+    ap (drop place) (log_here logs i v (get_of logs i v inside log) ∙ sym is) ∙ none
 
-pub given_back : {Z : Type 0} (logs : List (Vec Call Z)) (i place : ℕ) (v : Vec Call Z) (read : List Call) → i < length logs → v ≡ slice_index_or logs i v → read ≡ v.items → drop place (log_at logs i) ≡ [] → drop place read ≡ []
-given_back logs i place v read inside log is none = ap (drop place) (is ∙ sym (log_here logs i v (get_of logs i v inside log))) ∙ none
+pub given_back : {Z : Type 0} (logs : List (Vec Call Z)) (i place : ℕ) (v : Vec Call Z) (read : List Call)
+    → i < length logs
+    → v ≡ slice_index_or logs i v
+    → read ≡ v.items
+    → drop place (log_at logs i) ≡ []
+    → drop place read ≡ []
+given_back logs i place v read inside log is none =
+    ap (drop place) (is ∙ sym (log_here logs i v (get_of logs i v inside log))) ∙ none
 
 nothing_left : (l : List Call) (n : ℕ) → l ≡ [] → drop n l ≡ []
 nothing_left l n e = ap (drop n) e ∙ drop_past [] n (omega arith)
 
 module _ (h : Histories) (g : Places) where
   -- the call that stands first in what is left of a CPU's list
-  pub first_by : (cpu place : ℕ) (v : Vec Call Global) (o : Option Call) → slice_get h.cpus.items cpu ≡ Some v → slice_index g.cpus.items cpu ≡ place → slice_get v.items place ≡ o → first_of (left h g (by cpu)) ≡ o
-  first_by cpu place v o e f q = (λ i. first_of (drop (f i) (log_here h.cpus.items cpu v e i))) ∙ (first_drop v.items place ∙ q)
+  pub first_by : (cpu place : ℕ) (v : Vec Call Global) (o : Option Call)
+      → slice_get h.cpus.items cpu ≡ Some v
+      → slice_index g.cpus.items cpu ≡ place
+      → slice_get v.items place ≡ o
+      → first_of (left h g (by cpu)) ≡ o
+  first_by cpu place v o e f q =
+      (λ i. first_of (drop (f i) (log_here h.cpus.items cpu v e i))) ∙ (first_drop v.items place ∙ q)
 
   -- the same, as it is read
-  pub first_read : (cpu place : ℕ) (v : Vec Call Global) (read : List Call) → cpu < length h.cpus.items → v ≡ slice_index_or h.cpus.items cpu v → cpu < length g.cpus.items → place ≡ slice_index_or g.cpus.items cpu place → read ≡ v.items → (o : Option Call) → slice_get read place ≡ o → first_of (left h g (by cpu)) ≡ o
-  first_read cpu place v read inside log fits placed is o got = first_by cpu place v o (get_of h.cpus.items cpu v inside log) (index_of g.cpus.items cpu place fits placed) (subst (λ xs. slice_get xs place ≡ o) is got)
+  pub first_read : (cpu place : ℕ) (v : Vec Call Global) (read : List Call)
+      → cpu < length h.cpus.items
+      → v ≡ slice_index_or h.cpus.items cpu v
+      → cpu < length g.cpus.items
+      → place ≡ slice_index_or g.cpus.items cpu place
+      → read ≡ v.items
+      → (o : Option Call)
+      → slice_get read place ≡ o
+      → first_of (left h g (by cpu)) ≡ o
+  first_read cpu place v read inside log fits placed is o got =
+      first_by cpu place v o (get_of h.cpus.items cpu v inside log) (index_of g.cpus.items cpu place fits placed)
+      (subst (λ xs. slice_get xs place ≡ o) is got)
 
   -- what is next of a CPU is that call
   pub next_first : (cpu : ℕ) (c : Call) → c.cpu ≡ cpu → IsNext (left h g) c → first_of (left h g (by cpu)) ≡ Some c
   next_first cpu c e next = subst (λ k. first_of (left h g (by k)) ≡ Some c) e (next (by c.cpu) (eq-self c.cpu))
 
   -- so there is one at most
-  pub next_same : (cpu : ℕ) (c d : Call) → c.cpu ≡ cpu → IsNext (left h g) c → first_of (left h g (by cpu)) ≡ Some d → c ≡ d
+  pub next_same : (cpu : ℕ) (c d : Call)
+      → c.cpu ≡ cpu
+      → IsNext (left h g) c
+      → first_of (left h g (by cpu)) ≡ Some d
+      → c ≡ d
   next_same cpu c d e next f = some_same c d (sym (next_first cpu c e next) ∙ f)
 
   -- a call of no CPU isn't next
   pub next_inside : (c : Call) → IsNext (left h g) c → c.cpu < length h.cpus.items
   next_inside c next = by_lt c.cpu (length h.cpus.items) (λ less. less)
-      (λ past. let none : first_of (left h g (by c.cpu)) ≡ None = ap first_of (nothing_left (log_at h.cpus.items c.cpu) (slice_index g.cpus.items c.cpu) (log_past h.cpus.items c.cpu past)) in
+      (λ past. let none : first_of (left h g (by c.cpu)) ≡ None =
+      ap first_of
+      (nothing_left (log_at h.cpus.items c.cpu) (slice_index g.cpus.items c.cpu)
+      (log_past h.cpus.items c.cpu past)) in
       let some = next (by c.cpu) (eq-self c.cpu) in
       absurd cc)
 
   -- next in the logs of its parts, and in its CPU's
-  pub next_made : (cpu : ℕ) (c : Call) → c.cpu ≡ cpu → first_of (left h g (by cpu)) ≡ Some c → ((p : Part) → call_uses p c ≡ true → first_of (left h g (on p)) ≡ Some c) → IsNext (left h g) c
+  pub next_made : (cpu : ℕ) (c : Call)
+      → c.cpu ≡ cpu
+      → first_of (left h g (by cpu)) ≡ Some c
+      → ((p : Part) → call_uses p c ≡ true → first_of (left h g (on p)) ≡ Some c)
+      → IsNext (left h g) c
   next_made cpu c e f parts (on p) of = parts p of
   next_made cpu c e f parts (by k) of = subst (λ n. first_of (left h g (by n)) ≡ Some c) (sym e ∙ eq-same c.cpu k of) f
 
   -- next in the logs of the parts that it uses
-  pub parts_next : (c : Call) → (call_uses vm_part c ≡ true → first_of (left h g (on vm_part)) ≡ Some c) → (call_uses shared_part c ≡ true → first_of (left h g (on shared_part)) ≡ Some c)
-      → ((v : ℕ) → is_slot c.slot v ≡ true → first_of (left h g (on (guest_part v))) ≡ Some c) → (p : Part) → call_uses p c ≡ true → first_of (left h g (on p)) ≡ Some c
+  pub parts_next : (c : Call)
+      → (call_uses vm_part c ≡ true → first_of (left h g (on vm_part)) ≡ Some c)
+      → (call_uses shared_part c ≡ true → first_of (left h g (on shared_part)) ≡ Some c)
+      → ((v : ℕ) → is_slot c.slot v ≡ true → first_of (left h g (on (guest_part v))) ≡ Some c)
+      → (p : Part)
+      → call_uses p c ≡ true
+      → first_of (left h g (on p)) ≡ Some c
   parts_next c a b d vm_part = a
   parts_next c a b d shared_part = b
   parts_next c a b d (guest_part v) = d v
 
   -- nothing is left of any log
-  pub none_left : left h g (on vm_part) ≡ [] → left h g (on shared_part) ≡ [] → ((v : ℕ) → left h g (on (guest_part v)) ≡ []) → ((k : ℕ) → left h g (by k) ≡ []) → (x : LogName) → left h g x ≡ []
+  pub none_left : left h g (on vm_part) ≡ []
+      → left h g (on shared_part) ≡ []
+      → ((v : ℕ) → left h g (on (guest_part v)) ≡ [])
+      → ((k : ℕ) → left h g (by k) ≡ [])
+      → (x : LogName)
+      → left h g x ≡ []
   none_left a b d e (on vm_part) = a
   none_left a b d e (on shared_part) = b
   none_left a b d e (on (guest_part v)) = d v
@@ -277,12 +373,26 @@ module _ (h : Histories) (g : Places) where
 pub told_none : (h : Histories) (g : Places) → ((x : LogName) → left h g x ≡ whole h x) → IsToldOf h g []
 told_none h g same = record { done = []; begun = begins (whole h) (left h g) same; tells = refl }
 
-pub told_more : (h : Histories) (g k : Places) (told : List (ℕ × Step × Reply)) (c : Call) → IsToldOf h g told → IsNext (left h g) c → ((x : LogName) → left h k x ≡ after_call (left h g) c x) → IsToldOf h k (told ++ (c.cpu, c.step, c.reply) ∷ [])
+pub told_more : (h : Histories) (g k : Places) (told : List (ℕ × Step × Reply)) (c : Call)
+    → IsToldOf h g told
+    → IsNext (left h g) c
+    → ((x : LogName) → left h k x ≡ after_call (left h g) c x)
+    → IsToldOf h k (told ++ (c.cpu, c.step, c.reply) ∷ [])
 told_more h g k told c t next is = record {
   done = t.done ++ c ∷ [];
   begun = goes_further (whole h) (left h g) (left h k) t.done c t.begun next is;
-  tells = map-append (λ (d : Call). (d.cpu, d.step, d.reply)) t.done (c ∷ []) ∙ ap (λ l. l ++ (c.cpu, c.step, c.reply) ∷ []) t.tells;
+  tells =
+      map-append (λ (d : Call). (d.cpu, d.step, d.reply)) t.done (c ∷ [])
+      ∙ ap (λ l. l ++ (c.cpu, c.step, c.reply) ∷ []) t.tells;
 }
 
-pub told_all : (h : Histories) (g : Places) (told : List (ℕ × Step × Reply)) → IsToldOf h g told → ((x : LogName) → left h g x ≡ []) → TellsMerged h told
-told_all h g told t empty = record { all = t.done; merged = merged_has h t.done (ends (whole h) (left h g) t.done t.begun empty); tells = t.tells }
+pub told_all : (h : Histories) (g : Places) (told : List (ℕ × Step × Reply))
+    → IsToldOf h g told
+    → ((x : LogName) → left h g x ≡ [])
+    → TellsMerged h told
+told_all h g told t empty =
+    record {
+      all = t.done;
+      merged = merged_has h t.done (ends (whole h) (left h g) t.done t.begun empty);
+      tells = t.tells;
+    }

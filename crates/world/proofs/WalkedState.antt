@@ -27,16 +27,24 @@ none_of None h = refl
 none_of (Some x) h = cc
 
 -- a frame that isn't memory has the plain row
-other_row : {A : Type 0} (m : Memory) (s : SharedPart A) (f : ℕ) → HasMemoryRows m s.owners → has_memory m f ≡ false → (shared_of s).row f ≡ plain_row
+other_row : {A : Type 0} (m : Memory) (s : SharedPart A) (f : ℕ)
+    → HasMemoryRows m s.owners
+    → has_memory m f ≡ false
+    → (shared_of s).row f ≡ plain_row
 other_row m s f h e = ap (λ o. unwrap_or o plain_row) (none_of (row_at s.owners f) (h f ∙ e))
 
-by_memory : (b : Bool) (x y : Row) → (b ≡ true → x ≡ y) → (b ≡ false → x ≡ plain_row) → x ≡ elim b [ true ↦ y | false ↦ plain_row ]
+by_memory : (b : Bool) (x y : Row)
+    → (b ≡ true → x ≡ y)
+    → (b ≡ false → x ≡ plain_row)
+    → x ≡ elim b [ true ↦ y | false ↦ plain_row ]
 by_memory true x y h k = h refl
 by_memory false x y h k = k refl
 
 module _ {A : Type 0} (p : Parts A) (past : ∥ HasHistory p ∥₁) where
   rows_are : (f : ℕ) → (state_of p).contents.shared.row f ≡ scratch_rows (parts_layout p) (state_of p).contents f
-  rows_are f = by_memory (is_memory (parts_layout p) f) ((state_of p).contents.shared.row f) (row_of (parts_layout p) (state_of p).contents f)
+  rows_are f =
+      by_memory (is_memory (parts_layout p) f) ((state_of p).contents.shared.row f)
+      (row_of (parts_layout p) (state_of p).contents f)
       (λ m. ∥∥₁_elim past (row_prop _ _) (λ h. run_rows (parts_layout p) h.log (state_of p) h.ready (run_to p h) f m))
       (λ e. other_row p.layout.map p.shared f p.rows e)
 

@@ -47,7 +47,11 @@ new_shared_of m g = record {
 
 -- the change of the hypervisor's map: its pages of the carve-out become RW Normal Owned
 abbrev pub hyp_change : PageRange → MapChange
-hyp_change carve = record { range = record { first = record { 0 = hyp_page carve.first.0 }; count = carve.count }; entry = leaf RW carve.first.0 Owned }
+hyp_change carve =
+    record {
+      range = record { first = record { 0 = hyp_page carve.first.0 }; count = carve.count };
+      entry = leaf RW carve.first.0 Owned;
+    }
 
 -- why a world doesn't boot: the first test that fails, or, where none does, that memory was refused
 abbrev pub IsNoBoot : BootFault → Memory → Config → Type 0

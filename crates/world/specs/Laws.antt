@@ -29,7 +29,11 @@ EndsRun l cs q = IsRun l cs (state_of q)
 
 -- after any list of steps from a boot on, the calls are a run, and the parts represent its end
 abbrev pub StepsRun : Type 0 → Type 0
-StepsRun A = (m : Memory) (config : Config) (p q : Parts A) (cs : List Call) → IsBooted m config p → Runs Goes p cs q → EndsRun (parts_layout p) cs q
+StepsRun A =
+    (m : Memory) (config : Config) (p q : Parts A) (cs : List Call)
+    → IsBooted m config p
+    → Runs Goes p cs q
+    → EndsRun (parts_layout p) cs q
 
 -- a walk of a component's tree finds just what its maplets say, and these are the coarsest list
 pub record Agrees {A : Type 0} (c : Component A) : Type 0 where
@@ -46,7 +50,14 @@ pub record AllAgree {A : Type 0} (p : Parts A) : Type 0 where
   pub shared : Agrees p.shared.host × Agrees p.shared.hyp
   pub guests : All (λ g. GuestAgrees g.guest.body) p.guests.items
 
--- the step after any list of steps takes no frame from a Live guest, and its page of it stays, or the guest itself shares it or takes it back
+-- the step after any list of steps takes no frame from a Live guest, and its page of it stays, or
+-- the guest itself shares it or takes it back
 abbrev pub StepsIsolate : Type 0 → Type 0
-StepsIsolate A = (m : Memory) (config : Config) (p q r : Parts A) (cs : List Call) (c : Call) (v f : ℕ) → IsBooted m config p → Runs Goes p cs q → Goes q c r
-    → ((state_of q).contents.guest v).phase ≡ live → owner (parts_layout p) (state_of q).contents f ≡ 2 + v → FrameStays (parts_layout p) (state_of q).contents (state_of r).contents c v f
+StepsIsolate A =
+    (m : Memory) (config : Config) (p q r : Parts A) (cs : List Call) (c : Call) (v f : ℕ)
+    → IsBooted m config p
+    → Runs Goes p cs q
+    → Goes q c r
+    → ((state_of q).contents.guest v).phase ≡ live
+    → owner (parts_layout p) (state_of q).contents f ≡ 2 + v
+    → FrameStays (parts_layout p) (state_of q).contents (state_of r).contents c v f

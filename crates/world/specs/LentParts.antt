@@ -37,10 +37,12 @@ module _ {X : Type 0} where
 
 -- the lent parts, by the three options and a CPU's own state
 module _ {A : Type 0} where
-  abbrev pub lent_of : Option (MutBor VmPart) → Option (MutBor (SharedPart A)) → Option (MutBor (GuestPart A)) → CpuState → Lent A
+  abbrev pub lent_of : Option (MutBor VmPart) → Option (MutBor (SharedPart A))
+      → Option (MutBor (GuestPart A)) → CpuState → Lent A
   lent_of v s g k = record { vms = given v; shared = given s; guest = given g; cpu = k }
 
-  abbrev pub left_of : OptionLeft VmPart → OptionLeft (SharedPart A) → OptionLeft (GuestPart A) → CpuState → Lent A
+  abbrev pub left_of : OptionLeft VmPart → OptionLeft (SharedPart A) → OptionLeft (GuestPart A)
+      → CpuState → Lent A
   left_of v s g k = record { vms = left v; shared = left s; guest = left g; cpu = k }
 
 -- whether a step uses the VM part, the Shared part, a Guest part
@@ -54,7 +56,8 @@ parts_used (Both v) = (false, true, true)
 module _ {A : Type 0} where
   -- exactly the parts that a step uses are lent to it
   abbrev pub AreLent : Step → Lent A → Type 0
-  AreLent step x = (is_some x.vms, is_some x.shared, is_some x.guest) ≡ parts_used (uses_of (cpu_of x.cpu) step)
+  AreLent step x =
+      (is_some x.vms, is_some x.shared, is_some x.guest) ≡ parts_used (uses_of (cpu_of x.cpu) step)
 
   -- it belongs to a state that some run can reach
   abbrev pub IsLentReached : Layout → Step → Lent A → Type 0

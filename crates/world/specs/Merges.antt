@@ -34,7 +34,8 @@ module _ (h : Histories) where
   abbrev pub log_by : ℕ → List Call
   log_by cpu = log_at h.cpus.items cpu
 
-  -- a list of all calls of the logs, each once: restricted to the calls of any one log it is that log. Each of its calls is in its CPU's list, so it has no others
+  -- a list of all calls of the logs, each once: restricted to the calls of any one log it is that
+  -- log. Each of its calls is in its CPU's list, so it has no others
   pub record IsMerged (all : List Call) : Type 0 where
     pub on : (p : Part) → calls_on p all ≡ log_on p
     pub by : (cpu : ℕ) → calls_by cpu all ≡ log_by cpu
@@ -45,7 +46,8 @@ module _ (h : Histories) where
     pub merged : IsMerged all
     pub tells : map (λ c. (c.cpu, c.step, c.reply)) all ≡ told
 
-  -- the logs are those of what there is: of the VM part, the Shared part, 64 guests and the CPUs of the layout
+  -- the logs are those of what there is: of the VM part, the Shared part, 64 guests and the CPUs of
+  -- the layout
   pub record AreLogsOf (l : Layout) (kept : Kept) : Type 0 where
     pub vms : h.vms.items ≡ kept.vms.1
     pub shared : h.shared.items ≡ kept.shared.1
@@ -69,8 +71,16 @@ HistoryMerges = (h : Histories) (o : IsOfHistory h) → IsMerged h o.log
 
 -- and each merged list of its logs is a legal history that leaves the same
 abbrev pub MergedHistory : Type 0
-MergedHistory = (h : Histories) (o : IsOfHistory h) (all : List Call) → IsMerged h all → IsHistory o.layout o.kept all
+MergedHistory =
+    (h : Histories) (o : IsOfHistory h) (all : List Call)
+    → IsMerged h all
+    → IsHistory o.layout o.kept all
 
 -- of two merged lists of the same logs, the one is a run where the other is, to the same end
 abbrev pub MergedRun : Type 0
-MergedRun = (l : Layout) (h : Histories) (log all : List Call) (t : Reference) → IsRun l log t → IsMerged h log → IsMerged h all → IsRun l all t
+MergedRun =
+    (l : Layout) (h : Histories) (log all : List Call) (t : Reference)
+    → IsRun l log t
+    → IsMerged h log
+    → IsMerged h all
+    → IsRun l all t

@@ -194,9 +194,12 @@ fn roots<A: Allocator + Copy>(
     geometry: Geometry,
 ) -> Result<(Component<A>, Component<A>, Pool), AllocError>
     requires { 2 ≤ map.now.carve.count }
-    ensures host { IfOk result (λ r. tree_of r.0.tree ≡ root_tree (levels_below geometry) map.now.carve.first.0) }
-    ensures hyp { IfOk result (λ r. tree_of r.1.tree ≡ root_tree (levels_below geometry) (map.now.carve.first.0 + 1)) }
-    ensures pool { IfOk result (λ r. r.2.frames ≡ drop 2 (frames_from map.now.carve.first.0 map.now.carve.count)) }
+    ensures host { IfOk result
+        (λ r. tree_of r.0.tree ≡ root_tree (levels_below geometry) map.now.carve.first.0) }
+    ensures hyp { IfOk result
+        (λ r. tree_of r.1.tree ≡ root_tree (levels_below geometry) (map.now.carve.first.0 + 1)) }
+    ensures pool { IfOk result
+        (λ r. r.2.frames ≡ drop 2 (frames_from map.now.carve.first.0 map.now.carve.count)) }
     ensures host_geometry { IfOk result (λ r. r.0.tree.geometry ≡ geometry) }
     ensures hyp_geometry { IfOk result (λ r. r.1.tree.geometry ≡ geometry) }
     ensures apart { IfOk result (λ r. IsApart r.0.tree r.1.tree r.2) }

@@ -40,7 +40,9 @@ pub(crate) fn histories<A: Allocator>(
     parts: &Parts<A>,
 ) -> Result<Histories, AllocError>
     ensures logs { IfOk result (λ h. AreLogsOf h (parts_layout parts.now) (kept_of parts.now)) }
-    ensures lists { IfOk result (λ h. (length h.guests.items ≡ 64) × (length h.cpus.items ≡ parts.now.layout.config.cpus)) }
+    ensures lists { IfOk result
+        (λ h. (length h.guests.items ≡ 64)
+        × (length h.cpus.items ≡ parts.now.layout.config.cpus)) }
 {
     Ok(Histories {
         vms: Vec::from_slice(global, parts.vms.log.calls())?,

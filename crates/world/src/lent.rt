@@ -29,8 +29,11 @@ pub fn step_on<A: Allocator + Copy>(
     requires lent { AreLent step.now (lent_of vms shared guest cpu.old) }
     requires suits { Suits (layout_of layout.now) (lent_of vms shared guest cpu.old) }
     requires reached { IsLentReached (layout_of layout.now) step.now (lent_of vms shared guest cpu.old) }
-    ensures step { StepsLent layout.now step.now (lent_of vms.entry shared.entry guest.entry cpu.old) result (left_of vms.exit shared.exit guest.exit cpu.new) }
-    ensures reply { result ≡ reply_in (call_stored (lent_of vms.entry shared.entry guest.entry cpu.old) step.now result) }
+    ensures step { StepsLent layout.now step.now (lent_of vms.entry shared.entry guest.entry cpu.old) result
+        (left_of vms.exit shared.exit guest.exit cpu.new) }
+    ensures reply { result
+        ≡ reply_in
+        (call_stored (lent_of vms.entry shared.entry guest.entry cpu.old) step.now result) }
     ensures suits { Suits (layout_of layout.now) (left_of vms.exit shared.exit guest.exit cpu.new) }
 {
     match uses(cpu, step) {

@@ -50,7 +50,8 @@ impl<A: Allocator + Copy> World<A> {
         map: &MemoryMap,
         config: Config,
     ) -> Result<World<A>, BootFault>
-        ensures { MatchResult result (λ w. IsBooted map.now config w.parts) (λ fault. IsNoBoot fault map.now config) }
+        ensures { MatchResult result (λ w. IsBooted map.now config w.parts)
+            (λ fault. IsNoBoot fault map.now config) }
     {
         let parts = boot::booted(global, alloc, map, config)?;
         Ok(World { alloc, parts })
@@ -111,7 +112,9 @@ impl<A: Allocator> World<A> {
     /// `merge` finds their order. Where memory is refused the world is as it was.
     pub fn histories(&self, global: Global) -> Result<Histories, AllocError>
         ensures logs { IfOk result (λ h. AreLogsOf h (parts_layout self.now.parts) (kept_of self.now.parts)) }
-        ensures lists { IfOk result (λ h. (length h.guests.items ≡ 64) × (length h.cpus.items ≡ self.now.parts.layout.config.cpus)) }
+        ensures lists { IfOk result
+            (λ h. (length h.guests.items ≡ 64)
+            × (length h.cpus.items ≡ self.now.parts.layout.config.cpus)) }
         ensures history { IfOk result (λ h. ∥ IsOfHistory h ∥₁) }
     {
         histories::histories(global, &self.parts)
@@ -164,7 +167,9 @@ impl<A: Allocator> World<A> {
         ensures layout { IfOk result (λ g. layout_of g.layout ≡ parts_layout self.now.parts) }
         ensures maplets { IfOk result (SaysMaplets self.now.parts) }
         ensures rows { IfOk result (SaysRows self.now.parts) }
-        ensures walked { IfOk result (λ g. ghost_state g ≡ walked_state (parts_layout self.now.parts) (state_of self.now.parts)) }
+        ensures walked { IfOk result
+            (λ g. ghost_state g
+            ≡ walked_state (parts_layout self.now.parts) (state_of self.now.parts)) }
         ensures frames { IfOk result (HasRowsOf (parts_layout self.now.parts)) }
     {
         kept(global, &self.parts)
@@ -173,10 +178,13 @@ impl<A: Allocator> World<A> {
     /// What walking every word of the world's tables from scratch finds, with what is in no table as it is. It adds to `reads` each
     /// word that it reads.
     pub fn recompute(&self, global: Global, reads: &mut Reads) -> Result<Ghost, AllocError>
-        ensures state { IfOk result (λ g. ghost_state g ≡ walked_state (parts_layout self.now.parts) (state_of self.now.parts)) }
+        ensures state { IfOk result
+            (λ g. ghost_state g
+            ≡ walked_state (parts_layout self.now.parts) (state_of self.now.parts)) }
         ensures layout { IfOk result (λ g. layout_of g.layout ≡ parts_layout self.now.parts) }
         ensures frames { IfOk result (HasRowsOf (parts_layout self.now.parts)) }
-        ensures reads { OnOk result (HasRead (count_of reads.old) (tables_of_parts self.now.parts) (count_of reads.new)) }
+        ensures reads { OnOk result
+            (HasRead (count_of reads.old) (tables_of_parts self.now.parts) (count_of reads.new)) }
     {
         let walked = recompute(global, &self.parts, reads)?;
         Ok(Ghost::of_kept(walked))
@@ -187,7 +195,8 @@ impl<A: Allocator> World<A> {
     pub fn kept_and_walked(&self, global: Global, reads: &mut Reads) -> Result<Compared, AllocError>
         ensures compared { IfOk result (IsCompared self.now.parts) }
         ensures same { IfOk result (λ c. ghost_state (walked_in c) ≡ ghost_state c.kept) }
-        ensures reads { OnOk result (HasRead (count_of reads.old) (tables_of_parts self.now.parts) (count_of reads.new)) }
+        ensures reads { OnOk result
+            (HasRead (count_of reads.old) (tables_of_parts self.now.parts) (count_of reads.new)) }
     {
         kept_and_walked(global, &self.parts, reads)
     }
@@ -200,7 +209,8 @@ impl<A: Allocator> World<A> {
         reads: &mut Reads,
     ) -> Result<Option<Disagreement>, AllocError>
         ensures none { IfOk result (λ o. o ≡ None) }
-        ensures reads { OnOk result (HasRead (count_of reads.old) (tables_of_parts self.now.parts) (count_of reads.new)) }
+        ensures reads { OnOk result
+            (HasRead (count_of reads.old) (tables_of_parts self.now.parts) (count_of reads.new)) }
     {
         let compared = self.kept_and_walked(global, reads)?;
         let found = compared.audit();

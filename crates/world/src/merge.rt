@@ -115,7 +115,10 @@ fn is_next_at(logs: &[Vec<Call>], places: &[usize], i: u64, call: &Call) -> bool
 /// Whether a call is next in the log of the guest that it uses, if any.
 fn is_next_on_guest(histories: &Histories, places: &Places, call: &Call) -> bool
     requires { IsPlaced histories.now places.now }
-    ensures { IsTrue result ↔ ((v : ℕ) → is_slot call.now.slot v ≡ true → first_of (left histories.now places.now (on (guest_part v))) ≡ Some call.now) }
+    ensures { IsTrue result
+        ↔ ((v : ℕ)
+        → is_slot call.now.slot v ≡ true
+        → first_of (left histories.now places.now (on (guest_part v))) ≡ Some call.now) }
 {
     match call.slot {
         Some(v) => is_next_at(
@@ -131,7 +134,10 @@ fn is_next_on_guest(histories: &Histories, places: &Places, call: &Call) -> bool
 /// Whether a call is next in the log of each part that it uses.
 fn is_next_on_parts(histories: &Histories, places: &Places, call: &Call) -> bool
     requires { IsPlaced histories.now places.now }
-    ensures { IsTrue result ↔ ((p : Part) → call_uses p call.now ≡ true → first_of (left histories.now places.now (on p)) ≡ Some call.now) }
+    ensures { IsTrue result
+        ↔ ((p : Part)
+        → call_uses p call.now ≡ true
+        → first_of (left histories.now places.now (on p)) ≡ Some call.now) }
 {
     if !is_next_where(
         uses_vms(call.step),
@@ -224,7 +230,9 @@ fn advance_on_guest(logs: &[Vec<Call>], places: &mut Vec<usize>, slot: Option<u6
 fn advance(histories: &Histories, places: &mut Places, call: &Call)
     requires { IsPlaced histories.now places.old }
     ensures placed { IsPlaced histories.now places.new }
-    ensures left { (x : LogName) → left histories.now places.new x ≡ after_call (left histories.now places.old) call.now x }
+    ensures left { (x : LogName)
+        → left histories.now places.new x
+        ≡ after_call (left histories.now places.old) call.now x }
 {
     places.vms = place_after(uses_vms(call.step), histories.vms.as_slice(), places.vms);
     places.shared = place_after(

@@ -61,7 +61,10 @@ impl<A: Allocator> RawWorld<A> {
     /// What walking every word from scratch finds, malformed words among them.
     pub fn recompute(&self, global: Global) -> Result<GhostLists, AllocError>
         ensures found { IfOk result (IsRawFound Words self.now.parts) }
-        ensures rows { IfOk result (λ g. (f : ℕ) → (contents_in g).shared.row f ≡ scratch_rows (layout_of self.now.parts.layout) (contents_in g) f) }
+        ensures rows { IfOk result
+            (λ g. (f : ℕ)
+            → (contents_in g).shared.row f
+            ≡ scratch_rows (layout_of self.now.parts.layout) (contents_in g) f) }
         ensures frames { IfOk result (HasRowsOf (layout_of self.now.parts.layout)) }
         ensures ready { IfOk result AreMapsKept }
     {

@@ -7,7 +7,8 @@ use Rattle.page_state.specs.declared.layout.RegionKind.TheVariants.{Device, Memo
 
 -- a region of so many pages
 abbrev pub region : RegionKind → ℕ → ℕ → Region
-region kind first count = record { kind = kind; pages = record { first = record { 0 = first }; count = count } }
+region kind first count =
+    record { kind = kind; pages = record { first = record { 0 = first }; count = count } }
 
 -- 16 pages of a device, and 2,048 of memory
 abbrev pub sample_regions : List Region

@@ -57,7 +57,9 @@ pub(crate) fn started(
     log: u64,
 ) -> Result<Option<Ghost>, AllocError>
     requires { 0 < cpus }
-    ensures enough { IfOk result (λ o. IsSome o ↔ IsCarveEnough (record { memory = map; config = config_39 cpus log; depth = 2 })) }
+    ensures enough { IfOk result
+        (λ o. IsSome o
+        ↔ IsCarveEnough (record { memory = map; config = config_39 cpus log; depth = 2 })) }
     ensures config { IfOk result (λ o. IfSome o (λ g. g.layout.config ≡ config_39 cpus log)) }
     ensures memory { IfOk result (λ o. IfSome o (λ g. g.layout.map ≡ map)) }
 {

@@ -71,7 +71,10 @@ pub(crate) fn decide_host_abort<A: Allocator>(
     shared: &SharedPart<A>,
     page: u64,
 ) -> Result<Changes, Refusal>
-    ensures decided { (cpu : ℕ) (k : Cpu) → result ≡ decides (layout_of layout.now) cpu None (HostAbort page) (used_alone (shared_of shared.now) k) }
+    ensures decided { (cpu : ℕ) (k : Cpu)
+        → result
+        ≡ decides (layout_of layout.now) cpu None (HostAbort page)
+        (used_alone (shared_of shared.now) k) }
 {
     let Some(region) = layout.map.region_of(Page(page)) else {
         return Err(Refusal::Invalid);

@@ -22,7 +22,10 @@ pub(crate) fn decide_host_translate<A: Allocator>(
     shared: &SharedPart<A>,
     page: u64,
 ) -> Result<Changes, Refusal>
-    ensures decided { (cpu : ℕ) (k : Cpu) → result ≡ decides (layout_of layout.now) cpu None (HostTranslate page) (used_alone (shared_of shared.now) k) }
+    ensures decided { (cpu : ℕ) (k : Cpu)
+        → result
+        ≡ decides (layout_of layout.now) cpu None (HostTranslate page)
+        (used_alone (shared_of shared.now) k) }
     ensures grows { IfOk result (GrowsOnly (HostTranslate page)) }
 {
     if page >= layout.geometry.pages() {
@@ -41,7 +44,10 @@ pub(crate) fn decide_hyp_translate<A: Allocator>(
     shared: &SharedPart<A>,
     page: u64,
 ) -> Result<Changes, Refusal>
-    ensures decided { (cpu : ℕ) (k : Cpu) → result ≡ decides (layout_of layout.now) cpu None (HypTranslate page) (used_alone (shared_of shared.now) k) }
+    ensures decided { (cpu : ℕ) (k : Cpu)
+        → result
+        ≡ decides (layout_of layout.now) cpu None (HypTranslate page)
+        (used_alone (shared_of shared.now) k) }
     ensures grows { IfOk result (GrowsOnly (HypTranslate page)) }
 {
     if page >= layout.geometry.pages() {
@@ -61,7 +67,10 @@ pub(crate) fn decide_owner_of<A: Allocator>(
     pfn: u64,
 ) -> Result<Changes, Refusal>
     requires suits { SharedSuits (layout_of layout.now) shared.now }
-    ensures decided { (cpu : ℕ) (k : Cpu) → result ≡ decides (layout_of layout.now) cpu None (OwnerOf pfn) (used_alone (shared_of shared.now) k) }
+    ensures decided { (cpu : ℕ) (k : Cpu)
+        → result
+        ≡ decides (layout_of layout.now) cpu None (OwnerOf pfn)
+        (used_alone (shared_of shared.now) k) }
     ensures grows { IfOk result (GrowsOnly (OwnerOf pfn)) }
 {
     if !layout.map.is_memory(Page(pfn)) {

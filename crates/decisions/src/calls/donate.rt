@@ -22,7 +22,9 @@ use std::alloc::Allocator;
 /// Whether a frame's page is free to give, and the hypervisor's page of the frame unmapped.
 fn may_give<A: Allocator>(shared: &SharedPart<A>, frame: u64) -> bool
     requires { frame < 2 ^ 26 }
-    ensures { result ≡ (is_free_entry (meaning shared.now.host.tree frame) && is_unmapped (meaning shared.now.hyp.tree (hyp_page_of frame))) }
+    ensures { result
+        ≡ (is_free_entry (meaning shared.now.host.tree frame)
+        && is_unmapped (meaning shared.now.hyp.tree (hyp_page_of frame))) }
 {
     is_free_page(shared.host.translate(Page(frame)))
         && !is_mapped(shared.hyp.translate(hyp_page(frame)))
@@ -50,7 +52,10 @@ pub(crate) fn decide_donate_hyp<A: Allocator>(
     pfn: u64,
     n: u64,
 ) -> Result<Changes, Refusal>
-    ensures decided { (cpu : ℕ) (k : Cpu) → result ≡ decides (layout_of layout.now) cpu None (DonateHyp pfn n) (used_alone (shared_of shared.now) k) }
+    ensures decided { (cpu : ℕ) (k : Cpu)
+        → result
+        ≡ decides (layout_of layout.now) cpu None (DonateHyp pfn n)
+        (used_alone (shared_of shared.now) k) }
 {
     if !layout.is_good_range(Page(pfn), n) {
         return Err(Refusal::Invalid);

@@ -42,7 +42,9 @@ fn may_return<A: Allocator>(shared: &SharedPart<A>, frame: u64) -> bool
 fn may_return_all<A: Allocator>(shared: &SharedPart<A>, pfn: u64, n: u64) -> bool
     requires low { pfn + n ≤ 2 ^ 26 }
     requires rows { (i : ℕ) → i < n → IsSome (row_at shared.now.owners (pfn + i)) }
-    ensures { (k : Cpu) → result ≡ all_below n (λ i. may_return_of (used_alone (shared_of shared.now) k) (pfn + i)) }
+    ensures { (k : Cpu)
+        → result
+        ≡ all_below n (λ i. may_return_of (used_alone (shared_of shared.now) k) (pfn + i)) }
 {
     for i in 0..n {
         if !may_return(shared, pfn + i) {
@@ -62,7 +64,10 @@ pub(crate) fn decide_hyp_donate_host<A: Allocator>(
     n: u64,
 ) -> Result<Changes, Refusal>
     requires suits { SharedSuits (layout_of layout.now) shared.now }
-    ensures decided { (cpu : ℕ) (k : Cpu) → result ≡ decides (layout_of layout.now) cpu None (HypDonateHost pfn n) (used_alone (shared_of shared.now) k) }
+    ensures decided { (cpu : ℕ) (k : Cpu)
+        → result
+        ≡ decides (layout_of layout.now) cpu None (HypDonateHost pfn n)
+        (used_alone (shared_of shared.now) k) }
 {
     if !layout.is_good_range(Page(pfn), n) {
         return Err(Refusal::Invalid);

@@ -70,7 +70,8 @@ pub(crate) fn decide_guest_translate<A: Allocator>(
 /// The Live guest of the CPU's Closing ticket becomes Dying.
 #[tactic(auto, unfolding(reference_model::specs::model::Rules::rule))]
 pub(crate) fn decide_mark_dying(cpu: &CpuState) -> Result<Changes, Refusal>
-    ensures decided { (l : ReferenceLayout) (id slot : ℕ) (g : ReferenceGuest) → result ≡ decides l id (Some slot) MarkDying (guest_alone g (cpu_of cpu.now)) }
+    ensures decided { (l : ReferenceLayout) (id slot : ℕ) (g : ReferenceGuest)
+        → result ≡ decides l id (Some slot) MarkDying (guest_alone g (cpu_of cpu.now)) }
     ensures grows { IfOk result (GrowsOnly MarkDying) }
 {
     Ok(Changes {

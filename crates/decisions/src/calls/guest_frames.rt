@@ -152,8 +152,11 @@ pub(crate) fn decide_reclaim_pool<A: Allocator>(
     cpu: &CpuState,
     vm: VmId,
 ) -> Result<Changes, Refusal>
-    requires rely { CanRely (layout_of layout.now) cpu.now.id (Some slot) (ReclaimPool vm) (used_with shared.now guest.now cpu.now) }
-    ensures decided { result ≡ decides (layout_of layout.now) cpu.now.id (Some slot) (ReclaimPool vm) (used_with shared.now guest.now cpu.now) }
+    requires rely { CanRely (layout_of layout.now) cpu.now.id (Some slot) (ReclaimPool vm)
+        (used_with shared.now guest.now cpu.now) }
+    ensures decided { result
+        ≡ decides (layout_of layout.now) cpu.now.id (Some slot) (ReclaimPool vm)
+        (used_with shared.now guest.now cpu.now) }
 {
     if vm.slot >= SLOTS {
         return Err(Refusal::Invalid);
@@ -190,8 +193,11 @@ pub(crate) fn decide_finish_guest<A: Allocator>(
     cpu: &CpuState,
 ) -> Result<Changes, Refusal>
     requires depth { guest_depth guest.now ≡ (layout_of layout.now).depth }
-    requires rely { CanRely (layout_of layout.now) cpu.now.id (Some slot) FinishGuest (used_with shared.now guest.now cpu.now) }
-    ensures decided { result ≡ decides (layout_of layout.now) cpu.now.id (Some slot) FinishGuest (used_with shared.now guest.now cpu.now) }
+    requires rely { CanRely (layout_of layout.now) cpu.now.id (Some slot) FinishGuest
+        (used_with shared.now guest.now cpu.now) }
+    ensures decided { result
+        ≡ decides (layout_of layout.now) cpu.now.id (Some slot) FinishGuest
+        (used_with shared.now guest.now cpu.now) }
 {
     if holds_any(guest) {
         return Err(Refusal::Perm);

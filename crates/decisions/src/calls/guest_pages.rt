@@ -56,7 +56,9 @@ fn may_give_page<A: Allocator>(
     frame: u64,
     page: u64,
 ) -> bool
-    ensures { result ≡ (is_free_entry (meaning shared.now.host.tree frame) && is_unmapped ((guest_of guest.now).tree.map page)) }
+    ensures { result
+        ≡ (is_free_entry (meaning shared.now.host.tree frame)
+        && is_unmapped ((guest_of guest.now).tree.map page)) }
 {
     is_free_page(shared.host.translate(Page(frame))) && !is_mapped(guest.translate(Page(page)))
 }
@@ -71,7 +73,9 @@ fn may_give<A: Allocator>(
 ) -> bool
     requires frames { pfn + n ≤ 2 ^ 26 }
     requires pages { gfn + n ≤ 2 ^ 62 }
-    ensures { (k : Cpu) → result ≡ may_give_of (with_guest (shared_of shared.now) (guest_of guest.now) k) pfn gfn n }
+    ensures { (k : Cpu)
+        → result
+        ≡ may_give_of (with_guest (shared_of shared.now) (guest_of guest.now) k) pfn gfn n }
 {
     for i in 0..n {
         if !may_give_page(shared, guest, pfn + i, gfn + i) {
@@ -100,7 +104,9 @@ pub(crate) fn decide_share_guest<A: Allocator>(
     prot: Prot,
     n: u64,
 ) -> Result<Changes, Refusal>
-    ensures decided { (slot : ℕ) → IsDecidedByParts (layout_of layout.now) slot shared.now guest.now (ShareGuest pfn gfn prot n) result }
+    ensures decided { (slot : ℕ)
+        → IsDecidedByParts (layout_of layout.now) slot shared.now guest.now
+        (ShareGuest pfn gfn prot n) result }
 {
     if !layout.is_good_range(Page(pfn), n) || !are_good_pages(layout, gfn, n) {
         return Err(Refusal::Invalid);
@@ -126,7 +132,9 @@ pub(crate) fn decide_unshare_guest<A: Allocator>(
     vm: VmId,
     gfn: u64,
 ) -> Result<Changes, Refusal>
-    ensures decided { (slot : ℕ) → IsDecidedByParts (layout_of layout.now) slot shared.now guest.now (UnshareGuest vm gfn) result }
+    ensures decided { (slot : ℕ)
+        → IsDecidedByParts (layout_of layout.now) slot shared.now guest.now
+        (UnshareGuest vm gfn) result }
 {
     if vm.slot >= SLOTS || gfn >= layout.geometry.pages() {
         return Err(Refusal::Invalid);
@@ -159,7 +167,8 @@ pub(crate) fn decide_donate_guest<A: Allocator>(
     n: u64,
 ) -> Result<Changes, Refusal>
     requires { slot < 64 }
-    ensures decided { IsDecidedByParts (layout_of layout.now) slot shared.now guest.now (DonateGuest pfn gfn n) result }
+    ensures decided { IsDecidedByParts (layout_of layout.now) slot shared.now guest.now
+        (DonateGuest pfn gfn n) result }
 {
     if !layout.is_good_range(Page(pfn), n) || !are_good_pages(layout, gfn, n) {
         return Err(Refusal::Invalid);
@@ -179,7 +188,9 @@ pub(crate) fn decide_guest_share_host<A: Allocator>(
     guest: &Guest<A>,
     gfn: u64,
 ) -> Result<Changes, Refusal>
-    ensures decided { (slot : ℕ) → IsDecidedByParts (layout_of layout.now) slot shared.now guest.now (GuestShareHost gfn) result }
+    ensures decided { (slot : ℕ)
+        → IsDecidedByParts (layout_of layout.now) slot shared.now guest.now
+        (GuestShareHost gfn) result }
 {
     if gfn >= layout.geometry.pages() {
         return Err(Refusal::Invalid);
@@ -207,7 +218,8 @@ pub(crate) fn decide_guest_unshare_host<A: Allocator>(
     gfn: u64,
 ) -> Result<Changes, Refusal>
     requires { slot < 64 }
-    ensures decided { IsDecidedByParts (layout_of layout.now) slot shared.now guest.now (GuestUnshareHost gfn) result }
+    ensures decided { IsDecidedByParts (layout_of layout.now) slot shared.now guest.now
+        (GuestUnshareHost gfn) result }
 {
     if gfn >= layout.geometry.pages() {
         return Err(Refusal::Invalid);
@@ -227,7 +239,9 @@ pub(crate) fn decide_guest_unshare_host<A: Allocator>(
 /// What the host's page of a guest's frame becomes: unmapped where the guest owned the frame, and the host's own where one
 /// of them shared it.
 fn reclaimed(entry: Entry) -> Entry
-    ensures { result ≡ (if is_entry_in State.Owned entry then Entry.Unmapped else leaf_of Prot.RWX (frame_of_entry entry) State.Owned) }
+    ensures { result
+        ≡ (if is_entry_in State.Owned entry then Entry.Unmapped
+        else leaf_of Prot.RWX (frame_of_entry entry) State.Owned) }
 {
     if is_in(State::Owned, entry) {
         Entry::Unmapped
@@ -245,7 +259,9 @@ pub(crate) fn decide_reclaim_page<A: Allocator>(
     vm: VmId,
     gfn: u64,
 ) -> Result<Changes, Refusal>
-    ensures decided { (slot : ℕ) → IsDecidedByParts (layout_of layout.now) slot shared.now guest.now (ReclaimPage vm gfn) result }
+    ensures decided { (slot : ℕ)
+        → IsDecidedByParts (layout_of layout.now) slot shared.now guest.now
+        (ReclaimPage vm gfn) result }
 {
     if vm.slot >= SLOTS || gfn >= layout.geometry.pages() {
         return Err(Refusal::Invalid);

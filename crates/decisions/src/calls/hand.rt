@@ -26,7 +26,10 @@ pub(crate) fn decide_fund<A: Allocator>(
     pfn: u64,
     n: u64,
 ) -> Result<Changes, Refusal>
-    ensures decided { (id : ℕ) → result ≡ decides (layout_of layout.now) id None (Fund pfn n) (used_alone (shared_of shared.now) (cpu_of cpu.now)) }
+    ensures decided { (id : ℕ)
+        → result
+        ≡ decides (layout_of layout.now) id None (Fund pfn n)
+        (used_alone (shared_of shared.now) (cpu_of cpu.now)) }
 {
     if !layout.is_good_range(Page(pfn), n) {
         return Err(Refusal::Invalid);
@@ -58,8 +61,11 @@ pub(crate) fn decide_unfund<A: Allocator>(
     shared: &SharedPart<A>,
     cpu: &CpuState,
 ) -> Result<Changes, Refusal>
-    requires rely { CanRely (layout_of layout.now) cpu.now.id None Unfund (used_alone (shared_of shared.now) (cpu_of cpu.now)) }
-    ensures decided { result ≡ decides (layout_of layout.now) cpu.now.id None Unfund (used_alone (shared_of shared.now) (cpu_of cpu.now)) }
+    requires rely { CanRely (layout_of layout.now) cpu.now.id None Unfund
+        (used_alone (shared_of shared.now) (cpu_of cpu.now)) }
+    ensures decided { result
+        ≡ decides (layout_of layout.now) cpu.now.id None Unfund
+        (used_alone (shared_of shared.now) (cpu_of cpu.now)) }
 {
     let Some(hand) = cpu.hand else {
         return Err(Refusal::Perm);

@@ -23,7 +23,10 @@ pub(crate) fn decide_unshare_hyp<A: Allocator>(
     shared: &SharedPart<A>,
     pfn: u64,
 ) -> Result<Changes, Refusal>
-    ensures decided { (cpu : ℕ) (k : Cpu) → result ≡ decides (layout_of layout.now) cpu None (UnshareHyp pfn) (used_alone (shared_of shared.now) k) }
+    ensures decided { (cpu : ℕ) (k : Cpu)
+        → result
+        ≡ decides (layout_of layout.now) cpu None (UnshareHyp pfn)
+        (used_alone (shared_of shared.now) k) }
 {
     if !layout.map.is_memory(Page(pfn)) {
         return Err(Refusal::Invalid);

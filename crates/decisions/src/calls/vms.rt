@@ -42,7 +42,9 @@ fn ticket_at(stage: Stage, cpu: &CpuState) -> Option<Ticket>
 
 /// The CPU's ticket, where nothing of its VM is installed, or everything given back.
 fn ticket_at_end(cpu: &CpuState) -> Option<Ticket>
-    ensures { IsTicketIf (has_stage Stage.Booked (cpu_of cpu.now) || has_stage Stage.Finished (cpu_of cpu.now)) cpu.now result }
+    ensures { IsTicketIf
+        (has_stage Stage.Booked (cpu_of cpu.now)
+        || has_stage Stage.Finished (cpu_of cpu.now)) cpu.now result }
 {
     match ticket_at(Stage::Booked, cpu) {
         Some(ticket) => Some(ticket),
@@ -78,7 +80,10 @@ pub(crate) fn decide_vm_reserve(
     kind: VmKind,
     vcpus: u64,
 ) -> Result<Changes, Refusal>
-    ensures decided { (l : ReferenceLayout) (id : ℕ) → result ≡ decides l id None (VmReserve kind vcpus) (vms_alone (vms_of table.now) (cpu_of cpu.now)) }
+    ensures decided { (l : ReferenceLayout) (id : ℕ)
+        → result
+        ≡ decides l id None (VmReserve kind vcpus)
+        (vms_alone (vms_of table.now) (cpu_of cpu.now)) }
     ensures grows { IfOk result (GrowsOnly (VmReserve kind vcpus)) }
 {
     if !(1..=MOST_VCPUS).contains(&vcpus) {
@@ -109,7 +114,8 @@ pub(crate) fn decide_vm_reserve(
 /// The installed VM of the CPU's ticket opens, and the CPU gives its ticket up.
 #[tactic(auto, unfolding(reference_model::specs::model::Rules::rule))]
 pub(crate) fn decide_vm_open(table: &VmTable, cpu: &CpuState) -> Result<Changes, Refusal>
-    ensures decided { (l : ReferenceLayout) (id : ℕ) → result ≡ decides l id None VmOpen (vms_alone (vms_of table.now) (cpu_of cpu.now)) }
+    ensures decided { (l : ReferenceLayout) (id : ℕ)
+        → result ≡ decides l id None VmOpen (vms_alone (vms_of table.now) (cpu_of cpu.now)) }
     ensures grows { IfOk result (GrowsOnly VmOpen) }
 {
     let Some(ticket) = ticket_at(Stage::Installed, cpu) else {
@@ -133,7 +139,10 @@ pub(crate) fn decide_vcpu_load(
     vm: VmId,
     vcpu: u64,
 ) -> Result<Changes, Refusal>
-    ensures decided { (l : ReferenceLayout) → result ≡ decides l cpu.now.id None (VcpuLoad vm vcpu) (vms_alone (vms_of table.now) (cpu_of cpu.now)) }
+    ensures decided { (l : ReferenceLayout)
+        → result
+        ≡ decides l cpu.now.id None (VcpuLoad vm vcpu)
+        (vms_alone (vms_of table.now) (cpu_of cpu.now)) }
     ensures grows { IfOk result (GrowsOnly (VcpuLoad vm vcpu)) }
 {
     if vm.slot >= SLOTS || vcpu >= MOST_VCPUS {
@@ -162,7 +171,8 @@ pub(crate) fn decide_vcpu_load(
 /// The CPU puts back the vCPU that it has loaded.
 #[tactic(auto, unfolding(reference_model::specs::model::Rules::rule))]
 pub(crate) fn decide_vcpu_put(table: &VmTable, cpu: &CpuState) -> Result<Changes, Refusal>
-    ensures decided { (l : ReferenceLayout) (id : ℕ) → result ≡ decides l id None VcpuPut (vms_alone (vms_of table.now) (cpu_of cpu.now)) }
+    ensures decided { (l : ReferenceLayout) (id : ℕ)
+        → result ≡ decides l id None VcpuPut (vms_alone (vms_of table.now) (cpu_of cpu.now)) }
     ensures grows { IfOk result (GrowsOnly VcpuPut) }
 {
     let Some(loaded) = cpu.loaded else {
@@ -181,7 +191,9 @@ pub(crate) fn decide_vcpu_put(table: &VmTable, cpu: &CpuState) -> Result<Changes
 /// An Open VM of which no CPU has a vCPU loaded closes, and the CPU, which must have no ticket, gets one of it.
 #[tactic(auto, unfolding(reference_model::specs::model::Rules::rule))]
 pub(crate) fn decide_teardown(table: &VmTable, cpu: &CpuState, vm: VmId) -> Result<Changes, Refusal>
-    ensures decided { (l : ReferenceLayout) (id : ℕ) → result ≡ decides l id None (Teardown vm) (vms_alone (vms_of table.now) (cpu_of cpu.now)) }
+    ensures decided { (l : ReferenceLayout) (id : ℕ)
+        → result
+        ≡ decides l id None (Teardown vm) (vms_alone (vms_of table.now) (cpu_of cpu.now)) }
     ensures grows { IfOk result (GrowsOnly (Teardown vm)) }
 {
     if vm.slot >= SLOTS {
@@ -208,7 +220,8 @@ pub(crate) fn decide_teardown(table: &VmTable, cpu: &CpuState, vm: VmId) -> Resu
 /// generation, and the CPU gives its ticket up.
 #[tactic(auto, unfolding(reference_model::specs::model::Rules::rule))]
 pub(crate) fn decide_vm_release(table: &VmTable, cpu: &CpuState) -> Result<Changes, Refusal>
-    ensures decided { (l : ReferenceLayout) (id : ℕ) → result ≡ decides l id None VmRelease (vms_alone (vms_of table.now) (cpu_of cpu.now)) }
+    ensures decided { (l : ReferenceLayout) (id : ℕ)
+        → result ≡ decides l id None VmRelease (vms_alone (vms_of table.now) (cpu_of cpu.now)) }
     ensures grows { IfOk result (GrowsOnly VmRelease) }
 {
     let Some(ticket) = ticket_at_end(cpu) else {

@@ -31,7 +31,8 @@ abbrev pub indexes_in : ℕ → List Table → List ℕ
 indexes_in depth [] = []
 indexes_in depth (t ∷ ts) = index_in depth t.block ++ indexes_in depth ts
 
--- a block of the depth is among those that have a table, or one word can say what the map says of it
+-- a block of the depth is among those that have a table, or one word can say what the map says of
+-- it
 abbrev pub IsServed : Map → List ℕ → ℕ → ℕ → Type 0
 IsServed m indexes depth index = Contains indexes index ⊎ (is_one_word m (depth, index) ≡ true)
 
@@ -45,7 +46,8 @@ AreServedFrom m indexes depth from to = (i : ℕ) → from ≤ i → i < to → 
 
 -- so is each behind one and before another
 abbrev pub AreServedBetween : Map → List ℕ → ℕ → ℕ → ℕ → Type 0
-AreServedBetween m indexes depth low high = (i : ℕ) → low < i → i < high → IsServed m indexes depth i
+AreServedBetween m indexes depth low high =
+    (i : ℕ) → low < i → i < high → IsServed m indexes depth i
 
 -- a run covers the blocks of the depth behind one and before another
 pub record CoversBetween (m : Map) (r : Run) (depth low high : ℕ) : Type 0 where
@@ -55,7 +57,12 @@ pub record CoversBetween (m : Map) (r : Run) (depth low high : ℕ) : Type 0 whe
 
 -- so is the block of each page of the run, where it is one of so many
 abbrev pub AreServedOn : Map → List ℕ → ℕ → ℕ → Run → Type 0
-AreServedOn m indexes depth count r = (p : ℕ) → r.pages.first.0 ≤ p → p < run_end r → p / block_pages depth < count → IsServed m indexes depth (p / block_pages depth)
+AreServedOn m indexes depth count r =
+    (p : ℕ)
+    → r.pages.first.0 ≤ p
+    → p < run_end r
+    → p / block_pages depth < count
+    → IsServed m indexes depth (p / block_pages depth)
 
 -- one of so many blocks of the depth isn't
 pub record IsUnserved (m : Map) (indexes : List ℕ) (depth count index : ℕ) : Type 0 where

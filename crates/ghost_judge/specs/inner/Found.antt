@@ -15,11 +15,13 @@ use Rattle.ghost_judge.specs.Apart.{IsFirstApart}
 
 -- the first difference of two maps, as one of a tree
 abbrev pub IsMapDifference : TreeOf → Map → Map → Disagreement → Type 0
-IsMapDifference tree m n d = (page : ℕ) × (d ≡ MapDiffers tree page (m page) (n page)) × IsFirstApart m n page
+IsMapDifference tree m n d =
+    (page : ℕ) × (d ≡ MapDiffers tree page (m page) (n page)) × IsFirstApart m n page
 
 -- that of the rows
 abbrev pub IsRowDifference : (ℕ → Row) → (ℕ → Row) → Disagreement → Type 0
-IsRowDifference m n d = (frame : ℕ) × (d ≡ OwnerDiffers frame (m frame) (n frame)) × IsFirstApart m n frame
+IsRowDifference m n d =
+    (frame : ℕ) × (d ≡ OwnerDiffers frame (m frame) (n frame)) × IsFirstApart m n frame
 
 -- the map of a guest in a list
 abbrev pub guest_map : List GhostGuest → ℕ → Map
@@ -27,7 +29,10 @@ guest_map gs v = (get_or (map guest_in gs) v no_guest).tree.map
 
 -- the first guest whose maps differ
 abbrev pub IsGuestDifference : List GhostGuest → List GhostGuest → Disagreement → Type 0
-IsGuestDifference gs hs d = (v : ℕ) × ((u : ℕ) → u < v → guest_map gs u ≡ guest_map hs u) × IsMapDifference (Guest v) (guest_map gs v) (guest_map hs v) d
+IsGuestDifference gs hs d =
+    (v : ℕ)
+    × ((u : ℕ) → u < v → guest_map gs u ≡ guest_map hs u)
+    × IsMapDifference (Guest v) (guest_map gs v) (guest_map hs v) d
 
 -- the finding, or that two things are equal
 abbrev pub IsFound : Type 0 → (Disagreement → Type 0) → Option Disagreement → Type 0
@@ -35,4 +40,6 @@ IsFound alike differ o = MatchOption o alike differ
 
 -- the first difference of two trees' maps, or that they are equal
 abbrev pub IsFoundInTrees : TreeOf → Tree → Tree → Option Disagreement → Type 0
-IsFoundInTrees tree kept walked o = IsFound (map_of kept.runs.items ≡ map_of walked.runs.items) (IsMapDifference tree (map_of kept.runs.items) (map_of walked.runs.items)) o
+IsFoundInTrees tree kept walked o =
+    IsFound (map_of kept.runs.items ≡ map_of walked.runs.items)
+    (IsMapDifference tree (map_of kept.runs.items) (map_of walked.runs.items)) o

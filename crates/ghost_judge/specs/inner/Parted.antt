@@ -3,12 +3,14 @@ use Rattle.std.specs.Prelude.{◌≡◌, ℕ, ◌+◌, min, Bool, ◌==◌, Opti
 use Rattle.run_list.specs.declared.run.Run.{Run}
 use Rattle.ghost_judge.specs.Apart.{IsFirstApart}
 
--- the first page that only one of two runs has, or to which they give other values; none where they are one run
+-- the first page that only one of two runs has, or to which they give other values; none where they
+-- are one run
 abbrev pub parted_at : {V : Type 0} → (V → V → Bool) → Run V → Run V → Option ℕ
 parted_at same r s =
     if r.pages.first.0 == s.pages.first.0
     then (if same r.value s.value
-    then (if r.pages.count == s.pages.count then None else Some (r.pages.first.0 + min r.pages.count s.pages.count))
+    then (if r.pages.count == s.pages.count then None
+    else Some (r.pages.first.0 + min r.pages.count s.pages.count))
     else Some r.pages.first.0)
     else Some (min r.pages.first.0 s.pages.first.0)
 

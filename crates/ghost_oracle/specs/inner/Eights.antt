@@ -41,7 +41,8 @@ nth (suc (suc (suc (suc (suc zero))))) a b c d e f g h = f
 nth (suc (suc (suc (suc (suc (suc zero)))))) a b c d e f g h = g
 nth (suc (suc (suc (suc (suc (suc (suc k))))))) a b c d e f g h = h
 
--- the slots of a table from `i` to `j` hold the words that extend the pending run, which has been extended by them
+-- the slots of a table from `i` to `j` hold the words that extend the pending run, which has been
+-- extended by them
 pub record GoesTo {A : Type 0} (t : Table A) (i j : ℕ) (old new : Pending) : Type 0 where
   pub on : i < j → IsTrue old.goes_on
   pub words : (k : ℕ) → i + k < j → slot_at t (i + k) ≡ Word (old.next + k * old.step)
@@ -55,7 +56,15 @@ pub record HasLooked (old more new : ℕ) : Type 0 where
 
 -- eight slots, behind references
 abbrev pub EightSlots : Type 0 → Type 0
-EightSlots A = Bor (Slot A) × Bor (Slot A) × Bor (Slot A) × Bor (Slot A) × Bor (Slot A) × Bor (Slot A) × Bor (Slot A) × Bor (Slot A)
+EightSlots A =
+    Bor (Slot A)
+    × Bor (Slot A)
+    × Bor (Slot A)
+    × Bor (Slot A)
+    × Bor (Slot A)
+    × Bor (Slot A)
+    × Bor (Slot A)
+    × Bor (Slot A)
 
 module _ {A : Type 0} where
   -- they are those of a table from `i` on
@@ -64,21 +73,28 @@ module _ {A : Type 0} where
 
   -- they hold `next`, `next + step`, and so on
   abbrev pub HoldNext : ℕ → ℕ → EightSlots A → Type 0
-  HoldNext next step x = AreNext next step x.0.now x.1.now x.2.now x.3.now x.4.now x.5.now x.6.now x.7.now
+  HoldNext next step x =
+      AreNext next step x.0.now x.1.now x.2.now x.3.now x.4.now x.5.now x.6.now x.7.now
 
   -- slot `k` of them
   abbrev pub nth_of : ℕ → EightSlots A → Slot A
   nth_of k x = nth k x.0.now x.1.now x.2.now x.3.now x.4.now x.5.now x.6.now x.7.now
 
-  -- the result of a look at the slots of a table, eight at a time from slot `8 * from` on: the number and the slots of the first eight that don't all extend the pending run; none if each does
+  -- the result of a look at the slots of a table, eight at a time from slot `8 * from` on: the
+  -- number and the slots of the first eight that don't all extend the pending run; none if each
+  -- does
   module _ (t : Table A) (from : ℕ) (found : Option (ℕ × EightSlots A)) where
     -- the words before them extend the run, which has been extended by them
     abbrev pub GoesToFound : Pending → Pending → Type 0
-    GoesToFound old new = MatchOption found (GoesTo t (8 * from) 512 old new) (λ r. GoesTo t (8 * from) (8 * r.0) old new)
+    GoesToFound old new =
+        MatchOption found (GoesTo t (8 * from) 512 old new)
+        (λ r. GoesTo t (8 * from) (8 * r.0) old new)
 
     -- each slot to the last of them was looked at once
     abbrev pub HasLookedToFound : ℕ → ℕ → Type 0
-    HasLookedToFound old new = MatchOption found (HasLooked old (512 - 8 * from) new) (λ r. HasLooked old (8 * r.0 + 8 - 8 * from) new)
+    HasLookedToFound old new =
+        MatchOption found (HasLooked old (512 - 8 * from) new)
+        (λ r. HasLooked old (8 * r.0 + 8 - 8 * from) new)
 
     -- they are slots of the table
     abbrev pub IsFoundIn : Type 0

@@ -13,7 +13,9 @@ use Rattle.ghost_oracle.specs.inner.Walking.{AreRunsTo, GoesOn}
 
 -- the next `left` words that would extend the run give their blocks what its entry advances to
 pub record ComesNext (depth end left : ℕ) (h : Pending) : Type 0 where
-  pub ahead : (k : ℕ) → k < left → gives depth (h.next + k * h.step) ≡ advance h.entry (end + k * block_pages depth - h.first)
+  pub ahead : (k : ℕ)
+      → k < left
+      → gives depth (h.next + k * h.step) ≡ advance h.entry (end + k * block_pages depth - h.first)
   pub room : h.next + left * h.step < 2 ^ 64
 
 -- the pending run is what the map says up to page `end`, with `left` blocks of the table after it
@@ -25,13 +27,18 @@ pub record IsPending (m : Map) (depth end left : ℕ) (h : Pending) : Type 0 whe
 
 -- the map says of a block what its word gives it
 abbrev pub IsGiven : Map → ℕ → ℕ → ℕ → Type 0
-IsGiven m depth first word = (p : ℕ) → first ≤ p → p < first + block_pages depth → m p ≡ advance (gives depth word) (p - first)
+IsGiven m depth first word =
+    (p : ℕ)
+    → first ≤ p
+    → p < first + block_pages depth
+    → m p ≡ advance (gives depth word) (p - first)
 
 -- with another next word
 abbrev pub pending_with : Pending → ℕ → Pending
 pending_with h next = record h { next = next }
 
--- a list and its pending run can take the word of a block of `size` pages, whose first page is `end`
+-- a list and its pending run can take the word of a block of `size` pages, whose first page is
+-- `end`
 pub record CanTake (depth size end : ℕ) (rs : List Run) (h : Pending) : Type 0 where
   pub depth_in : IsDepth depth
   pub pages : size ≡ block_pages depth
@@ -42,12 +49,23 @@ pub record CanTake (depth size end : ℕ) (rs : List Run) (h : Pending) : Type 0
 
 -- the pages of a pending run were appended to a list, up to page `end`
 abbrev pub IsPut : Pending → ℕ → List Run → List Run → Type 0
-IsPut h end old new = GoesOn (λ page. advance h.entry (page - h.first)) h.first end (map_of old) (map_of new)
+IsPut h end old new =
+    GoesOn (λ page. advance h.entry (page - h.first)) h.first end (map_of old) (map_of new)
 
 -- the pending run is what any map says of a block, where the word gives the block that
 abbrev pub BeginsWith : ℕ → ℕ → ℕ → ℕ → Pending → Type 0
-BeginsWith depth pages end word h = (m : Map) (left : ℕ) → left < 512 → IsGiven m depth end word → IsPending m depth (end + pages) left h
+BeginsWith depth pages end word h =
+    (m : Map) (left : ℕ)
+    → left < 512
+    → IsGiven m depth end word
+    → IsPending m depth (end + pages) left h
 
--- a pending run that is what any map says up to a block is so behind the block, where the word gives the block what the map says
+-- a pending run that is what any map says up to a block is so behind the block, where the word
+-- gives the block what the map says
 abbrev pub TakesWord : ℕ → ℕ → ℕ → ℕ → Pending → Pending → Type 0
-TakesWord depth pages end word old new = (m : Map) (left : ℕ) → left < 512 → IsPending m depth end (left + 1) old → IsGiven m depth end word → IsPending m depth (end + pages) left new
+TakesWord depth pages end word old new =
+    (m : Map) (left : ℕ)
+    → left < 512
+    → IsPending m depth end (left + 1) old
+    → IsGiven m depth end word
+    → IsPending m depth (end + pages) left new

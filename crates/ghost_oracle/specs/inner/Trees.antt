@@ -23,8 +23,10 @@ pub record AreTreesKept (g : GhostLists) : Type 0 where
   pub guest_rooms_count : length g.rooms.guests.items ≡ 64
   pub cpu_rooms_count : length g.rooms.cpus.items ≡ g.layout.config.cpus
 
--- lists hold all parts, with this Shared part and these guests: the slots, the CPUs and the rooms as they are
-pub record IsFoundWith {A : Type 0} (p : Parts A) (s : Shared) (gs : Vec GhostGuest) (g : GhostLists) : Type 0 where
+-- lists hold all parts, with this Shared part and these guests: the slots, the CPUs and the rooms
+-- as they are
+pub record IsFoundWith {A : Type 0} (p : Parts A) (s : Shared) (gs : Vec GhostGuest)
+    (g : GhostLists) : Type 0 where
   pub state : ghost_state g ≡ found_state (shared_in_lists s).row (state_of p)
   pub layout : layout_of g.layout ≡ parts_layout p
   pub trees : AreTreesKept g

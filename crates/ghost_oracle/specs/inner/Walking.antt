@@ -30,17 +30,24 @@ joined_last (n ∷ (m ∷ rs)) r = n ∷ joined_last (m ∷ rs) r
 
 -- a map that went on, from a page to another, as `m` says
 abbrev pub GoesOn : Map → ℕ → ℕ → Map → Map → Type 0
-GoesOn m from to old new = (page : ℕ) → page < to → new page ≡ (if nat_lt page from then old page else m page)
+GoesOn m from to old new =
+    (page : ℕ) → page < to → new page ≡ (if nat_lt page from then old page else m page)
 
 -- a list of runs went on by what a table at block `number` says, with `depth` levels below it
 abbrev pub GoesOnBy : {A : Type 0} → ℕ → ℕ → Table A → List Run → List Run → Type 0
-GoesOnBy depth number t old new = GoesOn (entry_at depth t) (number * block_pages (depth + 1)) ((number + 1) * block_pages (depth + 1)) (map_of old) (map_of new)
+GoesOnBy depth number t old new =
+    GoesOn (entry_at depth t) (number * block_pages (depth + 1))
+    ((number + 1) * block_pages (depth + 1)) (map_of old) (map_of new)
 
 -- a table at a block with `depth` levels below it, where it is found
 abbrev pub found_at : {A : Type 0} → ℕ → ℕ → Table A → FoundTable
 found_at depth number t = record { block = (depth + 1, number); frame = frame_of t }
 
--- a table with `depth` levels below it at block `number`, and all tables below it, by page, each before those below it
+-- a table with `depth` levels below it at block `number`, and all tables below it, by page, each
+-- before those below it
 unfoldable pub found_under : {A : Type 0} → ℕ → ℕ → Table A → List FoundTable
 found_under zero number t = found_at zero number t ∷ []
-found_under (suc depth) number t = found_at (suc depth) number t ∷ gathered (λ i. slot_case (λ _. []) (found_under depth (number * 512 + i)) (slot_at t i)) 512
+found_under (suc depth) number t =
+    found_at (suc depth) number t
+    ∷ gathered
+    (λ i. slot_case (λ _. []) (found_under depth (number * 512 + i)) (slot_at t i)) 512

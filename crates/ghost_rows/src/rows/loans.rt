@@ -61,7 +61,8 @@ fn annotate(rows: &mut Vec<RowRun<Row>>, high: u64, run: Run) -> Result<u64, All
 pub(crate) fn annotated(alloc: Global, runs: &[Run]) -> Result<RunList<Row>, AllocError>
     requires small { AreSmall runs.now }
     requires coarsest { IsCoarsest runs.now }
-    ensures map { IfOk result (λ r. (f : ℕ) → run_map advance_row r.runs f ≡ annotated_row (map_of runs.now f)) }
+    ensures map { IfOk result
+        (λ r. (f : ℕ) → run_map advance_row r.runs f ≡ annotated_row (map_of runs.now f)) }
     ensures reach { IfOk result (λ r. AreInReach HasPageBelow r.runs) }
 {
     let mut rows = Vec::with_capacity(alloc, runs.len())?;
@@ -128,7 +129,9 @@ fn lend_run(
 ) -> Result<(), AllocError>
     requires run { IsSmall run }
     requires reach { AreInReach HasPageBelow rows.old.runs }
-    ensures map { OnOk result (IsLaidOver rows.old.runs rows.new.runs (run_loan (layout_of layout.now) number state run)) }
+    ensures map { OnOk result
+        (IsLaidOver rows.old.runs rows.new.runs
+        (run_loan (layout_of layout.now) number state run)) }
     ensures reach { AreInReach HasPageBelow rows.new.runs }
 {
     if let Some(frames) = frames_of(layout, state, run) {
@@ -148,7 +151,9 @@ fn lend_back(
 ) -> Result<(), AllocError>
     requires small { AreSmall runs.now }
     requires reach { AreInReach HasPageBelow rows.old.runs }
-    ensures map { OnOk result (IsLaidOver rows.old.runs rows.new.runs (runs_loan (layout_of layout.now) number state runs.now)) }
+    ensures map { OnOk result
+        (IsLaidOver rows.old.runs rows.new.runs
+        (runs_loan (layout_of layout.now) number state runs.now)) }
     ensures reach { AreInReach HasPageBelow rows.new.runs }
 {
     for i in (0..runs.len()).rev() {
@@ -170,8 +175,14 @@ fn lend_next(
     requires run { IsSmall run }
     requires kept { IsKept advance_row HasPageBelow rows.old.items }
     requires behind { EndBefore (high + 1) rows.old.items }
-    ensures end { IfOk result (λ o. o ≡ next_above high (run_frames state (run_below (pages_below (layout_of layout.now).depth) run))) }
-    ensures map { IfOk result (λ o. IfSome o (λ end. IsLaidOver rows.old.items rows.new.items (run_loan (layout_of layout.now) number state run))) }
+    ensures end { IfOk result
+        (λ o. o
+        ≡ next_above high
+        (run_frames state (run_below (pages_below (layout_of layout.now).depth) run))) }
+    ensures map { IfOk result
+        (λ o. IfSome o
+        (λ end. IsLaidOver rows.old.items rows.new.items
+        (run_loan (layout_of layout.now) number state run))) }
     ensures kept { IfOk result (λ o. IsKept advance_row HasPageBelow rows.new.items) }
     ensures behind { IfOk result (λ o. IfSome o (λ end. EndBefore (end + 1) rows.new.items)) }
 {
@@ -199,9 +210,14 @@ fn rising_loans(
 ) -> Result<Option<RunList<Row>>, AllocError>
     requires small { AreSmall runs.now }
     requires coarsest { IsCoarsest runs.now }
-    ensures map { IfOk result (λ o. IfSome o (λ r. HasRows r.runs (map_loan (layout_of layout.now) number state (map_of runs.now)))) }
+    ensures map { IfOk result
+        (λ o. IfSome o
+        (λ r. HasRows r.runs
+        (map_loan (layout_of layout.now) number state (map_of runs.now)))) }
     ensures reach { IfOk result (λ o. IfSome o (λ r. AreInReach HasPageBelow r.runs)) }
-    ensures rises { IfOk result (λ o. is_some o ≡ is_some (last_above (pages_below (layout_of layout.now).depth) state 0 runs.now)) }
+    ensures rises { IfOk result
+        (λ o. is_some o
+        ≡ is_some (last_above (pages_below (layout_of layout.now).depth) state 0 runs.now)) }
 {
     let mut rows = Vec::with_capacity(alloc, runs.len())?;
     let mut high = 0;
@@ -227,7 +243,9 @@ fn lend_runs(
     requires small { AreSmall runs.now }
     requires coarsest { IsCoarsest runs.now }
     requires reach { AreInReach HasPageBelow rows.old.runs }
-    ensures map { OnOk result (IsLaidOver rows.old.runs rows.new.runs (map_loan (layout_of layout.now) number state (map_of runs.now))) }
+    ensures map { OnOk result
+        (IsLaidOver rows.old.runs rows.new.runs
+        (map_loan (layout_of layout.now) number state (map_of runs.now))) }
     ensures reach { AreInReach HasPageBelow rows.new.runs }
 {
     match rising_loans(alloc, layout, number, runs, state)? {
@@ -268,7 +286,9 @@ fn lend_tree(
 ) -> Result<(), AllocError>
     requires kept { IsKeptTree tree.now }
     requires reach { AreInReach HasPageBelow rows.old.runs }
-    ensures map { OnOk result (IsLaidOver rows.old.runs rows.new.runs (map_loan (layout_of layout.now) number state (tree_in_lists tree.now).map)) }
+    ensures map { OnOk result
+        (IsLaidOver rows.old.runs rows.new.runs
+        (map_loan (layout_of layout.now) number state (tree_in_lists tree.now).map)) }
     ensures reach { AreInReach HasPageBelow rows.new.runs }
 {
     let runs = tree.runs.as_slice();
@@ -317,7 +337,10 @@ pub(crate) fn all_loans(
     requires hyp { IsKeptTree hyp.now }
     requires count { length guests.now ≤ 64 }
     requires guests { HaveKeptTrees guests.now }
-    ensures map { IfOk result (λ r. HasRows r.runs (any_loan (layout_of layout.now) (tree_in_lists host.now).map (tree_in_lists hyp.now).map guests.now)) }
+    ensures map { IfOk result
+        (λ r. HasRows r.runs
+        (any_loan (layout_of layout.now) (tree_in_lists host.now).map
+        (tree_in_lists hyp.now).map guests.now)) }
     ensures reach { IfOk result (λ r. AreInReach HasPageBelow r.runs) }
 {
     let borrowed = State::SharedBorrowed;

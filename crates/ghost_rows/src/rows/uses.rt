@@ -95,7 +95,9 @@ fn has_place(layout: &Layout, block: Block) -> bool
 
 /// The frame of a table that counts: the first of its block, where trees have one.
 fn frame_at(layout: &Layout, tables: &[Table], block: Block) -> Option<u64>
-    ensures { result ≡ (if has_place_of (layout_of layout.now).depth block then table_of tables.now block else None) }
+    ensures { result
+        ≡ (if has_place_of (layout_of layout.now).depth block then table_of tables.now block
+        else None) }
 {
     if has_place(layout, block) {
         table_at(tables, block)
@@ -106,7 +108,9 @@ fn frame_at(layout: &Layout, tables: &[Table], block: Block) -> Option<u64>
 
 /// Puts a frame, where there is one, at the end of a list.
 fn push_found(frames: &mut Vec<u64>, frame: Option<u64>) -> Result<(), AllocError>
-    ensures { OnOk result ((f : ℕ) → is_free frames.new.items f ≡ (is_free frames.old.items f || is_frame f frame)) }
+    ensures { OnOk result
+        ((f : ℕ)
+        → is_free frames.new.items f ≡ (is_free frames.old.items f || is_frame f frame)) }
 {
     if let Some(frame) = frame {
         frames.push(frame)?;
@@ -116,7 +120,11 @@ fn push_found(frames: &mut Vec<u64>, frame: Option<u64>) -> Result<(), AllocErro
 
 /// Adds the frames of the tables that count to a list.
 fn add_tables(frames: &mut Vec<u64>, layout: &Layout, tables: &[Table]) -> Result<(), AllocError>
-    ensures { OnOk result ((f : ℕ) → is_free frames.new.items f ≡ (is_free frames.old.items f || any_table_with (layout_of layout.now).depth tables.now f)) }
+    ensures { OnOk result
+        ((f : ℕ)
+        → is_free frames.new.items f
+        ≡ (is_free frames.old.items f
+        || any_table_with (layout_of layout.now).depth tables.now f)) }
 {
     for table in tables {
         push_found(frames, frame_at(layout, tables, table.block))?;
@@ -146,7 +154,9 @@ fn use_tables(
     usage: Usage,
 ) -> Result<(), AllocError>
     requires reach { AreInReach HasPageBelow rows.old.runs }
-    ensures map { OnOk result (AreUsed rows.old.runs rows.new.runs (any_table_with (layout_of layout.now).depth tables.now) usage) }
+    ensures map { OnOk result
+        (AreUsed rows.old.runs rows.new.runs
+        (any_table_with (layout_of layout.now).depth tables.now) usage) }
     ensures reach { AreInReach HasPageBelow rows.new.runs }
 {
     if tables.is_empty() {
@@ -168,7 +178,9 @@ fn use_tree(
     usage: Usage,
 ) -> Result<(), AllocError>
     requires reach { AreInReach HasPageBelow rows.old.runs }
-    ensures map { OnOk result (AreUsed rows.old.runs rows.new.runs (is_table_frame (layout_of layout.now) (tree_in_lists tree.now)) usage) }
+    ensures map { OnOk result
+        (AreUsed rows.old.runs rows.new.runs
+        (is_table_frame (layout_of layout.now) (tree_in_lists tree.now)) usage) }
     ensures reach { AreInReach HasPageBelow rows.new.runs }
 {
     use_tables(alloc, layout, rows, tree.tables.as_slice(), usage)?;
@@ -186,7 +198,9 @@ fn use_pool(
     usage: Usage,
 ) -> Result<(), AllocError>
     requires reach { AreInReach HasPageBelow rows.old.runs }
-    ensures map { OnOk result (AreUsed rows.old.runs rows.new.runs (is_pool_frame (layout_of layout.now) free.now (tree_in_lists tree.now)) usage) }
+    ensures map { OnOk result
+        (AreUsed rows.old.runs rows.new.runs
+        (is_pool_frame (layout_of layout.now) free.now (tree_in_lists tree.now)) usage) }
     ensures reach { AreInReach HasPageBelow rows.new.runs }
 {
     use_tree(alloc, layout, rows, tree, usage)?;
@@ -229,7 +243,9 @@ fn use_pools(
     guests: &[GhostGuest],
 ) -> Result<(), AllocError>
     requires reach { AreInReach HasPageBelow rows.old.runs }
-    ensures map { OnOk result (IsLaidOverLow rows.old.runs rows.new.runs (guests_use (layout_of layout.now) guests.now)) }
+    ensures map { OnOk result
+        (IsLaidOverLow rows.old.runs rows.new.runs
+        (guests_use (layout_of layout.now) guests.now)) }
     ensures reach { AreInReach HasPageBelow rows.new.runs }
 {
     for v in (0..guests.len()).rev() {
@@ -254,7 +270,10 @@ fn use_shared(
     shared: &Shared,
 ) -> Result<(), AllocError>
     requires reach { AreInReach HasPageBelow rows.old.runs }
-    ensures map { OnOk result (AreUsed rows.old.runs rows.new.runs (is_shared_frame (layout_of layout.now) (shared_in_lists shared.now)) Usage.SharedPool) }
+    ensures map { OnOk result
+        (AreUsed rows.old.runs rows.new.runs
+        (is_shared_frame (layout_of layout.now)
+        (shared_in_lists shared.now)) Usage.SharedPool) }
     ensures reach { AreInReach HasPageBelow rows.new.runs }
 {
     let mut frames = Vec::new(alloc);
@@ -273,7 +292,9 @@ pub(crate) fn all_uses(
     guests: &[GhostGuest],
     cpus: &[GhostCpu],
 ) -> Result<RunList<Row>, AllocError>
-    ensures map { IfOk result (λ r. HasLowRows r.runs (any_use (layout_of layout.now) (shared_in_lists shared.now) guests.now cpus.now)) }
+    ensures map { IfOk result
+        (λ r. HasLowRows r.runs
+        (any_use (layout_of layout.now) (shared_in_lists shared.now) guests.now cpus.now)) }
     ensures reach { IfOk result (λ r. AreInReach HasPageBelow r.runs) }
 {
     let mut rows = hands(alloc, cpus)?;

@@ -33,7 +33,8 @@ IsMet side g p = (t : ℕ) × (t < 66) × Any (λ r. IsMetBy side g t r p) (runs
 
 -- each frame has one entry that counts at most
 abbrev pub IsHeldOnce : Side → Contents → Type 0
-IsHeldOnce side s = (f a page b other : ℕ) → Has side s a page f → Has side s b other f → (b ≡ a) × (other ≡ page)
+IsHeldOnce side s =
+    (f a page b other : ℕ) → Has side s a page f → Has side s b other f → (b ≡ a) × (other ≡ page)
 
 -- two entries of the frame count
 pub record IsTwice (side : Side) (s : Contents) (p : Pair) : Type 0 where

@@ -44,47 +44,75 @@ use Rattle.reference_model.proofs.conditions.Tests.{Passed, passed}
 
 -- a rule that changes the host's map alone
 abbrev pub host_rule : Test → Test → Option MapChange → Value → Rule
-host_rule valid allowed e value = record fine { valid = valid; allowed = allowed; changes = record no_changes { host = e; value = value } }
+host_rule valid allowed e value =
+    record fine { valid = valid; allowed = allowed; changes = record no_changes { host = e; value = value } }
 
 none-within : (q : ℕ) → is_within 0 0 q ≡ false
 none-within q = grind (arith, nat_tests)
 
-module _ (l : Layout) (s : Contents) (legal : Legal l s) (usable : IsUsable l) (cpu : ℕ) (valid allowed : Test) (value : Value) where
+module _ (l : Layout) (s : Contents) (legal : Legal l s) (usable : IsUsable l) (cpu : ℕ) (valid allowed : Test)
+    (value : Value) where
   -- what a step with this edit leaves is legal
   abbrev IsKept : Step → Option MapChange → Type 0
-  IsKept step e = Passed l.depth (host_rule valid allowed e value) false (x_of cpu s) → StepKept l s legal.condition shared None cpu step (host_rule valid allowed e value).changes
+  IsKept step e =
+      Passed l.depth (host_rule valid allowed e value) false (x_of cpu s)
+      → StepKept l s legal.condition shared None cpu step (host_rule valid allowed e value).changes
 
   -- frames of one condition keep it, where the host's map changes or stays
-  same-keeps : (step : Step) → names step ≡ shared → (e : Option MapChange) (first n : ℕ) (c : Condition) → is_calm c ≡ true → in_shared c ≡ false → ((d : ℕ) → in_hand d c ≡ false) → IsGood l c → IsInRange l.depth (edit_of e) → ((q : ℕ) → is_touched (host_rule valid allowed e value).changes q ≡ is_within first n q)
-      → ((q : ℕ) → is_within first n q ≡ true → legal.condition q ≡ c) → ((q : ℕ) → HostFits q (moved_to (always c) first n legal.condition q) (edited_map s.shared.host.map (edit_of e) q))
-      → ((q : ℕ) → is_within first n q ≡ true → row_in q c ≡ told_row cpu None (host_rule valid allowed e value).changes q) → ((q : ℕ) → is_within first n q ≡ true → is_memory l q ≡ true → c ≡ told_condition cpu None (host_rule valid allowed e value).changes q) → IsKept step e
+  same-keeps : (step : Step)
+      → names step ≡ shared
+      → (e : Option MapChange) (first n : ℕ) (c : Condition)
+      → is_calm c ≡ true
+      → in_shared c ≡ false
+      → ((d : ℕ) → in_hand d c ≡ false)
+      → IsGood l c
+      → IsInRange l.depth (edit_of e)
+      → ((q : ℕ) → is_touched (host_rule valid allowed e value).changes q ≡ is_within first n q)
+      → ((q : ℕ) → is_within first n q ≡ true → legal.condition q ≡ c)
+      → ((q : ℕ)
+      → HostFits q (moved_to (always c) first n legal.condition q) (edited_map s.shared.host.map (edit_of e) q))
+      → ((q : ℕ)
+      → is_within first n q ≡ true
+      → row_in q c ≡ told_row cpu None (host_rule valid allowed e value).changes q)
+      → ((q : ℕ)
+      → is_within first n q ≡ true
+      → is_memory l q ≡ true
+      → c ≡ told_condition cpu None (host_rule valid allowed e value).changes q)
+      → IsKept step e
   unfolding used_of
-  same-keeps step named e first n c calm unused hand good range touched was fits told goes p = shared-keeps l s legal usable cpu step named (host_rule valid allowed e value).changes first n c (record {
-    frames = record {
-      inside = λ q w. sym (legal.of_layout.inside q) ∙ ap is_inside (was q w);
-      alike = λ q k w z. refl;
-      good = λ q w. good;
-      same_use = λ q w. ap in_shared (was q w);
-      host = fits;
-      hyp = λ q. legal.maps.hyp q ∙ moved-fact (hyp_says q) (always c) first n legal.condition q (λ w. ap (hyp_says q) (was q w));
-      hyp_below = legal.maps.hyp_below;
-      touched = touched;
-      told = told;
-      goes = goes;
-      host_range = range;
-      hyp_range = tt;
-      hand = hands-stay legal cpu same_cpu (always c) first n refl (λ d q w. ap (in_hand d) (was q w));
-      own_hand = λ d q w h. let z : true ≡ false = sym h ∙ hand d in cc;
-    };
-    calm = record { calm = calm; was_calm = λ q w. ap is_calm (was q w) ∙ calm };
-    loaded = refl;
-    ticket = refl;
-    some_hand = legal.slots.some_hand cpu;
-  }) p.shared_enough
+  same-keeps step named e first n c calm unused hand good range touched was fits told goes p =
+      shared-keeps l s legal usable cpu step named (host_rule valid allowed e value).changes first n c (record {
+        frames = record {
+          inside = λ q w. sym (legal.of_layout.inside q) ∙ ap is_inside (was q w);
+          alike = λ q k w z. refl;
+          good = λ q w. good;
+          same_use = λ q w. ap in_shared (was q w);
+          host = fits;
+          hyp =
+              λ q. legal.maps.hyp q
+              ∙ moved-fact (hyp_says q) (always c) first n legal.condition q (λ w. ap (hyp_says q) (was q w));
+          hyp_below = legal.maps.hyp_below;
+          touched = touched;
+          told = told;
+          goes = goes;
+          host_range = range;
+          hyp_range = tt;
+          hand = hands-stay legal cpu same_cpu (always c) first n refl (λ d q w. ap (in_hand d) (was q w));
+          own_hand = λ d q w h. let z : true ≡ false = sym h ∙ hand d in cc;
+        };
+        calm = record { calm = calm; was_calm = λ q w. ap is_calm (was q w) ∙ calm };
+        loaded = refl;
+        ticket = refl;
+        some_hand = legal.slots.some_hand cpu;
+      }) p.shared_enough
 
   still-keeps : (step : Step) → names step ≡ shared → IsKept step None
-  still-keeps step named = same-keeps step named None 0 0 hosts refl refl (λ d. refl) tt tt (λ q. sym (none-within q)) (λ q w. absurd (off q w))
-      (λ q. subst (λ c. HostFits q c (s.shared.host.map q)) (sym (moved-out (always hosts) 0 0 legal.condition q (none-within q))) (legal.maps.host q)) (λ q w. absurd (off q w)) (λ q w m. absurd (off q w))
+  still-keeps step named =
+      same-keeps step named None 0 0 hosts refl refl (λ d. refl) tt tt (λ q. sym (none-within q))
+      (λ q w. absurd (off q w))
+      (λ q. subst (λ c. HostFits q c (s.shared.host.map q))
+      (sym (moved-out (always hosts) 0 0 legal.condition q (none-within q))) (legal.maps.host q))
+      (λ q w. absurd (off q w)) (λ q w m. absurd (off q w))
     where
       off : (q : ℕ) → is_within 0 0 q ≡ true → ⊥
       off q w = let z : true ≡ false = sym w ∙ none-within q in cc
@@ -93,31 +121,62 @@ module _ (l : Layout) (s : Contents) (legal : Legal l s) (usable : IsUsable l) (
   unmapped-hosts q m h = free-is legal q m (ap is_free_page h)
 
   -- a block of unmapped pages of a memory region
-  block-keeps : (page first n : ℕ) (r : Region) → 1 ≤ n → is_memory_kind r.kind ≡ true → ((q : ℕ) → is_within first n q ≡ true → (region_of l.memory q ≡ Some r) × (s.shared.host.map q ≡ Unmapped)) → IsKept (HostAbort page) (change first n (leaf RWX first Owned))
+  block-keeps : (page first n : ℕ) (r : Region)
+      → 1 ≤ n
+      → is_memory_kind r.kind ≡ true
+      → ((q : ℕ) → is_within first n q ≡ true → (region_of l.memory q ≡ Some r) × (s.shared.host.map q ≡ Unmapped))
+      → IsKept (HostAbort page) (change first n (leaf RWX first Owned))
   block-keeps page first n r some kind each =
-      let mem : (q : ℕ) → is_within first n q ≡ true → is_memory l q ≡ true = λ q w. ap is_memory_region (each q w).0 ∙ kind in
+      let mem : (q : ℕ) → is_within first n q ≡ true → is_memory l q ≡ true =
+      λ q w. ap is_memory_region (each q w).0 ∙ kind in
       let low = range-in l usable first n some mem in
-      same-keeps (HostAbort page) refl (change first n (leaf RWX first Owned)) first n hosts refl refl (λ d. refl) tt (let e : first + n ≤ pages_below l.depth = omega arith in e) (λ q. refl)
-      (λ q w. unmapped-hosts q (mem q w) (each q w).1) (host-moved s.shared.host.map first n (leaf RWX first Owned) (always hosts) legal.condition (λ q w. inr (advance-leaf RWX first n q Owned w)) legal.maps.host) (λ q w. refl) (λ q w m. refl)
+      same-keeps (HostAbort page) refl (change first n (leaf RWX first Owned)) first n hosts refl refl (λ d. refl) tt
+      (let e : first + n ≤ pages_below l.depth = omega arith in e) (λ q. refl)
+      (λ q w. unmapped-hosts q (mem q w) (each q w).1)
+      (host-moved s.shared.host.map first n (leaf RWX first Owned) (always hosts) legal.condition
+      (λ q w. inr (advance-leaf RWX first n q Owned w)) legal.maps.host)
+      (λ q w. refl) (λ q w m. refl)
 
   -- a block of unmapped pages of a device region
-  device-keeps : (page first n : ℕ) (r : Region) → 1 ≤ n → is_memory_kind r.kind ≡ false → ((q : ℕ) → is_within first n q ≡ true → (region_of l.memory q ≡ Some r) × (s.shared.host.map q ≡ Unmapped)) → IsKept (HostAbort page) (change first n (device_leaf first))
+  device-keeps : (page first n : ℕ) (r : Region)
+      → 1 ≤ n
+      → is_memory_kind r.kind ≡ false
+      → ((q : ℕ) → is_within first n q ≡ true → (region_of l.memory q ≡ Some r) × (s.shared.host.map q ≡ Unmapped))
+      → IsKept (HostAbort page) (change first n (device_leaf first))
   device-keeps page first n r some kind each =
-      let not-memory : (q : ℕ) → is_within first n q ≡ true → is_memory l q ≡ false = λ q w. ap is_memory_region (each q w).0 ∙ kind in
-      let last : first + n - 1 < pages_below l.depth = usable.below (first + n - 1) r (each (first + n - 1) (within-made first n (first + n - 1) (omega arith) (omega arith))).0 in
-      let was : (q : ℕ) → is_within first n q ≡ true → legal.condition q ≡ outside = λ q w. outside-is (legal.condition q) (legal.of_layout.inside q ∙ not-memory q w) in
-      same-keeps (HostAbort page) refl (change first n (device_leaf first)) first n outside refl refl (λ d. refl) tt (let e : first + n ≤ pages_below l.depth = omega arith in e) (λ q. refl)
-      was (host-moved s.shared.host.map first n (device_leaf first) (always outside) legal.condition (λ q w. inr (device-advance first n q w)) legal.maps.host) (λ q w. refl)
+      let not-memory : (q : ℕ) → is_within first n q ≡ true → is_memory l q ≡ false =
+      λ q w. ap is_memory_region (each q w).0 ∙ kind in
+      let last : first + n - 1 < pages_below l.depth =
+      usable.below (first + n - 1) r
+      (each (first + n - 1) (within-made first n (first + n - 1) (omega arith) (omega arith))).0 in
+      let was : (q : ℕ) → is_within first n q ≡ true → legal.condition q ≡ outside =
+      λ q w. outside-is (legal.condition q) (legal.of_layout.inside q ∙ not-memory q w) in
+      same-keeps (HostAbort page) refl (change first n (device_leaf first)) first n outside refl refl (λ d. refl) tt
+      (let e : first + n ≤ pages_below l.depth = omega arith in e) (λ q. refl)
+      was (host-moved s.shared.host.map first n (device_leaf first) (always outside) legal.condition
+      (λ q w. inr (device-advance first n q w)) legal.maps.host)
+      (λ q w. refl)
       (λ q w m. let bad : true ≡ false = sym m ∙ not-memory q w in cc)
     where
-      device-advance : (first n q : ℕ) → is_within first n q ≡ true → advance (device_leaf first) (q - first) ≡ device_leaf q
-      device-advance first n q w = let at = within-is first n q w in let low : first ≤ q = at.0 in let e : first + (q - first) ≡ q = omega arith in ap device_leaf e
+      device-advance : (first n q : ℕ)
+          → is_within first n q ≡ true
+          → advance (device_leaf first) (q - first) ≡ device_leaf q
+      device-advance first n q w = let at = within-is first n q w in
+          let low : first ≤ q = at.0 in
+          let e : first + (q - first) ≡ q = omega arith in
+          ap device_leaf e
 
 -- the block of a depth, where it may be mapped
-may-map : (m : Map) (r : Region) (d page : ℕ) → may_map m r d page ≡ true → ((q : ℕ) → is_within (first_page (block_at d page)) (span (block_at d page)) q ≡ true → (is_in_range r.pages q ≡ true) × (m q ≡ Unmapped))
+may-map : (m : Map) (r : Region) (d page : ℕ)
+    → may_map m r d page ≡ true
+    → ((q : ℕ)
+    → is_within (first_page (block_at d page)) (span (block_at d page)) q ≡ true
+    → (is_in_range r.pages q ≡ true) × (m q ≡ Unmapped))
 may-map m r d page h =
     let b = block_at d page in
-    let t = three (nat_le r.pages.first.0 (first_page b)) (nat_le (first_page b + span b) (end_of r.pages)) (is_empty m b) h in
+    let t =
+    three (nat_le r.pages.first.0 (first_page b)) (nat_le (first_page b + span b) (end_of r.pages))
+    (is_empty m b) h in
     λ q w. (in-region r.pages.first.0 r.pages.count (first_page b) (span b) q t.0 t.1 w, unmapped b t.2 q w)
   where
     three : (a b c : Bool) → (a && b && c) ≡ true → (a ≡ true) × (b ≡ true) × (c ≡ true)
@@ -125,7 +184,11 @@ may-map m r d page h =
     three true false c h = cc
     three false b c h = cc
 
-    in-region : (first count f n q : ℕ) → nat_le first f ≡ true → nat_le (f + n) (first + count) ≡ true → is_within f n q ≡ true → is_within first count q ≡ true
+    in-region : (first count f n q : ℕ)
+        → nat_le first f ≡ true
+        → nat_le (f + n) (first + count) ≡ true
+        → is_within f n q ≡ true
+        → is_within first count q ≡ true
     in-region first count f n q a b w = grind (arith, nat_tests)
 
     unmapped : (b : Block) → is_empty m b ≡ true → (q : ℕ) → is_within (first_page b) (span b) q ≡ true → m q ≡ Unmapped
@@ -150,41 +213,74 @@ unmapped-is : (e : Entry) → is_unmapped e ≡ true → e ≡ Unmapped
 unmapped-is Unmapped h = refl
 unmapped-is e h = cc
 
--- what holds where nothing changes, and of each block of unmapped pages of a region of memory or of a device, holds of what host_abort changes
+-- what holds where nothing changes, and of each block of unmapped pages of a region of memory or of a device, holds of
+-- what host_abort changes
 module _ (l : Layout) (usable : IsUsable l) (m : Map) (page : ℕ) (P : Option MapChange → Type 0) (still : P None)
-    (block : (first n : ℕ) (r : Region) → 1 ≤ n → is_memory_kind r.kind ≡ true → ((q : ℕ) → is_within first n q ≡ true → (region_of l.memory q ≡ Some r) × (m q ≡ Unmapped)) → P (change first n (leaf RWX first Owned)))
-    (device : (first n : ℕ) (r : Region) → 1 ≤ n → is_memory_kind r.kind ≡ false → ((q : ℕ) → is_within first n q ≡ true → (region_of l.memory q ≡ Some r) × (m q ≡ Unmapped)) → P (change first n (device_leaf first))) where
+    (block : (first n : ℕ) (r : Region)
+    → 1 ≤ n
+    → is_memory_kind r.kind ≡ true
+    → ((q : ℕ) → is_within first n q ≡ true → (region_of l.memory q ≡ Some r) × (m q ≡ Unmapped))
+    → P (change first n (leaf RWX first Owned)))
+    (device : (first n : ℕ) (r : Region)
+    → 1 ≤ n
+    → is_memory_kind r.kind ≡ false
+    → ((q : ℕ) → is_within first n q ≡ true → (region_of l.memory q ≡ Some r) × (m q ≡ Unmapped))
+    → P (change first n (device_leaf first))) where
   -- a block of the region, by its kind
-  any : (first n : ℕ) (r : Region) → 1 ≤ n → ((q : ℕ) → is_within first n q ≡ true → (region_of l.memory q ≡ Some r) × (m q ≡ Unmapped)) → P (change first n (abort_leaf r first))
+  any : (first n : ℕ) (r : Region)
+      → 1 ≤ n
+      → ((q : ℕ) → is_within first n q ≡ true → (region_of l.memory q ≡ Some r) × (m q ≡ Unmapped))
+      → P (change first n (abort_leaf r first))
   any first n r some each = elim (both (is_memory_kind r.kind)) [
     | inl h ↦ subst (λ e. P (change first n e)) (sym (abort-memory r first h)) (block first n r some h each)
     | inr h ↦ subst (λ e. P (change first n e)) (sym (abort-device r first h)) (device first n r some h each)
   ]
 
   -- a block of a depth at which it may be mapped, and the page alone
-  deep : (r : Region) (d : ℕ) → region_of l.memory page ≡ Some r → may_map m r d page ≡ true → P (change (first_page (block_at d page)) (span (block_at d page)) (abort_leaf r (first_page (block_at d page))))
+  deep : (r : Region) (d : ℕ)
+      → region_of l.memory page ≡ Some r
+      → may_map m r d page ≡ true
+      → P (change (first_page (block_at d page)) (span (block_at d page)) (abort_leaf r (first_page (block_at d page))))
   deep r d at may =
       let t = may-map m r d page may in
-      any (first_page (block_at d page)) (span (block_at d page)) r (size_some d) (λ q w. (usable.regions page q r at (t q w).0, (t q w).1))
+      any (first_page (block_at d page)) (span (block_at d page)) r (size_some d)
+      (λ q w. (usable.regions page q r at (t q w).0, (t q w).1))
 
-  flat : (r : Region) → region_of l.memory page ≡ Some r → m page ≡ Unmapped → P (change (first_page (block_at 0 page)) (span (block_at 0 page)) (abort_leaf r (first_page (block_at 0 page))))
-  flat r at bare = subst (λ n. P (change n 1 (abort_leaf r n))) (sym (page-first page)) (any page 1 r (omega arith) (λ q w. (ap (region_of l.memory) (sym (one-within page q w)) ∙ at, ap m (sym (one-within page q w)) ∙ bare)))
+  flat : (r : Region)
+      → region_of l.memory page ≡ Some r
+      → m page ≡ Unmapped
+      → P (change (first_page (block_at 0 page)) (span (block_at 0 page)) (abort_leaf r (first_page (block_at 0 page))))
+  flat r at bare =
+      subst (λ n. P (change n 1 (abort_leaf r n))) (sym (page-first page))
+      (any page 1 r (omega arith)
+      (λ q w.
+      (ap (region_of l.memory) (sym (one-within page q w)) ∙ at, ap m (sym (one-within page q w)) ∙ bare)))
 
   abbrev block_edit : Region → ℕ → Option MapChange
-  block_edit r d = change (first_page (block_at d page)) (span (block_at d page)) (abort_leaf r (first_page (block_at d page)))
+  block_edit r d =
+      change (first_page (block_at d page)) (span (block_at d page)) (abort_leaf r (first_page (block_at d page)))
 
-  by-depth : (r : Region) → region_of l.memory page ≡ Some r → m page ≡ Unmapped → P (block_edit r (abort_depth m r page))
+  by-depth : (r : Region)
+      → region_of l.memory page ≡ Some r
+      → m page ≡ Unmapped
+      → P (block_edit r (abort_depth m r page))
   by-depth r at bare = elim (both (may_map m r 2 page)) [
-    | inl h ↦ subst (λ d. P (block_edit r d)) (sym (if-true (may_map m r 2 page) 2 (if may_map m r 1 page then 1 else 0) h)) (deep r 2 at h)
-    | inr h ↦ subst (λ d. P (block_edit r d)) (sym (if-false (may_map m r 2 page) 2 (if may_map m r 1 page then 1 else 0) h)) (elim (both (may_map m r 1 page)) [
-      | inl k ↦ subst (λ d. P (block_edit r d)) (sym (if-true (may_map m r 1 page) 1 0 k)) (deep r 1 at k)
-      | inr k ↦ subst (λ d. P (block_edit r d)) (sym (if-false (may_map m r 1 page) 1 0 k)) (flat r at bare)
-    ])
+    | inl h ↦ subst (λ d. P (block_edit r d))
+        (sym (if-true (may_map m r 2 page) 2 (if may_map m r 1 page then 1 else 0) h)) (deep r 2 at h)
+    | inr h ↦ subst (λ d. P (block_edit r d))
+        (sym (if-false (may_map m r 2 page) 2 (if may_map m r 1 page then 1 else 0) h))
+        (elim (both (may_map m r 1 page)) [
+          | inl k ↦ subst (λ d. P (block_edit r d)) (sym (if-true (may_map m r 1 page) 1 0 k)) (deep r 1 at k)
+          | inr k ↦ subst (λ d. P (block_edit r d)) (sym (if-false (may_map m r 1 page) 1 0 k)) (flat r at bare)
+        ])
   ]
 
-  by-page : (r : Region) → region_of l.memory page ≡ Some r → P (if is_unmapped (m page) then block_edit r (abort_depth m r page) else None)
+  by-page : (r : Region)
+      → region_of l.memory page ≡ Some r
+      → P (if is_unmapped (m page) then block_edit r (abort_depth m r page) else None)
   by-page r at = elim (both (is_unmapped (m page))) [
-    | inl h ↦ subst P (sym (if-true (is_unmapped (m page)) (block_edit r (abort_depth m r page)) None h)) (by-depth r at (unmapped-is (m page) h))
+    | inl h ↦ subst P (sym (if-true (is_unmapped (m page)) (block_edit r (abort_depth m r page)) None h))
+        (by-depth r at (unmapped-is (m page) h))
     | inr h ↦ subst P (sym (if-false (is_unmapped (m page)) (block_edit r (abort_depth m r page)) None h)) still
   ]
 
@@ -197,19 +293,35 @@ module _ (l : Layout) (s : Contents) (legal : Legal l s) (usable : IsUsable l) (
   abbrev After : Step → Rule → Type 0
   After step r = StepKept l s legal.condition shared None cpu step r.changes
 
-  pub host_abort-keeps : refusal l.depth (host_abort page (reads l cpu None (x_of cpu s))) false (x_of cpu s) ≡ None → After (HostAbort page) (host_abort page (reads l cpu None (x_of cpu s)))
+  pub host_abort-keeps : refusal l.depth (host_abort page (reads l cpu None (x_of cpu s))) false (x_of cpu s) ≡ None
+      → After (HostAbort page) (host_abort page (reads l cpu None (x_of cpu s)))
   unfolding used_of
   host_abort-keeps h =
       let m = s.shared.host.map in
       let r = host_abort page (reads l cpu None (x_of cpu s)) in
-      abort-edit l usable m page (IsKept l s legal usable cpu r.valid r.allowed Nothing (HostAbort page)) (still-keeps l s legal usable cpu r.valid r.allowed Nothing (HostAbort page) refl) (block-keeps l s legal usable cpu r.valid r.allowed Nothing page) (device-keeps l s legal usable cpu r.valid r.allowed Nothing page)
-      (region_of l.memory page) refl (passed l.depth (host_abort page (reads l cpu None (x_of cpu s))) false (x_of cpu s) h)
+      abort-edit l usable m page (IsKept l s legal usable cpu r.valid r.allowed Nothing (HostAbort page))
+      (still-keeps l s legal usable cpu r.valid r.allowed Nothing (HostAbort page) refl)
+      (block-keeps l s legal usable cpu r.valid r.allowed Nothing page)
+      (device-keeps l s legal usable cpu r.valid r.allowed Nothing page)
+      (region_of l.memory page) refl
+      (passed l.depth (host_abort page (reads l cpu None (x_of cpu s))) false (x_of cpu s) h)
 
-  pub host_translate-keeps : refusal l.depth (host_translate page (reads l cpu None (x_of cpu s))) false (x_of cpu s) ≡ None → After (HostTranslate page) (host_translate page (reads l cpu None (x_of cpu s)))
-  host_translate-keeps h = still-keeps l s legal usable cpu _ _ _ (HostTranslate page) refl (passed l.depth (host_translate page (reads l cpu None (x_of cpu s))) false (x_of cpu s) h)
+  pub host_translate-keeps : refusal l.depth (host_translate page (reads l cpu None (x_of cpu s))) false (x_of cpu s)
+      ≡ None
+      → After (HostTranslate page) (host_translate page (reads l cpu None (x_of cpu s)))
+  host_translate-keeps h =
+      still-keeps l s legal usable cpu _ _ _ (HostTranslate page) refl
+      (passed l.depth (host_translate page (reads l cpu None (x_of cpu s))) false (x_of cpu s) h)
 
-  pub hyp_translate-keeps : refusal l.depth (hyp_translate page (reads l cpu None (x_of cpu s))) false (x_of cpu s) ≡ None → After (HypTranslate page) (hyp_translate page (reads l cpu None (x_of cpu s)))
-  hyp_translate-keeps h = still-keeps l s legal usable cpu _ _ _ (HypTranslate page) refl (passed l.depth (hyp_translate page (reads l cpu None (x_of cpu s))) false (x_of cpu s) h)
+  pub hyp_translate-keeps : refusal l.depth (hyp_translate page (reads l cpu None (x_of cpu s))) false (x_of cpu s)
+      ≡ None
+      → After (HypTranslate page) (hyp_translate page (reads l cpu None (x_of cpu s)))
+  hyp_translate-keeps h =
+      still-keeps l s legal usable cpu _ _ _ (HypTranslate page) refl
+      (passed l.depth (hyp_translate page (reads l cpu None (x_of cpu s))) false (x_of cpu s) h)
 
-  pub owner_of-keeps : refusal l.depth (owner_of page (reads l cpu None (x_of cpu s))) false (x_of cpu s) ≡ None → After (OwnerOf page) (owner_of page (reads l cpu None (x_of cpu s)))
-  owner_of-keeps h = still-keeps l s legal usable cpu _ _ _ (OwnerOf page) refl (passed l.depth (owner_of page (reads l cpu None (x_of cpu s))) false (x_of cpu s) h)
+  pub owner_of-keeps : refusal l.depth (owner_of page (reads l cpu None (x_of cpu s))) false (x_of cpu s) ≡ None
+      → After (OwnerOf page) (owner_of page (reads l cpu None (x_of cpu s)))
+  owner_of-keeps h =
+      still-keeps l s legal usable cpu _ _ _ (OwnerOf page) refl
+      (passed l.depth (owner_of page (reads l cpu None (x_of cpu s))) false (x_of cpu s) h)

@@ -62,28 +62,43 @@ canonical_once l s somehow = record {
     once t told = coarsest_is_canonical l.depth t (coarsest_once l.depth t (∥∥₁_map somehow told))
 
 -- the need of a change that fits
-need_same : (depth : ℕ) (t : Tree) (c : Option MapChange) → IsCoarsest depth t → FitsWhere depth c → need depth t (edit_of c) ≡ map_need depth t.map (edit_of c)
+need_same : (depth : ℕ) (t : Tree) (c : Option MapChange)
+    → IsCoarsest depth t
+    → FitsWhere depth c
+    → need depth t (edit_of c) ≡ map_need depth t.map (edit_of c)
 need_same depth t None k fits = need_of_maps depth t keep tt k
 need_same depth t (Some c) k fits = need_of_maps depth t (put c.range.first.0 c.range.count c.entry) fits.within k
 
 -- of parts whose trees are coarsest
-short_same : (depth : ℕ) (h : Changes) (x : Used) → AllFit depth h → IsCoarsest depth x.shared.host → IsCoarsest depth x.shared.hyp → IsCoarsest depth x.guest.tree → is_short depth h x ≡ is_short_by_maps depth h x
+short_same : (depth : ℕ) (h : Changes) (x : Used)
+    → AllFit depth h
+    → IsCoarsest depth x.shared.host
+    → IsCoarsest depth x.shared.hyp
+    → IsCoarsest depth x.guest.tree
+    → is_short depth h x ≡ is_short_by_maps depth h x
 unfolding is_short
 short_same depth h x fits host hyp guest =
     same2 (λ (a b : Bool). a || b)
-    (ap (λ n. nat_lt (length x.shared.free) n) (same2 (λ (a b : ℕ). a + b) (need_same depth x.shared.host h.host host fits.host) (need_same depth x.shared.hyp h.hyp hyp fits.hyp)))
+    (ap (λ n. nat_lt (length x.shared.free) n)
+    (same2 (λ (a b : ℕ). a + b) (need_same depth x.shared.host h.host host fits.host)
+    (need_same depth x.shared.hyp h.hyp hyp fits.hyp)))
     (ap (λ n. nat_lt (length x.guest.free) n) (need_same depth x.guest.tree h.guest guest fits.guest))
 
 -- two tests of the pools that are the same where they are asked
-same_after : (o : Option Refusal) (a b : Bool) → (o ≡ None → a ≡ b) → or_else o (if a then Some NoPool else None) ≡ or_else o (if b then Some NoPool else None)
+same_after : (o : Option Refusal) (a b : Bool)
+    → (o ≡ None → a ≡ b)
+    → or_else o (if a then Some NoPool else None) ≡ or_else o (if b then Some NoPool else None)
 same_after (Some why) a b h = refl
 same_after None a b h = ap (λ (c : Bool). if c then Some NoPool else None) (h refl)
 
 decides_ok : (r : Rule) (lacks : Bool) → first_test r lacks ≡ None → decided r lacks ≡ Ok r.changes
-decides_ok r lacks h = ap (λ (o : Option Refusal). elim o as (λ _. Result Changes Refusal) [ Some why ↦ Err why | None ↦ Ok r.changes ]) h
+decides_ok r lacks h =
+    ap (λ (o : Option Refusal). elim o as (λ _. Result Changes Refusal) [ Some why ↦ Err why | None ↦ Ok r.changes ]) h
 
 module _ (l : Layout) (s : Contents) (legal : Legal l s) where
-  used_shared : (b : Bool) → IsCoarsest l.depth (if b then s.shared else no_shared).host × IsCoarsest l.depth (if b then s.shared else no_shared).hyp
+  used_shared : (b : Bool)
+      → IsCoarsest l.depth (if b then s.shared else no_shared).host
+      × IsCoarsest l.depth (if b then s.shared else no_shared).hyp
   used_shared true = (legal.trees.host, legal.trees.hyp)
   used_shared false = (none_is_coarsest l.depth, none_is_coarsest l.depth)
 
@@ -91,7 +106,12 @@ module _ (l : Layout) (s : Contents) (legal : Legal l s) where
   used_guest None = none_is_coarsest l.depth
   used_guest (Some v) = legal.trees.guest v
 
-  legal_fails : (cpu : ℕ) (slot : Option ℕ) (step : Step) → IsAcceptedLayout l → cpu < l.config.cpus → slot ≡ guest_slot (s.cpu cpu) step → fails l cpu slot step (used_of (names step) slot cpu s) ≡ fails_by_maps l cpu slot step (used_of (names step) slot cpu s)
+  legal_fails : (cpu : ℕ) (slot : Option ℕ) (step : Step)
+      → IsAcceptedLayout l
+      → cpu < l.config.cpus
+      → slot ≡ guest_slot (s.cpu cpu) step
+      → fails l cpu slot step (used_of (names step) slot cpu s)
+      ≡ fails_by_maps l cpu slot step (used_of (names step) slot cpu s)
   unfolding fails refusal used_of
   legal_fails cpu slot step accepted known named =
       let x = used_of (names step) slot cpu s in
@@ -104,4 +124,5 @@ module _ (l : Layout) (s : Contents) (legal : Legal l s) where
       short_same l.depth r.changes x fits shared.0 shared.1 (used_guest slot))
 
 pub run_fails_by_maps : RunFailsByMaps
-run_fails_by_maps l cs t cpu slot step ready run known named = legal_fails l t.contents (run_legal l cs t ready run) cpu slot step ready.accepted known named
+run_fails_by_maps l cs t cpu slot step ready run known named =
+    legal_fails l t.contents (run_legal l cs t ready run) cpu slot step ready.accepted known named

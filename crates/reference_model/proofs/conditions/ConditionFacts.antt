@@ -62,8 +62,12 @@ follows l s a b f = record {
   inside = a.of_layout.inside f ∙ sym (b.of_layout.inside f);
   hyp = sym (a.maps.hyp f) ∙ b.maps.hyp f;
   named = λ state v g h. guest_alone s b.condition b.maps f v g state (guest_has s a.condition a.maps f v g state h);
-  shared = one-same (shared_uses l.depth s.shared f) (in_shared (a.condition f)) (in_shared (b.condition f)) (a.held.shared f) (b.held.shared f);
-  vm = λ v. one-same (guest_uses l.depth (s.guest v) f) (in_vm v (a.condition f)) (in_vm v (b.condition f)) (a.held.vm v f) (b.held.vm v f);
+  shared =
+      one-same (shared_uses l.depth s.shared f) (in_shared (a.condition f)) (in_shared (b.condition f))
+      (a.held.shared f) (b.held.shared f);
+  vm =
+      λ v. one-same (guest_uses l.depth (s.guest v) f) (in_vm v (a.condition f)) (in_vm v (b.condition f))
+      (a.held.vm v f) (b.held.vm v f);
   hand = λ cpu h. sym (b.held.hand cpu f) ∙ a.held.hand cpu f ∙ h;
 }
 

@@ -29,19 +29,23 @@ given-count f g (h ∷ p) = elim (both (nat_lt g h)) [
       let a = count_next f h (given g p) in
       let b = count_next f h p in
       let c = given-count f g p in
-      ap (frame_count f) (if-false (nat_lt g h) (g ∷ (h ∷ p)) (h ∷ given g p) e) ∙ swap (frame_count f (h ∷ given g p)) (is_one h f) (frame_count f (given g p)) (frame_count f (h ∷ p)) (frame_count f p) (is_one g f) a b c
+      ap (frame_count f) (if-false (nat_lt g h) (g ∷ (h ∷ p)) (h ∷ given g p) e)
+      ∙ swap (frame_count f (h ∷ given g p)) (is_one h f) (frame_count f (given g p)) (frame_count f (h ∷ p))
+      (frame_count f p) (is_one g f) a b c
 ]
   where
     swap : (n h c m p g : ℕ) → n ≡ h + c → m ≡ h + p → c ≡ g + p → n ≡ g + m
     swap n h c m p g a b d = omega arith
 
-pub all_given-count : (f : ℕ) (fs : List ℕ) (p : Pool) → frame_count f (all_given fs p) ≡ frame_count f fs + frame_count f p
+pub all_given-count : (f : ℕ) (fs : List ℕ) (p : Pool)
+    → frame_count f (all_given fs p) ≡ frame_count f fs + frame_count f p
 all_given-count f [] p = omega arith
 all_given-count f (g ∷ fs) p =
     let a = given-count f g (all_given fs p) in
     let b = all_given-count f fs p in
     let c = count_next f g fs in
-    sum (frame_count f (given g (all_given fs p))) (is_one g f) (frame_count f (all_given fs p)) (frame_count f fs) (frame_count f p) (frame_count f (g ∷ fs)) a b c
+    sum (frame_count f (given g (all_given fs p))) (is_one g f) (frame_count f (all_given fs p)) (frame_count f fs)
+    (frame_count f p) (frame_count f (g ∷ fs)) a b c
   where
     sum : (n g a s p m : ℕ) → n ≡ g + a → a ≡ s + p → m ≡ g + s → n ≡ m + p
     sum n g a s p m x y z = omega arith
@@ -52,7 +56,11 @@ length-drop (suc n) [] = omega arith
 length-drop (suc n) (f ∷ fs) = let e = length-drop n fs in omega arith
 
 -- the Shared part holds each frame as often as before
-pub shared-conserved : (depth : ℕ) (r : Changes) (x : Shared) (f : ℕ) → IsInRange depth (edit_of r.host) → IsInRange depth (edit_of r.hyp) → shared_need depth r x ≤ length x.free → shared_uses depth (shared_after depth r x) f ≡ shared_uses depth x f
+pub shared-conserved : (depth : ℕ) (r : Changes) (x : Shared) (f : ℕ)
+    → IsInRange depth (edit_of r.host)
+    → IsInRange depth (edit_of r.hyp)
+    → shared_need depth r x ≤ length x.free
+    → shared_uses depth (shared_after depth r x) f ≡ shared_uses depth x f
 unfolding shared_after
 shared-conserved depth r x f host hyp less =
     let m = need depth x.host (edit_of r.host) in
@@ -60,27 +68,57 @@ shared-conserved depth r x f host hyp less =
     let a = edited-uses depth x.host (edit_of r.host) x.free f host (omega arith) in
     let left : n ≤ length (drop m x.free) = let e = length-drop m x.free in omega arith in
     let b = edited-uses depth x.hyp (edit_of r.hyp) (drop m x.free) f hyp left in
-    let c = all_given-count f (returned depth x.host (edit_of r.host) ++ returned depth x.hyp (edit_of r.hyp)) (drop (m + n) x.free) in
-    let d = sum_by-append (λ g. is_one g f) (returned depth x.host (edit_of r.host)) (returned depth x.hyp (edit_of r.hyp)) in
+    let c =
+    all_given-count f (returned depth x.host (edit_of r.host) ++ returned depth x.hyp (edit_of r.hyp))
+    (drop (m + n) x.free) in
+    let d =
+    sum_by-append (λ g. is_one g f) (returned depth x.host (edit_of r.host))
+    (returned depth x.hyp (edit_of r.hyp)) in
     let p = count_parts f (m + n) x.free in
     let q = count_split f m n x.free in
-    sum (frame_count f (all_given (returned depth x.host (edit_of r.host) ++ returned depth x.hyp (edit_of r.hyp)) (drop (m + n) x.free))) (table_uses depth (edited depth x.host (edit_of r.host) x.free) f) (table_uses depth (edited depth x.hyp (edit_of r.hyp) (drop m x.free)) f)
-    (frame_count f (returned depth x.host (edit_of r.host))) (frame_count f (returned depth x.hyp (edit_of r.hyp))) (frame_count f (returned depth x.host (edit_of r.host) ++ returned depth x.hyp (edit_of r.hyp)))
-    (frame_count f (drop (m + n) x.free)) (frame_count f (take (m + n) x.free)) (frame_count f (take m x.free)) (frame_count f (take n (drop m x.free)))
+    sum
+    (frame_count f
+    (all_given (returned depth x.host (edit_of r.host) ++ returned depth x.hyp (edit_of r.hyp))
+    (drop (m + n) x.free)))
+    (table_uses depth (edited depth x.host (edit_of r.host) x.free) f)
+    (table_uses depth (edited depth x.hyp (edit_of r.hyp) (drop m x.free)) f)
+    (frame_count f (returned depth x.host (edit_of r.host))) (frame_count f (returned depth x.hyp (edit_of r.hyp)))
+    (frame_count f (returned depth x.host (edit_of r.host) ++ returned depth x.hyp (edit_of r.hyp)))
+    (frame_count f (drop (m + n) x.free)) (frame_count f (take (m + n) x.free)) (frame_count f (take m x.free))
+    (frame_count f (take n (drop m x.free)))
     (frame_count f x.free) (table_uses depth x.host f) (table_uses depth x.hyp f) a b c d p q
   where
-    sum : (free' host' hyp' rh ry rr left took th ty free host hyp : ℕ) → host' + rh ≡ host + th → hyp' + ry ≡ hyp + ty → free' ≡ rr + left → rr ≡ rh + ry → took + left ≡ free → took ≡ th + ty → free' + (host' + hyp') ≡ free + (host + hyp)
+    sum : (free' host' hyp' rh ry rr left took th ty free host hyp : ℕ)
+        → host' + rh ≡ host + th
+        → hyp' + ry ≡ hyp + ty
+        → free' ≡ rr + left
+        → rr ≡ rh + ry
+        → took + left ≡ free
+        → took ≡ th + ty
+        → free' + (host' + hyp') ≡ free + (host + hyp)
     sum free' host' hyp' rh ry rr left took th ty free host hyp a b c d p q = omega arith
 
 -- and so does a guest
-pub tree-conserved : (depth : ℕ) (e : Edit) (t : Tree) (free : Pool) (f : ℕ) → IsInRange depth e → need depth t e ≤ length free → frame_count f (all_given (returned depth t e) (drop (need depth t e) free)) + table_uses depth (edited depth t e free) f ≡ frame_count f free + table_uses depth t f
+pub tree-conserved : (depth : ℕ) (e : Edit) (t : Tree) (free : Pool) (f : ℕ)
+    → IsInRange depth e
+    → need depth t e ≤ length free
+    → frame_count f (all_given (returned depth t e) (drop (need depth t e) free)) + table_uses depth
+    (edited depth t e free) f
+    ≡ frame_count f free + table_uses depth t f
 tree-conserved depth e t free f range less =
     let a = edited-uses depth t e free f range less in
     let c = all_given-count f (returned depth t e) (drop (need depth t e) free) in
     let p = count_parts f (need depth t e) free in
-    sum (frame_count f (all_given (returned depth t e) (drop (need depth t e) free))) (table_uses depth (edited depth t e free) f) (frame_count f (returned depth t e)) (frame_count f (drop (need depth t e) free)) (frame_count f (take (need depth t e) free)) (frame_count f free) (table_uses depth t f) a c p
+    sum (frame_count f (all_given (returned depth t e) (drop (need depth t e) free)))
+    (table_uses depth (edited depth t e free) f) (frame_count f (returned depth t e))
+    (frame_count f (drop (need depth t e) free)) (frame_count f (take (need depth t e) free))
+    (frame_count f free) (table_uses depth t f) a c p
   where
-    sum : (free' tree' r left took free tree : ℕ) → tree' + r ≡ tree + took → free' ≡ r + left → took + left ≡ free → free' + tree' ≡ free + tree
+    sum : (free' tree' r left took free tree : ℕ)
+        → tree' + r ≡ tree + took
+        → free' ≡ r + left
+        → took + left ≡ free
+        → free' + tree' ≡ free + tree
     sum free' tree' r left took free tree a c p = omega arith
 
 -- where nothing is mapped a word can say it
@@ -95,8 +133,12 @@ empty-one_word m b h =
     plus-none n = omega arith
 
 -- the root's table stays
-pub edited-root : (depth : ℕ) (e : Edit) (t : Tree) (fs : List ℕ) → IsInRange depth e → (edited depth t e fs).table (depth + 1, 0) ≡ t.table (depth + 1, 0)
+pub edited-root : (depth : ℕ) (e : Edit) (t : Tree) (fs : List ℕ)
+    → IsInRange depth e
+    → (edited depth t e fs).table (depth + 1, 0) ≡ t.table (depth + 1, 0)
 unfolding edited
 edited-root depth e t fs range =
-    cleared-absent (freed depth t e) (placed (needs depth t e) fs t.table) (depth + 1, 0) (root-absent depth (freed depth t e) (freed-below depth t e range))
-    ∙ placed-absent (needs depth t e) fs t.table (depth + 1, 0) (root-absent depth (needs depth t e) (needs-below depth t e range))
+    cleared-absent (freed depth t e) (placed (needs depth t e) fs t.table) (depth + 1, 0)
+    (root-absent depth (freed depth t e) (freed-below depth t e range))
+    ∙ placed-absent (needs depth t e) fs t.table (depth + 1, 0)
+    (root-absent depth (needs depth t e) (needs-below depth t e range))

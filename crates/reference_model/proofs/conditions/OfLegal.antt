@@ -43,12 +43,19 @@ leaf-state prot p f a b e h m = state_eq-same a b (and-right (p == f) (state_eq 
 pub unmapped-none : {P : Type 0} (f : ℕ) (state : State) (e : Entry) → e ≡ Unmapped → maps_frame f state e ≡ true → P
 unmapped-none f state e h m = let bad : false ≡ true = sym (ap (maps_frame f state) h) ∙ m in cc
 
-pub annotated-none : {P : Type 0} (f n : ℕ) (state : State) (e : Entry) → e ≡ annotation n → maps_frame f state e ≡ true → P
+pub annotated-none : {P : Type 0} (f n : ℕ) (state : State) (e : Entry)
+    → e ≡ annotation n
+    → maps_frame f state e ≡ true
+    → P
 annotated-none f n state e h m = let bad : false ≡ true = sym (ap (maps_frame f state) h) ∙ m in cc
 
-pub fits-alone : (p f : ℕ) (c : Condition) (state : State) (e : Entry) → HostFits p c e → maps_frame f state e ≡ true → p ≡ f
+pub fits-alone : (p f : ℕ) (c : Condition) (state : State) (e : Entry)
+    → HostFits p c e
+    → maps_frame f state e ≡ true
+    → p ≡ f
 fits-alone p f outside state e (inl h) m = unmapped-none f state e h m
-fits-alone p f outside state e (inr h) m = eq-same p f (and-left (p == f) (state_eq Owned state) (sym (ap (maps_frame f state) h) ∙ m))
+fits-alone p f outside state e (inr h) m =
+    eq-same p f (and-left (p == f) (state_eq Owned state) (sym (ap (maps_frame f state) h) ∙ m))
 fits-alone p f hosts state e (inl h) m = unmapped-none f state e h m
 fits-alone p f hosts state e (inr h) m = leaf-frame _ p f Owned state e h m
 fits-alone p f with_hyp state e h m = leaf-frame _ p f SharedOwned state e h m
@@ -71,11 +78,15 @@ module _ (s : Contents) (condition : ℕ → Condition) (maps : MapsFit s condit
       (λ low. unmapped-none f state (s.shared.hyp.map p) (maps.hyp_below p low) m)
       (λ high.
       let at : p ≡ hyp_page (p - hyp_page 0) = omega arith in
-      let says : s.shared.hyp.map p ≡ hyp_says (p - hyp_page 0) (condition (p - hyp_page 0)) = ap (s.shared.hyp.map) at ∙ maps.hyp (p - hyp_page 0) in
-      let same : p - hyp_page 0 ≡ f = says-alone (p - hyp_page 0) f (condition (p - hyp_page 0)) state (sym (ap (maps_frame f state) says) ∙ m) in
+      let says : s.shared.hyp.map p ≡ hyp_says (p - hyp_page 0) (condition (p - hyp_page 0)) =
+      ap (s.shared.hyp.map) at ∙ maps.hyp (p - hyp_page 0) in
+      let same : p - hyp_page 0 ≡ f =
+      says-alone (p - hyp_page 0) f (condition (p - hyp_page 0)) state (sym (ap (maps_frame f state) says) ∙ m) in
       at ∙ ap hyp_page same)
 
-  pub guest_alone : (v p : ℕ) (state : State) → maps_frame f state ((s.guest v).tree.map p) ≡ true → condition f ≡ guest_condition state v p
+  pub guest_alone : (v p : ℕ) (state : State)
+      → maps_frame f state ((s.guest v).tree.map p) ≡ true
+      → condition f ≡ guest_condition state v p
   guest_alone v p state m = elim (maps.guest v p) [
     | inl h ↦ unmapped-none f state _ h m
     | inr h ↦
@@ -84,11 +95,20 @@ module _ (s : Contents) (condition : ℕ → Condition) (maps : MapsFit s condit
         ap condition (sym frame) ∙ h.named ∙ ap (λ a. guest_condition a v p) is
   ]
 
-  pub guest_has : (v p : ℕ) (state : State) → condition f ≡ guest_condition state v p → maps_frame f state ((s.guest v).tree.map p) ≡ true
+  pub guest_has : (v p : ℕ) (state : State)
+      → condition f ≡ guest_condition state v p
+      → maps_frame f state ((s.guest v).tree.map p) ≡ true
   guest_has v p state h = let at = maps.guest_has v p f state h in ap (maps_frame f state) at.1 ∙ leaf-maps at.0 f state
 
   pub shared-of : (l : Layout) → HeldFit l s condition → SharedStands l s.shared f (condition f)
-  shared-of l held = record { host = maps.host f; host_alone = host_alone; hyp = maps.hyp f; hyp_alone = hyp_alone; held = held.shared f }
+  shared-of l held =
+      record {
+        host = maps.host f;
+        host_alone = host_alone;
+        hyp = maps.hyp f;
+        hyp_alone = hyp_alone;
+        held = held.shared f;
+      }
 
   pub guests-of : (l : Layout) → HeldFit l s condition → GuestsStand l s.guest f (condition f)
   guests-of l held = record { has = guest_has; alone = guest_alone; held = λ v. held.vm v f }

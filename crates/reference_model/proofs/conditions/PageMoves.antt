@@ -27,7 +27,8 @@ use Rattle.reference_model.proofs.conditions.Conserved.{tree-conserved, edited-r
 use Rattle.reference_model.proofs.conditions.RangeMoves.{within-is, within-made, range-in, hands-stay}
 
 -- the frames and the pages before and after: frame i of the range belongs to page i
-pub record PagesMove (l : Layout) (s : Contents) (condition : ℕ → Condition) (v f : ℕ) (e : Entry) (g : ℕ) (e' : Entry) (n : ℕ) (c : ℕ → Condition) : Type 0 where
+pub record PagesMove (l : Layout) (s : Contents) (condition : ℕ → Condition) (v f : ℕ) (e : Entry) (g : ℕ) (e' : Entry)
+    (n : ℕ) (c : ℕ → Condition) : Type 0 where
   pub some_pages : 1 ≤ n
   pub memory : (q : ℕ) → is_within f n q ≡ true → is_memory l q ≡ true
   pub pages : g + n ≤ pages_below l.depth
@@ -45,16 +46,32 @@ pub record PagesMove (l : Layout) (s : Contents) (condition : ℕ → Condition)
   pub told : (cpu q : ℕ) → is_within f n q ≡ true → row_in q (c q) ≡ told_row cpu (Some v) (two_ranges f e g e' n) q
   pub goes : (cpu q : ℕ) → is_within f n q ≡ true → c q ≡ told_condition cpu (Some v) (two_ranges f e g e' n) q
   -- no other page of the guest has the frame, nor its page another frame
-  pub old_page : (q p : ℕ) (state : State) → is_within f n q ≡ true → condition q ≡ guest_condition state v p → p ≡ g + (q - f)
-  pub old_frame : (q p : ℕ) (state : State) → is_within g n p ≡ true → condition q ≡ guest_condition state v p → q ≡ f + (p - g)
-  pub new_page : (p : ℕ) → is_within g n p ≡ true → (advance e' (p - g) ≡ Unmapped) ⊎ ((prot : Prot) × (state : State) × (advance e' (p - g) ≡ leaf prot (f + (p - g)) state) × (c (f + (p - g)) ≡ guest_condition state v p))
-  pub new_has : (q p : ℕ) (state : State) → is_within f n q ≡ true → c q ≡ guest_condition state v p → (p ≡ g + (q - f)) × IsMemoryLeaf q state (advance e' (q - f))
+  pub old_page : (q p : ℕ) (state : State)
+      → is_within f n q ≡ true
+      → condition q ≡ guest_condition state v p
+      → p ≡ g + (q - f)
+  pub old_frame : (q p : ℕ) (state : State)
+      → is_within g n p ≡ true
+      → condition q ≡ guest_condition state v p
+      → q ≡ f + (p - g)
+  pub new_page : (p : ℕ)
+      → is_within g n p ≡ true
+      → (advance e' (p - g) ≡ Unmapped)
+      ⊎ ((prot : Prot)
+      × (state : State)
+      × (advance e' (p - g) ≡ leaf prot (f + (p - g)) state)
+      × (c (f + (p - g)) ≡ guest_condition state v p))
+  pub new_has : (q p : ℕ) (state : State)
+      → is_within f n q ≡ true
+      → c q ≡ guest_condition state v p
+      → (p ≡ g + (q - f)) × IsMemoryLeaf q state (advance e' (q - f))
 
 pub advance-none : (e : Entry) (g : ℕ) → advance e (g - g) ≡ e
 advance-none Unmapped g = refl
 advance-none Malformed g = refl
 advance-none (Annotated o) g = refl
-advance-none (Leaf frame prot kind state) g = let z : frame.0 + (g - g) ≡ frame.0 = omega arith in ap (λ n. Leaf (record { 0 = n }) prot kind state) z
+advance-none (Leaf frame prot kind state) g = let z : frame.0 + (g - g) ≡ frame.0 = omega arith in
+    ap (λ n. Leaf (record { 0 = n }) prot kind state) z
 
 -- a number of one range, counted from its first, is in the other
 pub within-turned : (f g n q : ℕ) → is_within f n q ≡ true → is_within g n (g + (q - f)) ≡ true
@@ -67,7 +84,8 @@ within-turned f g n q w =
 pub turned-back : (f g n q : ℕ) → is_within f n q ≡ true → f + (g + (q - f) - g) ≡ q
 turned-back f g n q w = let at = within-is f n q w in let low : f ≤ q = at.0 in omega arith
 
-module _ (l : Layout) (s : Contents) (legal : Legal l s) (usable : IsUsable l) (cpu v : ℕ) (f : ℕ) (e : Entry) (g : ℕ) (e' : Entry) (n : ℕ) (c : ℕ → Condition) (m : PagesMove l s legal.condition v f e g e' n c) where
+module _ (l : Layout) (s : Contents) (legal : Legal l s) (usable : IsUsable l) (cpu v : ℕ) (f : ℕ) (e : Entry) (g : ℕ)
+    (e' : Entry) (n : ℕ) (c : ℕ → Condition) (m : PagesMove l s legal.condition v f e g e' n c) where
   abbrev r : Changes
   r = two_ranges f e g e' n
 
@@ -77,7 +95,9 @@ module _ (l : Layout) (s : Contents) (legal : Legal l s) (usable : IsUsable l) (
   off : (first p : ℕ) → is_within first n p ≡ false → is_within first n p ≡ true → ⊥
   off first p w k = let z : true ≡ false = sym k ∙ w in cc
 
-  see : {X : Type 0} (look : Condition → X) (q : ℕ) → (is_within f n q ≡ true → look (legal.condition q) ≡ look (c q)) → look (legal.condition q) ≡ look (after q)
+  see : {X : Type 0} (look : Condition → X) (q : ℕ)
+      → (is_within f n q ≡ true → look (legal.condition q) ≡ look (c q))
+      → look (legal.condition q) ≡ look (after q)
   unfolding after
   see look q h = moved-fact look c f n legal.condition q h
 
@@ -93,7 +113,15 @@ module _ (l : Layout) (s : Contents) (legal : Legal l s) (usable : IsUsable l) (
   guest p = elim (both (is_within g n p)) [
     | inl w ↦ elim (m.new_page p w) [
       | inl h ↦ inl (in-range p w ∙ h)
-      | inr h ↦ inr (record { frame = f + (p - g); prot = h.0; state = h.1; leaf_is = in-range p w ∙ h.2; named = moved-in c f n legal.condition (f + (p - g)) (within-turned g f n p w) ∙ h.3 })
+      | inr h ↦ inr
+          (record {
+            frame = f + (p - g);
+            prot = h.0;
+            state = h.1;
+            leaf_is = in-range p w
+                ∙ h.2;
+            named = moved-in c f n legal.condition (f + (p - g)) (within-turned g f n p w) ∙ h.3;
+          })
     ]
     | inr w ↦ elim (legal.maps.guest v p) [
       | inl h ↦ inl (out-range p w ∙ h)
@@ -103,14 +131,19 @@ module _ (l : Layout) (s : Contents) (legal : Legal l s) (usable : IsUsable l) (
         state = h.state;
         leaf_is = out-range p w ∙ h.leaf_is;
         named = elim (both (is_within f n h.frame)) [
-          | inl k ↦ absurd (off g p w (subst (λ x. is_within g n x ≡ true) (sym (m.old_page h.frame p h.state k h.named)) (within-turned f g n h.frame k)))
+          | inl k ↦ absurd
+              (off g p w
+              (subst (λ x. is_within g n x ≡ true) (sym (m.old_page h.frame p h.state k h.named))
+              (within-turned f g n h.frame k)))
           | inr k ↦ moved-out c f n legal.condition h.frame k ∙ h.named
         ];
       })
     ]
   ]
 
-  guest_has : (p q : ℕ) (state : State) → after q ≡ guest_condition state v p → IsMemoryLeaf q state (update (s.guest v).tree.map g n e' p)
+  guest_has : (p q : ℕ) (state : State)
+      → after q ≡ guest_condition state v p
+      → IsMemoryLeaf q state (update (s.guest v).tree.map g n e' p)
   unfolding after
   guest_has p q state h = elim (both (is_within f n q)) [
     | inl k ↦
@@ -123,12 +156,15 @@ module _ (l : Layout) (s : Contents) (legal : Legal l s) (usable : IsUsable l) (
         let was : legal.condition q ≡ guest_condition state v p = sym (moved-out c f n legal.condition q k) ∙ h in
         let old = legal.maps.guest_has v p q state was in
         elim (both (is_within g n p)) [
-          | inl w ↦ absurd (off f q k (subst (λ x. is_within f n x ≡ true) (sym (m.old_frame q p state w was)) (within-turned g f n p w)))
+          | inl w ↦ absurd
+              (off f q k
+              (subst (λ x. is_within f n x ≡ true) (sym (m.old_frame q p state w was)) (within-turned g f n p w)))
           | inr w ↦ (old.0, out-range p w ∙ old.1)
         ]
   ]
 
-  pub pages-move : guest_need l.depth r (s.guest v) ≤ length (s.guest v).free → GuestMove l s legal.condition cpu v r f n c
+  pub pages-move : guest_need l.depth r (s.guest v) ≤ length (s.guest v).free
+      → GuestMove l s legal.condition cpu v r f n c
   unfolding guest_after edited after
   pages-move enough =
       let low = range-in l usable f n m.some_pages m.memory in
@@ -154,9 +190,16 @@ module _ (l : Layout) (s : Contents) (legal : Legal l s) (usable : IsUsable l) (
         only_old = m.only_old;
         guest = guest;
         guest_has = guest_has;
-        held = λ q. tree-conserved l.depth (put g n e') (s.guest v).tree (s.guest v).free q range enough ∙ legal.held.vm v q ∙ ap one (see (in_vm v) q (m.same_vm q));
-        coarse = edit_keeps_coarsest l.depth (s.guest v).tree (put g n e') (s.guest v).free range (legal.trees.guest v) enough;
+        held =
+            λ q. tree-conserved l.depth (put g n e') (s.guest v).tree (s.guest v).free q range enough
+            ∙ legal.held.vm v q ∙ ap one (see (in_vm v) q (m.same_vm q));
+        coarse =
+            edit_keeps_coarsest l.depth (s.guest v).tree (put g n e') (s.guest v).free range
+            (legal.trees.guest v) enough;
         blank = λ k. absurd (m.alive k);
-        rooted = λ k. let old = legal.guest_parts.rooted v k in (old.0, edited-root l.depth (put g n e') (s.guest v).tree (s.guest v).free range ∙ old.1);
-        slots = slots-stay legal cpu v (new_guest l s v r) (new_cpu s cpu r) refl refl refl refl refl (legal.slots.some_hand cpu);
+        rooted = λ k. let old = legal.guest_parts.rooted v k in
+            (old.0, edited-root l.depth (put g n e') (s.guest v).tree (s.guest v).free range ∙ old.1);
+        slots =
+            slots-stay legal cpu v (new_guest l s v r) (new_cpu s cpu r) refl refl refl refl refl
+            (legal.slots.some_hand cpu);
       }

@@ -20,10 +20,26 @@ use Rattle.reference_model.proofs.conditions.SoundOf.{owner-of, lent-of, guest-m
 use Rattle.reference_model.proofs.conditions.Stands.{SharedStands, GuestsStand, HandsStand}
 
 -- the borrower by the condition
-lent-to : (l : Layout) (s : Contents) (f : ℕ) (c : Condition) (x : SharedStands l s.shared f c) (g : GuestsStand l s.guest f c) → IsLentTo s f (row_in f c).lent
-lent-to l s f with_hyp x g = record { maps = leaf-is f SharedBorrowed (s.shared.hyp.map (hyp_page f)) (leaf RW f SharedBorrowed) x.hyp (leaf-maps RW f SharedBorrowed); alone = λ component page m. some-lent (lent-of l s f with_hyp x g component page m) }
-lent-to l s f (with_guest v q) x g = record { maps = guest-maps l s f (with_guest v q) x g v q SharedBorrowed refl; alone = λ component page m. some-lent (lent-of l s f (with_guest v q) x g component page m) }
-lent-to l s f (lent_back v q) x g = record { maps = leaf-is f SharedBorrowed (s.shared.host.map f) (leaf RWX f SharedBorrowed) x.host (leaf-maps RWX f SharedBorrowed); alone = λ component page m. some-lent (lent-of l s f (lent_back v q) x g component page m) }
+lent-to : (l : Layout) (s : Contents) (f : ℕ) (c : Condition) (x : SharedStands l s.shared f c)
+    (g : GuestsStand l s.guest f c)
+    → IsLentTo s f (row_in f c).lent
+lent-to l s f with_hyp x g =
+    record {
+      maps = leaf-is f SharedBorrowed (s.shared.hyp.map (hyp_page f)) (leaf RW f SharedBorrowed) x.hyp
+          (leaf-maps RW f SharedBorrowed);
+      alone = λ component page m. some-lent (lent-of l s f with_hyp x g component page m);
+    }
+lent-to l s f (with_guest v q) x g =
+    record {
+      maps = guest-maps l s f (with_guest v q) x g v q SharedBorrowed refl;
+      alone = λ component page m. some-lent (lent-of l s f (with_guest v q) x g component page m);
+    }
+lent-to l s f (lent_back v q) x g =
+    record {
+      maps = leaf-is f SharedBorrowed (s.shared.host.map f) (leaf RWX f SharedBorrowed) x.host
+          (leaf-maps RWX f SharedBorrowed);
+      alone = λ component page m. some-lent (lent-of l s f (lent_back v q) x g component page m);
+    }
 lent-to l s f outside x g = λ b. none-lent (lent-of l s f outside x g b.0 b.1 b.2)
 lent-to l s f hosts x g = λ b. none-lent (lent-of l s f hosts x g b.0 b.1 b.2)
 lent-to l s f (hyps u) x g = λ b. none-lent (lent-of l s f (hyps u) x g b.0 b.1 b.2)
@@ -59,22 +75,35 @@ module _ (l : Layout) (s : Contents) (legal : Legal l s) (f : ℕ) where
 
   owner-by : is_memory l f ≡ true → IsOwner s f (row_in f (legal.condition f)).owner.0
   owner-by m = record {
-    host = λ o. own-fits f (legal.condition f) (s.shared.host.map f) (legal.of_layout.inside f ∙ m) (legal.maps.host f) o;
+    host =
+        λ o. own-fits f (legal.condition f) (s.shared.host.map f) (legal.of_layout.inside f ∙ m) (legal.maps.host f) o;
     other = λ o. own-one l s f (legal.condition f) x g o;
-    alone = λ component page h. holds-state s component page f h (λ state i n. owner-of l s f (legal.condition f) x g component page state i n);
+    alone =
+        λ component page h. holds-state s component page f h
+        (λ state i n. owner-of l s f (legal.condition f) x g component page state i n);
   }
 
   pub place-use : (p : Place) → IsHeld s f p → use_of p ≡ (row_in f (legal.condition f)).usage
-  place-use p h = sym (ap (λ d. (row_in f d).usage) (held-use l s f (legal.condition f) x g k legal.trees.host legal.trees.hyp legal.trees.guest p h))
+  place-use p h =
+      sym
+      (ap (λ d. (row_in f d).usage)
+      (held-use l s f (legal.condition f) x g k legal.trees.host legal.trees.hyp legal.trees.guest p h))
 
-  pub place-of : (row_in f (legal.condition f)).usage ≢ Plain → (p : Place) × IsHeld s f p × (use_of p ≡ (row_in f (legal.condition f)).usage)
+  pub place-of : (row_in f (legal.condition f)).usage ≢ Plain
+      → (p : Place) × IsHeld s f p × (use_of p ≡ (row_in f (legal.condition f)).usage)
   place-of n =
-      let at = held-found l s f (legal.condition f) x g k legal.trees.host legal.trees.hyp legal.trees.guest (row_in f (legal.condition f)).usage n (used-hyps f (legal.condition f) n) in
+      let at =
+      held-found l s f (legal.condition f) x g k legal.trees.host legal.trees.hyp legal.trees.guest
+      (row_in f (legal.condition f)).usage n (used-hyps f (legal.condition f) n) in
       (at.0, at.1, place-use at.0 at.1)
 
   use-by : IsUse s f (row_in f (legal.condition f)).usage
   use-by = record {
-    plain = (λ e p h. use-some p (place-use p h ∙ e), λ none. elim (plain-or (row_in f (legal.condition f)).usage) [ inl e ↦ e | inr n ↦ let at = place-of n in absurd (none at.0 at.1) ]);
+    plain = (
+      λ e p h. use-some p (place-use p h ∙ e),
+      λ none. elim (plain-or (row_in f (legal.condition f)).usage)
+          [ inl e ↦ e | inr n ↦ let at = place-of n in absurd (none at.0 at.1) ],
+    );
     held = place-of;
     alone = place-use;
   }
@@ -86,7 +115,8 @@ pub legal_rows_true : LegalRowsTrue
 legal_rows_true l s f usable legal m = subst (IsRowOf s f) (sym (legal.rows f m)) (row-true l s legal f m)
 
 pub run_rows_true : RunRowsTrue
-run_rows_true l cs t f ready run m = legal_rows_true l t.contents f (ready-usable l ready) (run_legal l cs t ready run) m
+run_rows_true l cs t f ready run m =
+    legal_rows_true l t.contents f (ready-usable l ready) (run_legal l cs t ready run) m
 
 -- one row
 
@@ -121,4 +151,6 @@ make_row owner lent usage = record { owner = record { 0 = owner }; lent = lent; 
 
 pub row_once : RowOnce
 unfolding make_row
-row_once s f a b x y = same3 make_row (owner-once s f a.owner.0 b.owner.0 x.owner y.owner) (lent-once s f a.lent b.lent x.lent y.lent) (use-once s f a.usage b.usage x.usage y.usage)
+row_once s f a b x y =
+    same3 make_row (owner-once s f a.owner.0 b.owner.0 x.owner y.owner) (lent-once s f a.lent b.lent x.lent y.lent)
+    (use-once s f a.usage b.usage x.usage y.usage)

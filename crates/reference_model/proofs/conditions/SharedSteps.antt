@@ -42,7 +42,10 @@ borrowed-with : (f : ℕ) (c : Condition) → is_in SharedBorrowed (hyp_says f c
 borrowed-with f with_hyp h = refl
 borrowed-with f c h = cc
 
-plain-hyps : (f : ℕ) (c : Condition) → ((row_in f c).owner.0 == 1) ≡ true → is_plain (row_in f c).usage ≡ true → c ≡ hyps Plain
+plain-hyps : (f : ℕ) (c : Condition)
+    → ((row_in f c).owner.0 == 1) ≡ true
+    → is_plain (row_in f c).usage ≡ true
+    → c ≡ hyps Plain
 plain-hyps f (hyps Plain) a b = refl
 plain-hyps f (hyps SharedPool) a b = cc
 plain-hyps f (hyps (VmPool v)) a b = cc
@@ -69,23 +72,35 @@ eq-turned c d h = grind (arith, nat_tests)
 
 module _ (l : Layout) (s : Contents) (legal : Legal l s) (usable : IsUsable l) (cpu : ℕ) where
   -- the range's frames go from a condition that names no guest to another, and the CPU keeps all but its hand
-  calm-keeps : (step : Step) → names step ≡ shared → {r : Changes} {first n : ℕ} (old : Condition) {c : Condition} → FramesMove l s legal.condition cpu None r first n (always c) → is_calm old ≡ true → is_calm c ≡ true → ((q : ℕ) → is_within first n q ≡ true → legal.condition q ≡ old)
-      → (cpu_by r.cpu (s.cpu cpu)).loaded ≡ (s.cpu cpu).loaded → (cpu_by r.cpu (s.cpu cpu)).ticket ≡ (s.cpu cpu).ticket → ((h : PageRange) → (cpu_by r.cpu (s.cpu cpu)).hand ≡ Some h → 1 ≤ h.count)
+  calm-keeps : (step : Step)
+      → names step ≡ shared
+      → {r : Changes} {first n : ℕ} (old : Condition) {c : Condition}
+      → FramesMove l s legal.condition cpu None r first n (always c)
+      → is_calm old ≡ true
+      → is_calm c ≡ true
+      → ((q : ℕ) → is_within first n q ≡ true → legal.condition q ≡ old)
+      → (cpu_by r.cpu (s.cpu cpu)).loaded ≡ (s.cpu cpu).loaded
+      → (cpu_by r.cpu (s.cpu cpu)).ticket ≡ (s.cpu cpu).ticket
+      → ((h : PageRange) → (cpu_by r.cpu (s.cpu cpu)).hand ≡ Some h → 1 ≤ h.count)
       → shared_need l.depth r s.shared ≤ length s.shared.free → StepKept l s legal.condition shared None cpu step r
-  calm-keeps step named {r} {first} {n} old {c} m before new was loaded ticket some enough = shared-keeps l s legal usable cpu step named r first n c (record {
-    frames = m;
-    calm = record { calm = new; was_calm = λ q w. ap is_calm (was q w) ∙ before };
-    loaded = loaded;
-    ticket = ticket;
-    some_hand = some;
-  }) enough
+  calm-keeps step named {r} {first} {n} old {c} m before new was loaded ticket some enough =
+      shared-keeps l s legal usable cpu step named r first n c (record {
+        frames = m;
+        calm = record { calm = new; was_calm = λ q w. ap is_calm (was q w) ∙ before };
+        loaded = loaded;
+        ticket = ticket;
+        some_hand = some;
+      }) enough
 
-  pub share_hyp-keeps : (f : ℕ) → refusal l.depth (share_hyp f (reads l cpu None (x_of cpu s))) false (x_of cpu s) ≡ None → StepKept l s legal.condition shared None cpu (ShareHyp f) (share_hyp f (reads l cpu None (x_of cpu s))).changes
+  pub share_hyp-keeps : (f : ℕ)
+      → refusal l.depth (share_hyp f (reads l cpu None (x_of cpu s))) false (x_of cpu s) ≡ None
+      → StepKept l s legal.condition shared None cpu (ShareHyp f) (share_hyp f (reads l cpu None (x_of cpu s))).changes
   unfolding used_of
   share_hyp-keeps f h =
       let p = passed l.depth (share_hyp f (reads l cpu None (x_of cpu s))) false (x_of cpu s) h in
       let mem : is_memory l f ≡ true = p.valid in
-      let free : is_free_page (s.shared.host.map f) ≡ true = and-left (is_free_page (s.shared.host.map f)) (is_unmapped (s.shared.hyp.map (hyp_page f))) p.allowed in
+      let free : is_free_page (s.shared.host.map f) ≡ true =
+      and-left (is_free_page (s.shared.host.map f)) (is_unmapped (s.shared.hyp.map (hyp_page f))) p.allowed in
       let was = one-frame f (λ q. legal.condition q ≡ hosts) (free-is legal f mem free) in
       calm-keeps (ShareHyp f) refl hosts (range-frames legal usable cpu None KeepGuest same_cpu Nothing (record {
         some = omega arith;
@@ -102,12 +117,19 @@ module _ (l : Layout) (s : Contents) (legal : Legal l s) (usable : IsUsable l) (
         own_hand = λ d h. cc;
       })) refl refl was refl refl (legal.slots.some_hand cpu) p.shared_enough
 
-  pub unshare_hyp-keeps : (f : ℕ) → refusal l.depth (unshare_hyp f (reads l cpu None (x_of cpu s))) false (x_of cpu s) ≡ None → StepKept l s legal.condition shared None cpu (UnshareHyp f) (unshare_hyp f (reads l cpu None (x_of cpu s))).changes
+  pub unshare_hyp-keeps : (f : ℕ)
+      → refusal l.depth (unshare_hyp f (reads l cpu None (x_of cpu s))) false (x_of cpu s) ≡ None
+      → StepKept l s legal.condition shared None cpu (UnshareHyp f)
+      (unshare_hyp f (reads l cpu None (x_of cpu s))).changes
   unfolding used_of
   unshare_hyp-keeps f h =
       let p = passed l.depth (unshare_hyp f (reads l cpu None (x_of cpu s))) false (x_of cpu s) h in
-      let borrowed : is_in SharedBorrowed (s.shared.hyp.map (hyp_page f)) ≡ true = and-right (is_in SharedOwned (s.shared.host.map f)) (is_in SharedBorrowed (s.shared.hyp.map (hyp_page f))) p.allowed in
-      let was = one-frame f (λ q. legal.condition q ≡ with_hyp) (borrowed-with f (legal.condition f) (sym (ap (is_in SharedBorrowed) (legal.maps.hyp f)) ∙ borrowed)) in
+      let borrowed : is_in SharedBorrowed (s.shared.hyp.map (hyp_page f)) ≡ true =
+      and-right (is_in SharedOwned (s.shared.host.map f))
+      (is_in SharedBorrowed (s.shared.hyp.map (hyp_page f))) p.allowed in
+      let was =
+      one-frame f (λ q. legal.condition q ≡ with_hyp)
+      (borrowed-with f (legal.condition f) (sym (ap (is_in SharedBorrowed) (legal.maps.hyp f)) ∙ borrowed)) in
       calm-keeps (UnshareHyp f) refl with_hyp (range-frames legal usable cpu None KeepGuest same_cpu Nothing (record {
         some = omega arith;
         memory = one-frame f (λ q. is_memory l q ≡ true) p.valid;
@@ -125,69 +147,126 @@ module _ (l : Layout) (s : Contents) (legal : Legal l s) (usable : IsUsable l) (
 
   module _ (f n : ℕ) where
     -- the frames of a range that may be donated are the host's
-    donated : may_donate (x_of cpu s) f n ≡ true → ((q : ℕ) → is_within f n q ≡ true → is_memory l q ≡ true) → (q : ℕ) → is_within f n q ≡ true → legal.condition q ≡ hosts
+    donated : may_donate (x_of cpu s) f n ≡ true
+        → ((q : ℕ) → is_within f n q ≡ true → is_memory l q ≡ true)
+        → (q : ℕ)
+        → is_within f n q ≡ true
+        → legal.condition q ≡ hosts
     unfolding used_of
-    donated h all q w = free-is legal q (all q w) (and-both (is_free_page (s.shared.host.map q)) (is_unmapped (s.shared.hyp.map (hyp_page q))) (range-all f n (λ p. is_free_page (s.shared.host.map p) && is_unmapped (s.shared.hyp.map (hyp_page p))) h q w)).0
+    donated h all q w =
+        free-is legal q (all q w)
+        (and-both (is_free_page (s.shared.host.map q)) (is_unmapped (s.shared.hyp.map (hyp_page q)))
+        (range-all f n
+        (λ p. is_free_page (s.shared.host.map p) && is_unmapped (s.shared.hyp.map (hyp_page p))) h q w)).0
 
-    pub donate_hyp-keeps : refusal l.depth (donate_hyp f n (reads l cpu None (x_of cpu s))) false (x_of cpu s) ≡ None → StepKept l s legal.condition shared None cpu (DonateHyp f n) (donate_hyp f n (reads l cpu None (x_of cpu s))).changes
+    pub donate_hyp-keeps : refusal l.depth (donate_hyp f n (reads l cpu None (x_of cpu s))) false (x_of cpu s) ≡ None
+        → StepKept l s legal.condition shared None cpu (DonateHyp f n)
+        (donate_hyp f n (reads l cpu None (x_of cpu s))).changes
     unfolding used_of
     donate_hyp-keeps h =
         let p = passed l.depth (donate_hyp f n (reads l cpu None (x_of cpu s))) false (x_of cpu s) h in
         let good = good-range l f n p.valid in
         let was = donated p.allowed good.1 in
-        let frames = given-frames legal usable cpu None KeepGuest same_cpu Nothing f n Plain good.0 was refl refl tt (hands-stay legal cpu same_cpu (always (hyps Plain)) f n refl (λ d q w. ap (in_hand d) (was q w))) (λ d h. cc) in
+        let frames =
+        given-frames legal usable cpu None KeepGuest same_cpu Nothing f n Plain good.0 was refl refl tt
+        (hands-stay legal cpu same_cpu (always (hyps Plain)) f n refl (λ d q w. ap (in_hand d) (was q w)))
+        (λ d h. cc) in
         calm-keeps (DonateHyp f n) refl hosts frames refl refl was refl refl (legal.slots.some_hand cpu) p.shared_enough
 
     -- the frames of a range that may go back are the hypervisor's, in no other use
-    returned : all_below n (λ i. may_return (x_of cpu s) (f + i)) ≡ true → ((q : ℕ) → is_within f n q ≡ true → is_memory l q ≡ true) → (q : ℕ) → is_within f n q ≡ true → legal.condition q ≡ hyps Plain
+    returned : all_below n (λ i. may_return (x_of cpu s) (f + i)) ≡ true
+        → ((q : ℕ) → is_within f n q ≡ true → is_memory l q ≡ true)
+        → (q : ℕ)
+        → is_within f n q ≡ true
+        → legal.condition q ≡ hyps Plain
     unfolding used_of
     returned h all q w =
-        let t = three-and ((s.shared.row q).owner.0 == 1) (is_plain (s.shared.row q).usage) (is_in Owned (s.shared.hyp.map (hyp_page q))) (range-all f n (λ p. (s.shared.row p).owner.0 == 1 && is_plain (s.shared.row p).usage && is_in Owned (s.shared.hyp.map (hyp_page p))) h q w) in
+        let t =
+        three-and ((s.shared.row q).owner.0 == 1) (is_plain (s.shared.row q).usage)
+        (is_in Owned (s.shared.hyp.map (hyp_page q)))
+        (range-all f n
+        (λ p. (s.shared.row p).owner.0 == 1 && is_plain (s.shared.row p).usage
+        && is_in Owned (s.shared.hyp.map (hyp_page p))) h q w) in
         let row = legal.rows q (all q w) in
-        plain-hyps q (legal.condition q) (sym (ap (λ (r : Row). r.owner.0 == 1) row) ∙ t.0) (sym (ap (λ (r : Row). is_plain r.usage) row) ∙ t.1)
+        plain-hyps q (legal.condition q) (sym (ap (λ (r : Row). r.owner.0 == 1) row) ∙ t.0)
+        (sym (ap (λ (r : Row). is_plain r.usage) row) ∙ t.1)
 
-    pub hyp_donate_host-keeps : refusal l.depth (hyp_donate_host f n (reads l cpu None (x_of cpu s))) false (x_of cpu s) ≡ None → StepKept l s legal.condition shared None cpu (HypDonateHost f n) (hyp_donate_host f n (reads l cpu None (x_of cpu s))).changes
+    pub hyp_donate_host-keeps : refusal l.depth (hyp_donate_host f n (reads l cpu None (x_of cpu s))) false (x_of cpu s)
+        ≡ None
+        → StepKept l s legal.condition shared None cpu (HypDonateHost f n)
+        (hyp_donate_host f n (reads l cpu None (x_of cpu s))).changes
     unfolding used_of
     hyp_donate_host-keeps h =
         let p = passed l.depth (hyp_donate_host f n (reads l cpu None (x_of cpu s))) false (x_of cpu s) h in
         let good = good-range l f n p.valid in
         let was = returned p.allowed good.1 in
-        let frames = back-frames legal usable cpu None KeepGuest same_cpu Nothing f n Plain good.0 was refl (hands-stay legal cpu same_cpu (always hosts) f n refl (λ d q w. ap (in_hand d) (was q w))) in
-        calm-keeps (HypDonateHost f n) refl (hyps Plain) frames refl refl was refl refl (legal.slots.some_hand cpu) p.shared_enough
+        let frames =
+        back-frames legal usable cpu None KeepGuest same_cpu Nothing f n Plain good.0 was refl
+        (hands-stay legal cpu same_cpu (always hosts) f n refl (λ d q w. ap (in_hand d) (was q w))) in
+        calm-keeps (HypDonateHost f n) refl (hyps Plain) frames refl refl was refl refl
+        (legal.slots.some_hand cpu) p.shared_enough
 
     -- the hands after a range of the host's went into an empty one
-    hands-filled : (s.cpu cpu).hand ≡ None → ((q : ℕ) → is_within f n q ≡ true → legal.condition q ≡ hosts) → (d q : ℕ) → is_in_hand (put_at s.cpu cpu (record (s.cpu cpu) { hand = Some (record { first = record { 0 = f }; count = n }) }) d).hand q ≡ in_hand d (moved_to (always (hyps (InHand cpu))) f n legal.condition q)
+    hands-filled : (s.cpu cpu).hand ≡ None
+        → ((q : ℕ) → is_within f n q ≡ true → legal.condition q ≡ hosts)
+        → (d q : ℕ)
+        → is_in_hand
+        (put_at s.cpu cpu
+        (record (s.cpu cpu) { hand = Some (record { first = record { 0 = f }; count = n }) }) d).hand q
+        ≡ in_hand d (moved_to (always (hyps (InHand cpu))) f n legal.condition q)
     hands-filled none at d q = elim (both (d == cpu)) [
       | inl e ↦
           let same : d ≡ cpu = eq-same d cpu e in
           let new : Cpu = record (s.cpu cpu) { hand = Some (record { first = record { 0 = f }; count = n }) } in
           ap (λ (k : Cpu). is_in_hand k.hand q) (if-true (d == cpu) new (s.cpu d) e) ∙ elim (both (is_within f n q)) [
-            | inl w ↦ w ∙ sym (ap (in_hand d) (moved-in (always (hyps (InHand cpu))) f n legal.condition q w) ∙ ap (λ k. cpu == k) same ∙ eq-self cpu)
-            | inr w ↦ w ∙ sym (ap (in_hand d) (moved-out (always (hyps (InHand cpu))) f n legal.condition q w) ∙ sym (legal.held.hand d q) ∙ ap (λ k. is_in_hand (s.cpu k).hand q) same ∙ ap (λ o. is_in_hand o q) none)
+            | inl w ↦ w
+                ∙ sym
+                (ap (in_hand d) (moved-in (always (hyps (InHand cpu))) f n legal.condition q w)
+                ∙ ap (λ k. cpu == k) same ∙ eq-self cpu)
+            | inr w ↦ w
+                ∙ sym
+                (ap (in_hand d) (moved-out (always (hyps (InHand cpu))) f n legal.condition q w)
+                ∙ sym (legal.held.hand d q) ∙ ap (λ k. is_in_hand (s.cpu k).hand q) same
+                ∙ ap (λ o. is_in_hand o q) none)
           ]
       | inr e ↦
           let new : Cpu = record (s.cpu cpu) { hand = Some (record { first = record { 0 = f }; count = n }) } in
-          ap (λ (k : Cpu). is_in_hand k.hand q) (if-false (d == cpu) new (s.cpu d) e) ∙ legal.held.hand d q ∙ moved-fact (in_hand d) (always (hyps (InHand cpu))) f n legal.condition q (λ w. ap (in_hand d) (at q w) ∙ sym (eq-turned cpu d e))
+          ap (λ (k : Cpu). is_in_hand k.hand q) (if-false (d == cpu) new (s.cpu d) e) ∙ legal.held.hand d q
+          ∙ moved-fact (in_hand d) (always (hyps (InHand cpu))) f n legal.condition q
+          (λ w. ap (in_hand d) (at q w) ∙ sym (eq-turned cpu d e))
     ]
 
-    pub fund-keeps : cpu < l.config.cpus → refusal l.depth (fund f n (reads l cpu None (x_of cpu s))) false (x_of cpu s) ≡ None → StepKept l s legal.condition shared None cpu (Fund f n) (fund f n (reads l cpu None (x_of cpu s))).changes
+    pub fund-keeps : cpu < l.config.cpus
+        → refusal l.depth (fund f n (reads l cpu None (x_of cpu s))) false (x_of cpu s) ≡ None
+        → StepKept l s legal.condition shared None cpu (Fund f n) (fund f n (reads l cpu None (x_of cpu s))).changes
     unfolding used_of
     fund-keeps known h =
         let p = passed l.depth (fund f n (reads l cpu None (x_of cpu s))) false (x_of cpu s) h in
         let good = good-range l f n p.valid in
         let was = donated p.allowed good.1 in
         let k = hand_becomes (Some (record { first = record { 0 = f }; count = n })) in
-        let frames = given-frames legal usable cpu None KeepGuest k Nothing f n (InHand cpu) good.0 was refl refl known (hands-filled (is_some-false (s.cpu cpu).hand p.ready) was) (λ d h. sym (eq-same cpu d h)) in
+        let frames =
+        given-frames legal usable cpu None KeepGuest k Nothing f n (InHand cpu) good.0 was refl refl known
+        (hands-filled (is_some-false (s.cpu cpu).hand p.ready) was) (λ d h. sym (eq-same cpu d h)) in
         calm-keeps (Fund f n) refl hosts frames refl refl was refl refl (λ h e. some-count n h e good.0) p.shared_enough
       where
-        some-count : (n : ℕ) (h : PageRange) → Some (record { first = record { 0 = f }; count = n }) ≡ Some h → 1 ≤ n → 1 ≤ h.count
-        some-count n h e some = let made : PageRange = record { first = record { 0 = f }; count = n } in let same : made ≡ h = cc in subst (λ (r : PageRange). 1 ≤ r.count) same some
+        some-count : (n : ℕ) (h : PageRange)
+            → Some (record { first = record { 0 = f }; count = n }) ≡ Some h
+            → 1 ≤ n
+            → 1 ≤ h.count
+        some-count n h e some = let made : PageRange = record { first = record { 0 = f }; count = n } in
+            let same : made ≡ h = cc in
+            subst (λ (r : PageRange). 1 ≤ r.count) same some
 
-  pub unfund-keeps : refusal l.depth (unfund (reads l cpu None (x_of cpu s))) false (x_of cpu s) ≡ None → StepKept l s legal.condition shared None cpu Unfund (unfund (reads l cpu None (x_of cpu s))).changes
+  pub unfund-keeps : refusal l.depth (unfund (reads l cpu None (x_of cpu s))) false (x_of cpu s) ≡ None
+      → StepKept l s legal.condition shared None cpu Unfund (unfund (reads l cpu None (x_of cpu s))).changes
   unfolding used_of
   unfund-keeps h =
       let p = passed l.depth (unfund (reads l cpu None (x_of cpu s))) false (x_of cpu s) h in
       let hand = hand_of (s.cpu cpu) in
       let was = hand-was legal cpu p.allowed in
-      let frames = back-frames legal usable cpu None KeepGuest (hand_becomes None) Nothing hand.first.0 hand.count (InHand cpu) (hand-some (s.cpu cpu).hand p.allowed (legal.slots.some_hand cpu)) was refl (hands-emptied legal cpu (hand_becomes None) hosts refl p.allowed (λ d. refl)) in
+      let frames =
+      back-frames legal usable cpu None KeepGuest (hand_becomes None) Nothing hand.first.0 hand.count (InHand cpu)
+      (hand-some (s.cpu cpu).hand p.allowed (legal.slots.some_hand cpu)) was refl
+      (hands-emptied legal cpu (hand_becomes None) hosts refl p.allowed (λ d. refl)) in
       calm-keeps Unfund refl (hyps (InHand cpu)) frames refl refl was refl refl (λ h e. cc) p.shared_enough

@@ -43,12 +43,19 @@ HandsStand k f c = (cpu : ℕ) → is_in_hand (k cpu).hand f ≡ in_hand cpu c
 
 -- searches
 
-pub first_from-is : (from n k : ℕ) (test : ℕ → Bool) → from ≤ k → k < from + n → test k ≡ true → ((j : ℕ) → test j ≡ true → j ≡ k) → first_from from n test ≡ Some k
+pub first_from-is : (from n k : ℕ) (test : ℕ → Bool)
+    → from ≤ k
+    → k < from + n
+    → test k ≡ true
+    → ((j : ℕ) → test j ≡ true → j ≡ k)
+    → first_from from n test ≡ Some k
 first_from-is from zero k test low high t u = absurd (omega arith)
 first_from-is from (suc n) k test low high t u = elim (both (test from)) [
   | inl e ↦ let same : from ≡ k = u from e in rw (first_from, e) (ap Some same)
   | inr e ↦
-      let apart : from ≡ k → ⊥ = λ same. let bad : test k ≡ false = subst (λ j. test j ≡ false) same e in let no_way : true ≡ false = sym t ∙ bad in cc in
+      let apart : from ≡ k → ⊥ = λ same. let bad : test k ≡ false = subst (λ j. test j ≡ false) same e in
+      let no_way : true ≡ false = sym t ∙ bad in
+      cc in
       rw (first_from, e) (first_from-is (suc from) n k test (grind (arith, nat_tests)) (omega arith) t u)
 ]
 
@@ -56,20 +63,32 @@ not-true : (b : Bool) → (b ≡ true → ⊥) → b ≡ false
 not-true true h = absurd (h refl)
 not-true false h = refl
 
-pub first_from-found : (from n : ℕ) (test : ℕ → Bool) → is_some (first_from from n test) ≡ true → (k : ℕ) × (test k ≡ true)
+pub first_from-found : (from n : ℕ) (test : ℕ → Bool)
+    → is_some (first_from from n test) ≡ true
+    → (k : ℕ) × (test k ≡ true)
 first_from-found from zero test h = cc
 first_from-found from (suc n) test h = elim (both (test from)) [
   | inl e ↦ (from, e)
-  | inr e ↦ let more : is_some (first_from (suc from) n test) ≡ true = rw (e, first_from) at h in first_from-found (suc from) n test more
+  | inr e ↦ let more : is_some (first_from (suc from) n test) ≡ true = rw (e, first_from) at h in
+      first_from-found (suc from) n test more
 ]
 
 -- the page that maps the frame
 
-page_of-is : (l : Layout) (m : Map) (state : State) (f k : ℕ) → k < pages_below l.depth → maps_frame f state (m k) ≡ true → ((p : ℕ) → maps_frame f state (m p) ≡ true → p ≡ k) → page_of l m state f ≡ Some k
-page_of-is l m state f k less t u = first_from-is 0 (pages_below l.depth) k (λ p. maps_frame f state (m p)) (omega arith) (omega arith) t u
+page_of-is : (l : Layout) (m : Map) (state : State) (f k : ℕ)
+    → k < pages_below l.depth
+    → maps_frame f state (m k) ≡ true
+    → ((p : ℕ) → maps_frame f state (m p) ≡ true → p ≡ k)
+    → page_of l m state f ≡ Some k
+page_of-is l m state f k less t u =
+    first_from-is 0 (pages_below l.depth) k (λ p. maps_frame f state (m p)) (omega arith) (omega arith) t u
 
-page_of-none : (l : Layout) (m : Map) (state : State) (f : ℕ) → ((p : ℕ) → maps_frame f state (m p) ≡ true → ⊥) → page_of l m state f ≡ None
-page_of-none l m state f h = first_from-none 0 (pages_below l.depth) (λ p. maps_frame f state (m p)) (λ p. not-true (maps_frame f state (m p)) (h p))
+page_of-none : (l : Layout) (m : Map) (state : State) (f : ℕ)
+    → ((p : ℕ) → maps_frame f state (m p) ≡ true → ⊥)
+    → page_of l m state f ≡ None
+page_of-none l m state f h =
+    first_from-none 0 (pages_below l.depth) (λ p. maps_frame f state (m p))
+    (λ p. not-true (maps_frame f state (m p)) (h p))
 
 -- which guest a condition names in a state, and its page
 
@@ -85,18 +104,23 @@ page_in (lent_back v g) = g
 page_in (with_guest v g) = g
 page_in other = 0
 
-guest_of-named : (state : State) (v p : ℕ) → (guest_of state (guest_condition state v p) ≡ Some v) × (page_in (guest_condition state v p) ≡ p)
+guest_of-named : (state : State) (v p : ℕ)
+    → (guest_of state (guest_condition state v p) ≡ Some v) × (page_in (guest_condition state v p) ≡ p)
 guest_of-named Owned v p = (refl, refl)
 guest_of-named SharedOwned v p = (refl, refl)
 guest_of-named SharedBorrowed v p = (refl, refl)
 
-guest_of-names : (state : State) (c : Condition) (v : ℕ) → guest_of state c ≡ Some v → c ≡ guest_condition state v (page_in c)
+guest_of-names : (state : State) (c : Condition) (v : ℕ)
+    → guest_of state c ≡ Some v
+    → c ≡ guest_condition state v (page_in c)
 guest_of-names Owned (guests u g) v h = let e : u ≡ v = cc in ap (λ w. guests w g) e
 guest_of-names SharedOwned (lent_back u g) v h = let e : u ≡ v = cc in ap (λ w. lent_back w g) e
 guest_of-names SharedBorrowed (with_guest u g) v h = let e : u ≡ v = cc in ap (λ w. with_guest w g) e
 guest_of-names state c v h = cc
 
-named-good : (l : Layout) (state : State) (v p : ℕ) → IsGood l (guest_condition state v p) → (v < 64) × (p < pages_below l.depth)
+named-good : (l : Layout) (state : State) (v p : ℕ)
+    → IsGood l (guest_condition state v p)
+    → (v < 64) × (p < pages_below l.depth)
 named-good l Owned v p h = h
 named-good l SharedOwned v p h = h
 named-good l SharedBorrowed v p h = h
@@ -115,7 +139,9 @@ free-step false r m n h k = let e : n ≡ m = omega arith in k ∙ ap (nat_lt 0)
 
 pub is_free-count : (fs : List ℕ) (f : ℕ) → is_free fs f ≡ nat_lt 0 (frame_count f fs)
 is_free-count [] f = refl
-is_free-count (g ∷ gs) f = free-step (g == f) (is_free gs f) (frame_count f gs) (frame_count f (g ∷ gs)) (count_next f g gs) (is_free-count gs f)
+is_free-count (g ∷ gs) f =
+    free-step (g == f) (is_free gs f) (frame_count f gs) (frame_count f (g ∷ gs)) (count_next f g gs)
+    (is_free-count gs f)
 
 pub is_table_frame-uses : (l : Layout) (t : Tree) (f : ℕ) → is_table_frame l t f ≡ nat_lt 0 (table_uses l.depth t f)
 unfolding table_uses
@@ -164,8 +190,13 @@ cpu-good l (hyps (InHand u)) v g h = let e : u ≡ v = some-same h in subst (λ 
 cpu-good l c v g h = cc
 
 -- a search for the only number that an option names
-search-option : (n : ℕ) (test : ℕ → Bool) (o : Option ℕ) → ((v : ℕ) → test v ≡ true → o ≡ Some v) → ((v : ℕ) → o ≡ Some v → (test v ≡ true) × (v < n)) → first_below n test ≡ o
-search-option n test (Some v) a b = let at = b v refl in first_from-is 0 n v test (omega arith) (let less : v < n = at.1 in omega arith) at.0 (λ j t. some-same (sym (a j t)))
+search-option : (n : ℕ) (test : ℕ → Bool) (o : Option ℕ)
+    → ((v : ℕ) → test v ≡ true → o ≡ Some v)
+    → ((v : ℕ) → o ≡ Some v → (test v ≡ true) × (v < n))
+    → first_below n test ≡ o
+search-option n test (Some v) a b = let at = b v refl in
+    first_from-is 0 n v test (omega arith) (let less : v < n = at.1 in omega arith) at.0
+    (λ j t. some-same (sym (a j t)))
 search-option n test None a b = first_from-none 0 n test (λ v. not-true (test v) (λ t. none-some (a v t)))
 
 and-none : (b : Bool) → (b && false) ≡ false
@@ -196,7 +227,9 @@ abbrev hyp_lends : ℕ → Condition → Option ℕ
 hyp_lends f with_hyp = Some (hyp_page f)
 hyp_lends f other = None
 
-fits-borrowed : (f : ℕ) (c : Condition) (e : Entry) → HostFits f c e → maps_frame f SharedBorrowed e ≡ is_some (host_lends f c)
+fits-borrowed : (f : ℕ) (c : Condition) (e : Entry)
+    → HostFits f c e
+    → maps_frame f SharedBorrowed e ≡ is_some (host_lends f c)
 fits-borrowed f outside e (inl h) = ap (maps_frame f SharedBorrowed) h
 fits-borrowed f outside e (inr h) = ap (maps_frame f SharedBorrowed) h ∙ and-none (f == f)
 fits-borrowed f hosts e (inl h) = ap (maps_frame f SharedBorrowed) h
@@ -233,18 +266,34 @@ hyp_lends-same f p with_hyp h = sym (some-same h)
 hyp_lends-same f p c h = cc
 
 -- the page of a map that has one page alone for the frame, where it borrows it at most
-page-by : (l : Layout) (m : Map) (f k : ℕ) (o : Option ℕ) → ((p : ℕ) → o ≡ Some p → k < pages_below l.depth) → maps_frame f SharedBorrowed (m k) ≡ is_some o → ((p : ℕ) → o ≡ Some p → p ≡ k) → ((p : ℕ) → maps_frame f SharedBorrowed (m p) ≡ true → p ≡ k) → page_of l m SharedBorrowed f ≡ o
-page-by l m f k (Some p) less h same alone = let e = same p refl in page_of-is l m SharedBorrowed f k (less p refl) h alone ∙ ap Some (sym e)
-page-by l m f k None less h same alone = page_of-none l m SharedBorrowed f (λ p t. let e = alone p t in let bad : true ≡ false = sym t ∙ ap (λ q. maps_frame f SharedBorrowed (m q)) e ∙ h in cc)
+page-by : (l : Layout) (m : Map) (f k : ℕ) (o : Option ℕ)
+    → ((p : ℕ) → o ≡ Some p → k < pages_below l.depth)
+    → maps_frame f SharedBorrowed (m k) ≡ is_some o
+    → ((p : ℕ) → o ≡ Some p → p ≡ k)
+    → ((p : ℕ) → maps_frame f SharedBorrowed (m p) ≡ true → p ≡ k)
+    → page_of l m SharedBorrowed f ≡ o
+page-by l m f k (Some p) less h same alone = let e = same p refl in
+    page_of-is l m SharedBorrowed f k (less p refl) h alone ∙ ap Some (sym e)
+page-by l m f k None less h same alone =
+    page_of-none l m SharedBorrowed f
+    (λ p t. let e = alone p t in
+    let bad : true ≡ false = sym t ∙ ap (λ q. maps_frame f SharedBorrowed (m q)) e ∙ h in
+    cc)
 
-sharer-is : (l : Layout) (s : Contents) (f : ℕ) (o : Option ℕ) → guest_with l s f SharedOwned ≡ o → sharer l s f ≡ elim o [ Some v ↦ 2 + v | None ↦ 0 ]
+sharer-is : (l : Layout) (s : Contents) (f : ℕ) (o : Option ℕ)
+    → guest_with l s f SharedOwned ≡ o
+    → sharer l s f ≡ elim o [ Some v ↦ 2 + v | None ↦ 0 ]
 sharer-is l s f o q = ap (λ (w : Option ℕ). the-sharer w) q
   where
     the-sharer : Option ℕ → ℕ
     the-sharer w = elim w [ Some v ↦ 2 + v | None ↦ 0 ]
 
 -- the owner by the host's entry and by whether the host borrows the frame
-owner-is : (l : Layout) (s : Contents) (f : ℕ) (c : Condition) (e : Entry) → HostFits f c e → is_lent_to_host l s f ≡ is_some (host_lends f c) → guest_with l s f SharedOwned ≡ guest_of SharedOwned c → owner_by l s f e ≡ (row_in f c).owner.0
+owner-is : (l : Layout) (s : Contents) (f : ℕ) (c : Condition) (e : Entry)
+    → HostFits f c e
+    → is_lent_to_host l s f ≡ is_some (host_lends f c)
+    → guest_with l s f SharedOwned ≡ guest_of SharedOwned c
+    → owner_by l s f e ≡ (row_in f c).owner.0
 owner-is l s f outside e (inl h) b q = ap (owner_by l s f) h ∙ when-not (is_lent_to_host l s f) (sharer l s f) b
 owner-is l s f outside e (inr h) b q = ap (owner_by l s f) h ∙ when-not (is_lent_to_host l s f) (sharer l s f) b
 owner-is l s f hosts e (inl h) b q = ap (owner_by l s f) h ∙ when-not (is_lent_to_host l s f) (sharer l s f) b
@@ -253,15 +302,25 @@ owner-is l s f with_hyp e h b q = ap (owner_by l s f) h ∙ when-not (is_lent_to
 owner-is l s f (hyps u) e h b q = ap (owner_by l s f) h
 owner-is l s f (with_guest v g) e h b q = ap (owner_by l s f) h ∙ when-not (is_lent_to_host l s f) (sharer l s f) b
 owner-is l s f (guests v g) e h b q = ap (owner_by l s f) h
-owner-is l s f (lent_back v g) e h b q = ap (owner_by l s f) h ∙ when-so (is_lent_to_host l s f) (sharer l s f) b ∙ sharer-is l s f (Some v) q
+owner-is l s f (lent_back v g) e h b q =
+    ap (owner_by l s f) h ∙ when-so (is_lent_to_host l s f) (sharer l s f) b ∙ sharer-is l s f (Some v) q
 
 abbrev lent_form : Option ℕ → Option ℕ → Option ℕ → (ℕ → Option ℕ) → Option Lent
 lent_form a b d e = elim a [
   | Some page ↦ Some (lent_at 0 page)
-  | None ↦ elim b [ Some page ↦ Some (lent_at 1 page) | None ↦ elim d [ Some v ↦ elim (e v) [ Some page ↦ Some (lent_at (2 + v) page) | None ↦ None ] | None ↦ None ] ]
+  | None ↦ elim b [
+    | Some page ↦ Some (lent_at 1 page)
+    | None ↦ elim d
+        [ Some v ↦ elim (e v) [ Some page ↦ Some (lent_at (2 + v) page) | None ↦ None ] | None ↦ None ]
+  ]
 ]
 
-lent-go : (f : ℕ) (c : Condition) (a b d : Option ℕ) (e : ℕ → Option ℕ) → a ≡ host_lends f c → b ≡ hyp_lends f c → d ≡ guest_of SharedBorrowed c → ((v : ℕ) → guest_of SharedBorrowed c ≡ Some v → e v ≡ Some (page_in c)) → lent_form a b d e ≡ (row_in f c).lent
+lent-go : (f : ℕ) (c : Condition) (a b d : Option ℕ) (e : ℕ → Option ℕ)
+    → a ≡ host_lends f c
+    → b ≡ hyp_lends f c
+    → d ≡ guest_of SharedBorrowed c
+    → ((v : ℕ) → guest_of SharedBorrowed c ≡ Some v → e v ≡ Some (page_in c))
+    → lent_form a b d e ≡ (row_in f c).lent
 lent-go f outside a b d e p q r u = rw (p, q, r)
 lent-go f hosts a b d e p q r u = rw (p, q, r)
 lent-go f with_hyp a b d e p q r u = rw (p, q)
@@ -270,14 +329,30 @@ lent-go f (with_guest v g) a b d e p q r u = rw (p, q, r, u v refl)
 lent-go f (guests v g) a b d e p q r u = rw (p, q, r)
 lent-go f (lent_back v g) a b d e p q r u = rw p
 
-lent-is : (l : Layout) (s : Contents) (f : ℕ) (c : Condition) → page_of l s.shared.host.map SharedBorrowed f ≡ host_lends f c → page_of l s.shared.hyp.map SharedBorrowed f ≡ hyp_lends f c → guest_with l s f SharedBorrowed ≡ guest_of SharedBorrowed c
-    → ((v : ℕ) → guest_of SharedBorrowed c ≡ Some v → page_of l (s.guest v).tree.map SharedBorrowed f ≡ Some (page_in c)) → lent_to l s f ≡ (row_in f c).lent
-lent-is l s f c p q r u = lent-go f c (page_of l s.shared.host.map SharedBorrowed f) (page_of l s.shared.hyp.map SharedBorrowed f) (guest_with l s f SharedBorrowed) (λ v. page_of l (s.guest v).tree.map SharedBorrowed f) p q r u
+lent-is : (l : Layout) (s : Contents) (f : ℕ) (c : Condition)
+    → page_of l s.shared.host.map SharedBorrowed f ≡ host_lends f c
+    → page_of l s.shared.hyp.map SharedBorrowed f ≡ hyp_lends f c
+    → guest_with l s f SharedBorrowed ≡ guest_of SharedBorrowed c
+    → ((v : ℕ)
+    → guest_of SharedBorrowed c ≡ Some v
+    → page_of l (s.guest v).tree.map SharedBorrowed f ≡ Some (page_in c))
+    → lent_to l s f ≡ (row_in f c).lent
+lent-is l s f c p q r u =
+    lent-go f c (page_of l s.shared.host.map SharedBorrowed f) (page_of l s.shared.hyp.map SharedBorrowed f)
+    (guest_with l s f SharedBorrowed) (λ v. page_of l (s.guest v).tree.map SharedBorrowed f) p q r u
 
 abbrev usage_form : Bool → Option ℕ → Option ℕ → Usage
-usage_form a b d = elim a [ true ↦ SharedPool | false ↦ elim b [ Some v ↦ VmPool v | None ↦ elim d [ Some c ↦ InHand c | None ↦ Plain ] ] ]
+usage_form a b d =
+    elim a [
+      | true ↦ SharedPool
+      | false ↦ elim b [ Some v ↦ VmPool v | None ↦ elim d [ Some c ↦ InHand c | None ↦ Plain ] ]
+    ]
 
-usage-go : (f : ℕ) (c : Condition) (a : Bool) (b d : Option ℕ) → a ≡ in_shared c → b ≡ vm_of c → d ≡ cpu_of c → usage_form a b d ≡ (row_in f c).usage
+usage-go : (f : ℕ) (c : Condition) (a : Bool) (b d : Option ℕ)
+    → a ≡ in_shared c
+    → b ≡ vm_of c
+    → d ≡ cpu_of c
+    → usage_form a b d ≡ (row_in f c).usage
 usage-go f (hyps SharedPool) a b d p q r = rw p
 usage-go f (hyps (VmPool v)) a b d p q r = rw (p, q)
 usage-go f (hyps (InHand v)) a b d p q r = rw (p, q, r)
@@ -289,28 +364,45 @@ usage-go f (with_guest v g) a b d p q r = rw (p, q, r)
 usage-go f (guests v g) a b d p q r = rw (p, q, r)
 usage-go f (lent_back v g) a b d p q r = rw (p, q, r)
 
-usage-is : (l : Layout) (s : Contents) (f : ℕ) (c : Condition) → is_in_shared_pool l s f ≡ in_shared c → vm_pool_of l s f ≡ vm_of c → holding_cpu l s f ≡ cpu_of c → usage_of l s f ≡ (row_in f c).usage
+usage-is : (l : Layout) (s : Contents) (f : ℕ) (c : Condition)
+    → is_in_shared_pool l s f ≡ in_shared c
+    → vm_pool_of l s f ≡ vm_of c
+    → holding_cpu l s f ≡ cpu_of c
+    → usage_of l s f ≡ (row_in f c).usage
 usage-is l s f c p q r = usage-go f c (is_in_shared_pool l s f) (vm_pool_of l s f) (holding_cpu l s f) p q r
 
 make_row : ℕ → Option Lent → Usage → Row
 make_row owner lent usage = record { owner = record { 0 = owner }; lent = lent; usage = usage }
 
-row-is : (l : Layout) (s : Contents) (f : ℕ) (c : Condition) → owner_by l s f (s.shared.host.map f) ≡ (row_in f c).owner.0 → lent_to l s f ≡ (row_in f c).lent → usage_of l s f ≡ (row_in f c).usage → row_of l s f ≡ row_in f c
+row-is : (l : Layout) (s : Contents) (f : ℕ) (c : Condition)
+    → owner_by l s f (s.shared.host.map f) ≡ (row_in f c).owner.0
+    → lent_to l s f ≡ (row_in f c).lent
+    → usage_of l s f ≡ (row_in f c).usage
+    → row_of l s f ≡ row_in f c
 unfolding row_of make_row
 row-is l s f c a b d = same3 make_row a b d
 
-module _ (l : Layout) (s : Contents) (f : ℕ) (c : Condition) (x : SharedStands l s.shared f c) (g : GuestsStand l s.guest f c) (k : HandsStand s.cpu f c) (good : IsGood l c) where
+module _ (l : Layout) (s : Contents) (f : ℕ) (c : Condition) (x : SharedStands l s.shared f c)
+    (g : GuestsStand l s.guest f c) (k : HandsStand s.cpu f c) (good : IsGood l c) where
   -- the page of a guest that maps the frame
-  guest-page : (state : State) (v : ℕ) → guest_of state c ≡ Some v → page_of l (s.guest v).tree.map state f ≡ Some (page_in c)
+  guest-page : (state : State) (v : ℕ)
+      → guest_of state c ≡ Some v
+      → page_of l (s.guest v).tree.map state f ≡ Some (page_in c)
   guest-page state v h =
       let named = guest_of-names state c v h in
       let limits = named-good l state v (page_in c) (subst (IsGood l) named good) in
-      page_of-is l (s.guest v).tree.map state f (page_in c) limits.1 (g.has v (page_in c) state named) (λ p t. sym (ap page_in (g.alone v p state t) ∙ (guest_of-named state v p).1))
+      page_of-is l (s.guest v).tree.map state f (page_in c) limits.1 (g.has v (page_in c) state named)
+      (λ p t. sym (ap page_in (g.alone v p state t) ∙ (guest_of-named state v p).1))
 
   guest-search : (state : State) → guest_with l s f state ≡ guest_of state c
   guest-search state = search-option 64 (λ v. is_some (page_of l (s.guest v).tree.map state f)) (guest_of state c)
-      (λ v t. let found = first_from-found 0 (pages_below l.depth) (λ p. maps_frame f state ((s.guest v).tree.map p)) t in ap (guest_of state) (g.alone v found.0 state found.1) ∙ (guest_of-named state v found.0).0)
-      (λ v h. (ap is_some (guest-page state v h), (named-good l state v (page_in c) (subst (IsGood l) (guest_of-names state c v h) good)).0))
+      (λ v t. let found =
+      first_from-found 0 (pages_below l.depth) (λ p. maps_frame f state ((s.guest v).tree.map p)) t in
+      ap (guest_of state) (g.alone v found.0 state found.1) ∙ (guest_of-named state v found.0).0)
+      (λ v h. (
+        ap is_some (guest-page state v h),
+        (named-good l state v (page_in c) (subst (IsGood l) (guest_of-names state c v h) good)).0,
+      ))
 
   pool-search : vm_pool_of l s f ≡ vm_of c
   pool-search = search-option 64 (λ v. is_free (s.guest v).free f || is_table_frame l (s.guest v).tree f) (vm_of c)
@@ -318,7 +410,10 @@ module _ (l : Layout) (s : Contents) (f : ℕ) (c : Condition) (x : SharedStands
       (λ v h. (pool-test v ∙ in-vm_of c v h, vm-good l c v good h))
     where
       pool-test : (v : ℕ) → (is_free (s.guest v).free f || is_table_frame l (s.guest v).tree f) ≡ in_vm v c
-      pool-test v = rw (is_free-count (s.guest v).free f, is_table_frame-uses l (s.guest v).tree f) (two-tests (frame_count f (s.guest v).free) (table_uses l.depth (s.guest v).tree f) (in_vm v c) (g.held v))
+      pool-test v =
+          rw (is_free-count (s.guest v).free f, is_table_frame-uses l (s.guest v).tree f)
+          (two-tests (frame_count f (s.guest v).free) (table_uses l.depth (s.guest v).tree f) (in_vm v c)
+          (g.held v))
 
   hand-search : holding_cpu l s f ≡ cpu_of c
   hand-search = search-option l.config.cpus (λ cpu. is_in_hand (s.cpu cpu).hand f) (cpu_of c)
@@ -326,7 +421,10 @@ module _ (l : Layout) (s : Contents) (f : ℕ) (c : Condition) (x : SharedStands
       (λ v h. (k v ∙ in-cpu_of c v h, cpu-good l c v good h))
 
   shared-test : is_in_shared_pool l s f ≡ in_shared c
-  shared-test = rw (is_free-count s.shared.free f, is_table_frame-uses l s.shared.host f, is_table_frame-uses l s.shared.hyp f) (three-tests (frame_count f s.shared.free) (table_uses l.depth s.shared.host f) (table_uses l.depth s.shared.hyp f) (in_shared c) x.held)
+  shared-test =
+      rw (is_free-count s.shared.free f, is_table_frame-uses l s.shared.host f, is_table_frame-uses l s.shared.hyp f)
+      (three-tests (frame_count f s.shared.free) (table_uses l.depth s.shared.host f)
+      (table_uses l.depth s.shared.hyp f) (in_shared c) x.held)
 
   -- the use from scratch is that of the condition
   pub usage-stands : (row_of l s f).usage ≡ (row_in f c).usage
@@ -341,7 +439,14 @@ module _ (l : Layout) (s : Contents) (f : ℕ) (c : Condition) (x : SharedStands
       (usage-is l s f c shared-test pool-search hand-search)
     where
       host-page : page_of l s.shared.host.map SharedBorrowed f ≡ host_lends f c
-      host-page = page-by l s.shared.host.map f f (host_lends f c) (λ p h. let k = less (host_lends-inside f p c h) in omega arith) (fits-borrowed f c (s.shared.host.map f) x.host) (λ p. host_lends-same f p c) (λ p. x.host_alone p SharedBorrowed)
+      host-page =
+          page-by l s.shared.host.map f f (host_lends f c)
+          (λ p h. let k = less (host_lends-inside f p c h) in omega arith)
+          (fits-borrowed f c (s.shared.host.map f) x.host) (λ p. host_lends-same f p c)
+          (λ p. x.host_alone p SharedBorrowed)
 
       hyp-page : page_of l s.shared.hyp.map SharedBorrowed f ≡ hyp_lends f c
-      hyp-page = page-by l s.shared.hyp.map f (hyp_page f) (hyp_lends f c) (λ p h. less (hyp_lends-inside f p c h)) (ap (maps_frame f SharedBorrowed) x.hyp ∙ says-borrowed f c) (λ p. hyp_lends-same f p c) (λ p. x.hyp_alone p SharedBorrowed)
+      hyp-page =
+          page-by l s.shared.hyp.map f (hyp_page f) (hyp_lends f c) (λ p h. less (hyp_lends-inside f p c h))
+          (ap (maps_frame f SharedBorrowed) x.hyp ∙ says-borrowed f c) (λ p. hyp_lends-same f p c)
+          (λ p. x.hyp_alone p SharedBorrowed)

@@ -1,4 +1,5 @@
--- Frames that the host gave for a VM: they stay with the hypervisor until the VM is Dying, and before that in the CPU's hand.
+-- Frames that the host gave for a VM: they stay with the hypervisor until the VM is Dying, and
+-- before that in the CPU's hand.
 use Rattle.std.specs.Prelude.{◌≡◌, ℕ, ◌+◌, ◌<◌, ◌⊎◌, List}
 use Rattle.page_state.specs.Layouts.{Layout}
 use Rattle.page_state.specs.Trees.{Block}
@@ -30,16 +31,31 @@ pub record TakesBack (s : Contents) (cpu : ℕ) (step : Step) (v : ℕ) : Type 0
 abbrev pub GivesHandOn : Step → Type 0
 GivesHandOn step = (step ≡ Unfund) ⊎ (step ≡ Install) ⊎ ((vm : VmId) × (step ≡ Topup vm))
 
--- a frame that is held for a guest is held for it after each step from a legal state, unless the guest is Dying and the step takes it back
+-- a frame that is held for a guest is held for it after each step from a legal state, unless the
+-- guest is Dying and the step takes it back
 abbrev pub HeldStays : Type 0
-HeldStays = (l : Layout) (s t : Reference) (c : Call) (v f : ℕ) → IsUsable l → c.cpu < l.config.cpus → Legal l s.contents → Steps l s c t
+HeldStays =
+    (l : Layout) (s t : Reference) (c : Call) (v f : ℕ)
+    → IsUsable l
+    → c.cpu < l.config.cpus
+    → Legal l s.contents
+    → Steps l s c t
     → IsHeldFor s.contents v f → IsHeldFor t.contents v f ⊎ TakesBack s.contents c.cpu c.step v
 
 -- and so after each step that follows a run
 abbrev pub RunHeldStays : Type 0
-RunHeldStays = (l : Layout) (cs : List Call) (s t : Reference) (c : Call) (v f : ℕ) → CanBoot l → c.cpu < l.config.cpus → IsRun l cs s → Steps l s c t
+RunHeldStays =
+    (l : Layout) (cs : List Call) (s t : Reference) (c : Call) (v f : ℕ)
+    → CanBoot l
+    → c.cpu < l.config.cpus
+    → IsRun l cs s
+    → Steps l s c t
     → IsHeldFor s.contents v f → IsHeldFor t.contents v f ⊎ TakesBack s.contents c.cpu c.step v
 
 -- a frame in a CPU's hand is there after each step, unless that CPU gives its hand on
 abbrev pub HandStays : Type 0
-HandStays = (l : Layout) (s t : Reference) (c : Call) (k f : ℕ) → Steps l s c t → IsHeld s.contents f (hand k) → IsHeld t.contents f (hand k) ⊎ ((c.cpu ≡ k) × GivesHandOn c.step)
+HandStays =
+    (l : Layout) (s t : Reference) (c : Call) (k f : ℕ)
+    → Steps l s c t
+    → IsHeld s.contents f (hand k)
+    → IsHeld t.contents f (hand k) ⊎ ((c.cpu ≡ k) × GivesHandOn c.step)

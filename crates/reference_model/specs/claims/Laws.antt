@@ -18,15 +18,26 @@ use Rattle.reference_model.specs.model.Stored.{StoresCall}
 
 -- a step that refuses leaves the state but for the rooms of logs
 abbrev pub RefusalKeeps : Type 0
-RefusalKeeps = (l : Layout) (s t : Reference) (c : Call) (why : Refusal) → Steps l s c t → c.reply ≡ Refused why → t.contents ≡ s.contents
+RefusalKeeps =
+    (l : Layout) (s t : Reference) (c : Call) (why : Refusal)
+    → Steps l s c t
+    → c.reply ≡ Refused why
+    → t.contents ≡ s.contents
 
 -- LogFull leaves the rooms too
 abbrev pub LogFullKeeps : Type 0
-LogFullKeeps = (l : Layout) (s t : Reference) (c : Call) → Steps l s c t → c.reply ≡ Refused LogFull → t ≡ s
+LogFullKeeps =
+    (l : Layout) (s t : Reference) (c : Call) → Steps l s c t → c.reply ≡ Refused LogFull → t ≡ s
 
 -- each step of each CPU has a call, whose reply and next state are the foretold ones
 abbrev pub StepExists : Type 0
-StepExists = (l : Layout) (s : Reference) (cpu : ℕ) (step : Step) → (c : Call) × (c.cpu ≡ cpu) × (c.step ≡ step) × (c.reply ≡ (foretell l s cpu step).0) × Steps l s c (foretell l s cpu step).1
+StepExists =
+    (l : Layout) (s : Reference) (cpu : ℕ) (step : Step)
+    → (c : Call)
+    × (c.cpu ≡ cpu)
+    × (c.step ≡ step)
+    × (c.reply ≡ (foretell l s cpu step).0)
+    × Steps l s c (foretell l s cpu step).1
 
 -- a call has one next state
 abbrev pub StepOnce : Type 0
@@ -34,7 +45,15 @@ StepOnce = (l : Layout) (s t u : Reference) (c : Call) → Steps l s c t → Ste
 
 -- but for want of memory a step of a CPU has one call, so one reply
 abbrev pub ReplyOnce : Type 0
-ReplyOnce = (l : Layout) (s t u : Reference) (c d : Call) → Steps l s c t → Steps l s d u → d.cpu ≡ c.cpu → d.step ≡ c.step → c.reply ≢ Refused NoMemory → d.reply ≢ Refused NoMemory → d ≡ c
+ReplyOnce =
+    (l : Layout) (s t u : Reference) (c d : Call)
+    → Steps l s c t
+    → Steps l s d u
+    → d.cpu ≡ c.cpu
+    → d.step ≡ c.step
+    → c.reply ≢ Refused NoMemory
+    → d.reply ≢ Refused NoMemory
+    → d ≡ c
 
 -- two runs of the same calls and replies have one end
 abbrev pub EndOnce : Type 0
@@ -42,7 +61,13 @@ EndOnce = (l : Layout) (cs : List Call) (t u : Reference) → IsRun l cs t → I
 
 -- two runs with the same parts, and the same calls of each CPU, have one end
 abbrev pub PartsEnd : Type 0
-PartsEnd = (l : Layout) (cs ds : List Call) (t u : Reference) → IsRun l cs t → IsRun l ds u → ((p : Part) → calls_on p ds ≡ calls_on p cs) → ((cpu : ℕ) → calls_by cpu ds ≡ calls_by cpu cs) → t ≡ u
+PartsEnd =
+    (l : Layout) (cs ds : List Call) (t u : Reference)
+    → IsRun l cs t
+    → IsRun l ds u
+    → ((p : Part) → calls_on p ds ≡ calls_on p cs)
+    → ((cpu : ℕ) → calls_by cpu ds ≡ calls_by cpu cs)
+    → t ≡ u
 
 -- the VM part of a state, with the room of its log
 abbrev pub vms_in : Reference → Vms × ℕ
@@ -60,7 +85,8 @@ guest_in v s = (s.contents.guest v, s.rooms.guest v)
 abbrev pub cpu_in : ℕ → Reference → Cpu × ℕ
 cpu_in c s = (s.contents.cpu c, s.rooms.cpu c)
 
--- two states agree on what a call uses: its parts and its CPU's own state, with the rooms of their logs
+-- two states agree on what a call uses: its parts and its CPU's own state, with the rooms of their
+-- logs
 pub record Agree (c : Call) (s t : Reference) : Type 0 where
   pub vms : IsTrue (call_uses vm_part c) → vms_in t ≡ vms_in s
   pub shared : IsTrue (call_uses shared_part c) → shared_in t ≡ shared_in s
@@ -78,13 +104,23 @@ pub record AgreeBeside (c : Call) (s t : Reference) : Type 0 where
 abbrev pub StepChanges : Type 0
 StepChanges = (l : Layout) (s t : Reference) (c : Call) → Steps l s c t → AgreeBeside c s t
 
--- frame rule: a step reads only the parts that its call uses, so it can be made in any state that has these, and does the same there
+-- frame rule: a step reads only the parts that its call uses, so it can be made in any state that
+-- has these, and does the same there
 abbrev pub StepReads : Type 0
-StepReads = (l : Layout) (s t s' : Reference) (c : Call) → Agree c s s' → Steps l s c t → (t' : Reference) × Steps l s' c t' × Agree c t t'
+StepReads =
+    (l : Layout) (s t s' : Reference) (c : Call)
+    → Agree c s s'
+    → Steps l s c t
+    → (t' : Reference) × Steps l s' c t' × Agree c t t'
 
 -- frame rule: from states that agree on what a call uses it leads to states that agree there
 abbrev pub StepAgrees : Type 0
-StepAgrees = (l : Layout) (s t s' t' : Reference) (c : Call) → Agree c s s' → Steps l s c t → Steps l s' c t' → Agree c t t'
+StepAgrees =
+    (l : Layout) (s t s' t' : Reference) (c : Call)
+    → Agree c s s'
+    → Steps l s c t
+    → Steps l s' c t'
+    → Agree c t t'
 
 -- the boot state is sound, where the carve-out has a frame for each table
 abbrev pub BootSound : Type 0
@@ -92,8 +128,25 @@ BootSound = (l : Layout) → IsCarveEnough l → Sound l (boot l).contents
 
 -- the boot state with empty logs has the empty history
 abbrev pub HistoryBegins : Type 0
-HistoryBegins = (l : Layout) → IsHistory l (record { vms = ((boot l).contents.vms, []); shared = ((boot l).contents.shared, []); guest = λ v. ((boot l).contents.guest v, []); cpu = λ c. ((boot l).contents.cpu c, []) }) []
+HistoryBegins =
+    (l : Layout)
+    → IsHistory l
+    (record {
+      vms = ((boot l).contents.vms, []);
+      shared = ((boot l).contents.shared, []);
+      guest =
+          λ v. ((boot l).contents.guest v, []);
+      cpu = λ c. ((boot l).contents.cpu c, []);
+    })
+    []
 
 -- a legal history grows by each call that leads on from its end and is stored just where it is used
 abbrev pub HistoryGrows : Type 0
-HistoryGrows = (l : Layout) (before after : Kept) (log : List Call) (c : Call) (t : Reference) (h : IsHistory l before log) → Steps l h.end c t → IsStored c.reply → c.cpu < l.config.cpus → StoresCall c t.contents before after → IsHistory l after (log ++ c ∷ [])
+HistoryGrows =
+    (l : Layout) (before after : Kept) (log : List Call) (c : Call) (t : Reference)
+    (h : IsHistory l before log)
+    → Steps l h.end c t
+    → IsStored c.reply
+    → c.cpu < l.config.cpus
+    → StoresCall c t.contents before after
+    → IsHistory l after (log ++ c ∷ [])

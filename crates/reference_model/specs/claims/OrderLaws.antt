@@ -9,8 +9,19 @@ use Rattle.reference_model.specs.model.History.{calls_on, calls_by, Kept, IsHist
 
 -- a list with the parts of a run, and its calls of each CPU, is a run to the same end
 abbrev pub PartsRun : Type 0
-PartsRun = (l : Layout) (cs ds : List Call) (t : Reference) → IsRun l cs t → ((p : Part) → calls_on p ds ≡ calls_on p cs) → ((cpu : ℕ) → calls_by cpu ds ≡ calls_by cpu cs) → IsRun l ds t
+PartsRun =
+    (l : Layout) (cs ds : List Call) (t : Reference)
+    → IsRun l cs t
+    → ((p : Part) → calls_on p ds ≡ calls_on p cs)
+    → ((cpu : ℕ) → calls_by cpu ds ≡ calls_by cpu cs)
+    → IsRun l ds t
 
--- a list with the parts of a legal history, and its calls of each CPU, is a legal history of the same
+-- a list with the parts of a legal history, and its calls of each CPU, is a legal history of the
+-- same
 abbrev pub PartsHistory : Type 0
-PartsHistory = (l : Layout) (kept : Kept) (cs ds : List Call) → IsHistory l kept cs → ((p : Part) → calls_on p ds ≡ calls_on p cs) → ((cpu : ℕ) → calls_by cpu ds ≡ calls_by cpu cs) → IsHistory l kept ds
+PartsHistory =
+    (l : Layout) (kept : Kept) (cs ds : List Call)
+    → IsHistory l kept cs
+    → ((p : Part) → calls_on p ds ≡ calls_on p cs)
+    → ((cpu : ℕ) → calls_by cpu ds ≡ calls_by cpu cs)
+    → IsHistory l kept ds

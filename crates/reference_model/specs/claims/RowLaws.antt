@@ -1,4 +1,5 @@
--- What an owner row says of its frame, in the words of maps and places, and that the kept rows of a run say so.
+-- What an owner row says of its frame, in the words of maps and places, and that the kept rows of a
+-- run say so.
 use Rattle.std.specs.Prelude.{◌≡◌, ◌≢◌, ℕ, zero, suc, ◌↔◌, true, List, Option, Some, None}
 use Rattle.descriptor.specs.declared.State.TheVariants.{SharedBorrowed}
 use Rattle.call_table.specs.declared.reply.Call.{Call}
@@ -13,16 +14,20 @@ use Rattle.reference_model.specs.model.Run.{IsRun}
 use Rattle.reference_model.specs.claims.Sound.{IsOne, Maps, Holds, IsHostsOwn, IsBorrowed, Place, shared_pool, vm_pool, table_of, hand, IsHeld}
 use Rattle.reference_model.specs.model.State.{Contents, Reference}
 
--- a row's owner: the host, whose page of the frame is its own, or the one that has the frame's one entry Owned or SharedOwned
+-- a row's owner: the host, whose page of the frame is its own, or the one that has the frame's one
+-- entry Owned or SharedOwned
 pub record IsOwner (s : Contents) (f : ℕ) (owner : ℕ) : Type 0 where
   pub host : owner ≡ 0 → IsHostsOwn f (s.shared.host.map f)
   pub other : owner ≢ 0 → IsOne (λ page. Holds s owner page f)
   pub alone : (component page : ℕ) → Holds s component page f → component ≡ owner
 
--- a row's borrower maps the frame SharedBorrowed at the row's page, and there is no other such entry
+-- a row's borrower maps the frame SharedBorrowed at the row's page, and there is no other such
+-- entry
 pub record IsBorrower (s : Contents) (f : ℕ) (lent : Lent) : Type 0 where
   pub maps : Maps s lent.owner.0 lent.page f SharedBorrowed
-  pub alone : (component page : ℕ) → Maps s component page f SharedBorrowed → (component ≡ lent.owner.0) × (page ≡ lent.page)
+  pub alone : (component page : ℕ)
+      → Maps s component page f SharedBorrowed
+      → (component ≡ lent.owner.0) × (page ≡ lent.page)
 
 -- a row is lent to the frame's borrower, and to nobody where nobody borrows the frame
 abbrev pub IsLentTo : Contents → ℕ → Option Lent → Type 0
@@ -38,7 +43,8 @@ use_of (table_of (suc zero) b) = SharedPool
 use_of (table_of (suc (suc v)) b) = VmPool v
 use_of (hand c) = InHand c
 
--- a row's use: Plain exactly where no place holds the frame, and any other where a place of that use does; no place of another use holds it
+-- a row's use: Plain exactly where no place holds the frame, and any other where a place of that
+-- use does; no place of another use holds it
 pub record IsUse (s : Contents) (f : ℕ) (usage : Usage) : Type 0 where
   pub plain : usage ≡ Plain ↔ ((p : Place) → ¬ IsHeld s f p)
   pub held : usage ≢ Plain → (p : Place) × IsHeld s f p × (use_of p ≡ usage)
@@ -52,11 +58,21 @@ pub record IsRowOf (s : Contents) (f : ℕ) (row : Row) : Type 0 where
 
 -- in a legal state the kept row of each memory frame is true
 abbrev pub LegalRowsTrue : Type 0
-LegalRowsTrue = (l : Layout) (s : Contents) (f : ℕ) → IsUsable l → Legal l s → is_memory l f ≡ true → IsRowOf s f (s.shared.row f)
+LegalRowsTrue =
+    (l : Layout) (s : Contents) (f : ℕ)
+    → IsUsable l
+    → Legal l s
+    → is_memory l f ≡ true
+    → IsRowOf s f (s.shared.row f)
 
 -- and so it does in each state of a run
 abbrev pub RunRowsTrue : Type 0
-RunRowsTrue = (l : Layout) (cs : List Call) (t : Reference) (f : ℕ) → CanBoot l → IsRun l cs t → is_memory l f ≡ true → IsRowOf t.contents f (t.contents.shared.row f)
+RunRowsTrue =
+    (l : Layout) (cs : List Call) (t : Reference) (f : ℕ)
+    → CanBoot l
+    → IsRun l cs t
+    → is_memory l f ≡ true
+    → IsRowOf t.contents f (t.contents.shared.row f)
 
 -- at most one row is true of a frame
 abbrev pub RowOnce : Type 0

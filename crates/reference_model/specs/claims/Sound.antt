@@ -50,19 +50,30 @@ owner l s f = (row_of l s f).owner.0
 abbrev pub usage : Layout → Contents → ℕ → Usage
 usage l s f = (row_of l s f).usage
 
--- one owner of each memory frame: what it owns the host has Unmapped, Owned or SharedOwned; another owner has exactly one such entry. Of any frame, memory or not, nobody but the owner has one
+-- one owner of each memory frame: what it owns the host has Unmapped, Owned or SharedOwned; another
+-- owner has exactly one such entry. Of any frame, memory or not, nobody but the owner has one
 pub record OneOwner (l : Layout) (s : Contents) : Type 0 where
-  pub host_owned : (f : ℕ) → IsTrue (is_memory l f) → owner l s f ≡ 0 → IsHostsOwn f (s.shared.host.map f)
-  pub owned : (f : ℕ) → IsTrue (is_memory l f) → owner l s f ≢ 0 → IsOne (λ page. Holds s (owner l s f) page f)
+  pub host_owned : (f : ℕ)
+      → IsTrue (is_memory l f)
+      → owner l s f ≡ 0
+      → IsHostsOwn f (s.shared.host.map f)
+  pub owned : (f : ℕ)
+      → IsTrue (is_memory l f)
+      → owner l s f ≢ 0
+      → IsOne (λ page. Holds s (owner l s f) page f)
   pub no_other : (f component page : ℕ) → Holds s component page f → component ≡ owner l s f
 
 -- somebody borrows the frame
 abbrev pub IsBorrowed : Contents → ℕ → Type 0
 IsBorrowed s f = (component : ℕ) × (page : ℕ) × Maps s component page f SharedBorrowed
 
--- one borrower: at most one entry of a frame is SharedBorrowed, and there is one exactly where the owner's entry is SharedOwned
+-- one borrower: at most one entry of a frame is SharedBorrowed, and there is one exactly where the
+-- owner's entry is SharedOwned
 pub record OneBorrower (l : Layout) (s : Contents) : Type 0 where
-  pub one_borrower : (f a page b other : ℕ) → Maps s a page f SharedBorrowed → Maps s b other f SharedBorrowed → (b ≡ a) × (other ≡ page)
+  pub one_borrower : (f a page b other : ℕ)
+      → Maps s a page f SharedBorrowed
+      → Maps s b other f SharedBorrowed
+      → (b ≡ a) × (other ≡ page)
   pub lent : (f : ℕ) → IsBorrowed s f ↔ ((page : ℕ) × Maps s (owner l s f) page f SharedOwned)
 
 -- a place that holds frames: a pool's free set, the table of a component at a block, or a hand
@@ -99,10 +110,16 @@ StageFits closing_vm stand phase = (stand ≡ closing) × (phase ≡ live)
 StageFits dying_vm stand phase = (stand ≡ closing) × (phase ≡ dying)
 StageFits finished stand phase = (stand ≡ closing) × (phase ≡ empty)
 
--- slots and loads agree: a CPU has a vCPU loaded exactly where the VM part names it, and the slot is then Open, of that generation
+-- slots and loads agree: a CPU has a vCPU loaded exactly where the VM part names it, and the slot
+-- is then Open, of that generation
 pub record LoadsAgree (s : Contents) : Type 0 where
-  pub loaded : (c : ℕ) (k : Loaded) → (s.cpu c).loaded ≡ Some k → ((s.vms.slot k.vm.slot).loaded k.vcpu ≡ Some c) × ((s.vms.slot k.vm.slot).generation ≡ k.vm.generation)
-  pub loads : (v i c : ℕ) → (s.vms.slot v).loaded i ≡ Some c → ((s.vms.slot v).stand ≡ opened) × HasLoaded s v i c
+  pub loaded : (c : ℕ) (k : Loaded)
+      → (s.cpu c).loaded ≡ Some k
+      → ((s.vms.slot k.vm.slot).loaded k.vcpu ≡ Some c)
+      × ((s.vms.slot k.vm.slot).generation ≡ k.vm.generation)
+  pub loads : (v i c : ℕ)
+      → (s.vms.slot v).loaded i ≡ Some c
+      → ((s.vms.slot v).stand ≡ opened) × HasLoaded s v i c
 
 -- a guest that isn't Empty has its slot's generation and kind
 pub record IsGuestOf (s : Contents) (v : ℕ) : Type 0 where

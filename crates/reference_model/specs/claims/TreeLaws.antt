@@ -1,4 +1,5 @@
--- Laws of the trees of runs: each is the one coarsest tree of its map, so maps and numbers of free frames alone tell whether a pool is short.
+-- Laws of the trees of runs: each is the one coarsest tree of its map, so maps and numbers of free
+-- frames alone tell whether a pool is short.
 use Rattle.std.specs.Prelude.{◌≡◌, ℕ, ◌+◌, ◌<◌, Bool, ◌||◌, nat_lt, List, length, Option, Some, None, if◌then◌else◌}
 use Rattle.coarse_trees.specs.Coarsest.{IsCanonical, map_need}
 use Rattle.page_state.specs.Layouts.{Layout}
@@ -24,22 +25,36 @@ pub record AreCanonical (l : Layout) (s : Contents) : Type 0 where
 
 -- so are the trees of each state of a run
 abbrev pub RunCanonical : Type 0
-RunCanonical = (l : Layout) (cs : List Call) (t : Reference) → CanBoot l → IsRun l cs t → AreCanonical l t.contents
+RunCanonical =
+    (l : Layout) (cs : List Call) (t : Reference)
+    → CanBoot l
+    → IsRun l cs t
+    → AreCanonical l t.contents
 
--- a pool has fewer free frames than changes need, by the maps of its trees and the number of its free frames
+-- a pool has fewer free frames than changes need, by the maps of its trees and the number of its
+-- free frames
 abbrev pub is_short_by_maps : ℕ → Changes → Used → Bool
 is_short_by_maps depth h x =
-    nat_lt (length x.shared.free) (map_need depth x.shared.host.map (edit_of h.host) + map_need depth x.shared.hyp.map (edit_of h.hyp))
+    nat_lt (length x.shared.free)
+    (map_need depth x.shared.host.map (edit_of h.host) + map_need depth x.shared.hyp.map
+    (edit_of h.hyp))
     || nat_lt (length x.guest.free) (map_need depth x.guest.tree.map (edit_of h.guest))
 
 -- the first test of a step that fails: one of its rule's, or then that of the pools
 abbrev pub fails_by_maps : Layout → ℕ → Option ℕ → Step → Used → Option Refusal
 fails_by_maps l cpu slot step x =
     let r = rule_of l cpu slot step x in
-    or_else (first_test r (lacks_slot (names step) slot)) (if is_short_by_maps l.depth r.changes x then Some NoPool else None)
+    or_else (first_test r (lacks_slot (names step) slot))
+    (if is_short_by_maps l.depth r.changes x then Some NoPool else None)
 
 -- in each state of a run maps and numbers of free frames tell it
 abbrev pub RunFailsByMaps : Type 0
-RunFailsByMaps = (l : Layout) (cs : List Call) (t : Reference) (cpu : ℕ) (slot : Option ℕ) (step : Step) → CanBoot l → IsRun l cs t → cpu < l.config.cpus → slot ≡ guest_slot (t.contents.cpu cpu) step →
+RunFailsByMaps =
+    (l : Layout) (cs : List Call) (t : Reference) (cpu : ℕ) (slot : Option ℕ) (step : Step)
+    → CanBoot l
+    → IsRun l cs t
+    → cpu < l.config.cpus
+    → slot ≡ guest_slot (t.contents.cpu cpu) step
+    →
     let x = used_of (names step) slot cpu t.contents in
     fails l cpu slot step x ≡ fails_by_maps l cpu slot step x

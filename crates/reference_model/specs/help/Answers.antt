@@ -30,7 +30,8 @@ module _ (l : Layout) (cpu : ℕ) (slot : Option ℕ) (step : Step) where
     pub next : y ≡ x
 
   -- memory was wanted, and nothing has changed
-  pub record IsHalted (wants : Bool) (h : Changes) (x : Used) (reply : Reply) (y : Used) : Type 0 where
+  pub record IsHalted (wants : Bool) (h : Changes) (x : Used) (reply : Reply)
+      (y : Used) : Type 0 where
     pub enough : is_short l.depth h x ≡ false
     pub grows : may_grow step ≡ true
     pub wanted : wants ≡ true
@@ -39,7 +40,8 @@ module _ (l : Layout) (cpu : ℕ) (slot : Option ℕ) (step : Step) where
 
   -- how changes are carried out; `wants`: memory can be wanted
   abbrev pub CarriesOut : Bool → Changes → Used → Reply → Used → Type 0
-  CarriesOut wants h x reply y = IsCarried h x reply y ⊎ IsShort h x reply y ⊎ IsHalted wants h x reply y
+  CarriesOut wants h x reply y =
+      IsCarried h x reply y ⊎ IsShort h x reply y ⊎ IsHalted wants h x reply y
 
   -- barred: the reply is that of the first of the four tests that fails, and nothing has changed
   pub record IsBarred (x : Used) (reply : Reply) (y : Used) : Type 0 where
@@ -60,24 +62,47 @@ module _ (l : Layout) (cpu : ℕ) (slot : Option ℕ) (step : Step) where
 
 -- a barred call is answered so, and leaves the used parts
 abbrev pub BarredAnswers : Type 0
-BarredAnswers = (l : Layout) (cpu : ℕ) (slot : Option ℕ) (step : Step) (wants : Bool) (x : Used) (why : Refusal) → decides l cpu slot step x ≡ Err why → Answered l cpu slot step wants x (Refused why) x
+BarredAnswers =
+    (l : Layout) (cpu : ℕ) (slot : Option ℕ) (step : Step) (wants : Bool) (x : Used) (why : Refusal)
+    → decides l cpu slot step x ≡ Err why
+    → Answered l cpu slot step wants x (Refused why) x
 
 -- what isn't barred in a legal state is answered by carrying out the rule's changes
 abbrev pub CarriedAnswers : Type 0
-CarriedAnswers = (l : Layout) (s : Contents) (cpu : ℕ) (slot : Option ℕ) (step : Step) (wants : Bool) (h : Changes) (reply : Reply) (y : Used) → IsUsable l → Legal l s → cpu < l.config.cpus → slot ≡ guest_slot (s.cpu cpu) step →
+CarriedAnswers =
+    (l : Layout) (s : Contents) (cpu : ℕ) (slot : Option ℕ) (step : Step) (wants : Bool)
+    (h : Changes) (reply : Reply) (y : Used)
+    → IsUsable l
+    → Legal l s
+    → cpu < l.config.cpus
+    → slot ≡ guest_slot (s.cpu cpu) step
+    →
     let x = used_of (names step) slot cpu s in
-    decides l cpu slot step x ≡ Ok h → CarriesOut l cpu slot step wants h x reply y → Answered l cpu slot step wants x reply y
+    decides l cpu slot step x ≡ Ok h
+    → CarriesOut l cpu slot step wants h x reply y
+    → Answered l cpu slot step wants x reply y
 
 -- an answer that is stored where each log has room is a reference step
 abbrev pub AnswerSteps : Type 0
-AnswerSteps = (l : Layout) (c : Call) (wants : Bool) (x : Used) (r : UsedRooms) (y : Used) → c.slot ≡ guest_slot x.cpu c.step → c.number ≡ l.config.log - r.cpu + 1
-    → is_full (names c.step) c.slot r ≡ false → Answered l c.cpu c.slot c.step wants x c.reply y → StepsOn l c x r y (stored r)
+AnswerSteps =
+    (l : Layout) (c : Call) (wants : Bool) (x : Used) (r : UsedRooms) (y : Used)
+    → c.slot ≡ guest_slot x.cpu c.step
+    → c.number ≡ l.config.log - r.cpu + 1
+    → is_full (names c.step) c.slot r ≡ false
+    → Answered l c.cpu c.slot c.step wants x c.reply y
+    → StepsOn l c x r y (stored r)
 
 -- and so is LogFull, where a log has none
 abbrev pub FullSteps : Type 0
-FullSteps = (l : Layout) (c : Call) (x : Used) (r : UsedRooms) → c.slot ≡ guest_slot x.cpu c.step → c.number ≡ l.config.log - r.cpu + 1
+FullSteps =
+    (l : Layout) (c : Call) (x : Used) (r : UsedRooms)
+    → c.slot ≡ guest_slot x.cpu c.step
+    → c.number ≡ l.config.log - r.cpu + 1
     → is_full (names c.step) c.slot r ≡ true → c.reply ≡ Refused LogFull → StepsOn l c x r x r
 
 -- a step on what a call uses of a state is one of the state
 abbrev pub UsedSteps : Type 0
-UsedSteps = (l : Layout) (s : Reference) (c : Call) (y : Used) (q : UsedRooms) → StepsOn l c (used_by c s) (rooms_by c s) y q → Steps l s c (with_used c s y q)
+UsedSteps =
+    (l : Layout) (s : Reference) (c : Call) (y : Used) (q : UsedRooms)
+    → StepsOn l c (used_by c s) (rooms_by c s) y q
+    → Steps l s c (with_used c s y q)

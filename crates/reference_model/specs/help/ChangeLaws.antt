@@ -37,9 +37,13 @@ pub record OnlyUses (n : Names) (slot : Option ℕ) (h : Changes) : Type 0 where
 
 -- what a rule changes is of parts that its step uses
 abbrev pub ChangesUsed : Type 0
-ChangesUsed = (l : Layout) (cpu : ℕ) (slot : Option ℕ) (step : Step) (x : Used) (h : Changes) → decides l cpu slot step x ≡ Ok h → OnlyUses (names step) slot h
+ChangesUsed =
+    (l : Layout) (cpu : ℕ) (slot : Option ℕ) (step : Step) (x : Used) (h : Changes)
+    → decides l cpu slot step x ≡ Ok h
+    → OnlyUses (names step) slot h
 
--- a change of a map that words of the last level can say, in trees of the depth: some pages, all of them input pages
+-- a change of a map that words of the last level can say, in trees of the depth: some pages, all of
+-- them input pages
 pub record Fits (d : ℕ) (c : MapChange) : Type 0 where
   pub some : 1 ≤ c.range.count
   pub within : end_of c.range ≤ pages_below d
@@ -58,7 +62,14 @@ pub record AllFit (d : ℕ) (h : Changes) : Type 0 where
 
 -- what a step decides to change in a legal state fits
 abbrev pub ChangesFit : Type 0
-ChangesFit = (l : Layout) (s : Contents) (cpu : ℕ) (slot : Option ℕ) (step : Step) (h : Changes) → IsAcceptedLayout l → Legal l s → cpu < l.config.cpus → slot ≡ guest_slot (s.cpu cpu) step → decides l cpu slot step (used_of (names step) slot cpu s) ≡ Ok h → AllFit l.depth h
+ChangesFit =
+    (l : Layout) (s : Contents) (cpu : ℕ) (slot : Option ℕ) (step : Step) (h : Changes)
+    → IsAcceptedLayout l
+    → Legal l s
+    → cpu < l.config.cpus
+    → slot ≡ guest_slot (s.cpu cpu) step
+    → decides l cpu slot step (used_of (names step) slot cpu s) ≡ Ok h
+    → AllFit l.depth h
 
 -- if the first touched frame is memory, all are, and the given row can advance along them
 pub record TouchedFits (l : Layout) (cpu : ℕ) (slot : Option ℕ) (h : Changes) : Type 0 where
@@ -68,9 +79,17 @@ pub record TouchedFits (l : Layout) (cpu : ℕ) (slot : Option ℕ) (h : Changes
 
 -- so are those that a step decides to touch in a legal state
 abbrev pub TouchedWhole : Type 0
-TouchedWhole = (l : Layout) (s : Contents) (cpu : ℕ) (slot : Option ℕ) (step : Step) (h : Changes) → IsAcceptedLayout l → Legal l s → cpu < l.config.cpus → slot ≡ guest_slot (s.cpu cpu) step → decides l cpu slot step (used_of (names step) slot cpu s) ≡ Ok h → TouchedFits l cpu slot h
+TouchedWhole =
+    (l : Layout) (s : Contents) (cpu : ℕ) (slot : Option ℕ) (step : Step) (h : Changes)
+    → IsAcceptedLayout l
+    → Legal l s
+    → cpu < l.config.cpus
+    → slot ≡ guest_slot (s.cpu cpu) step
+    → decides l cpu slot step (used_of (names step) slot cpu s) ≡ Ok h
+    → TouchedFits l cpu slot h
 
--- the changed slot is one of the 64, the vCPU one of its 8, and a generation that rises is below the greatest u64
+-- the changed slot is one of the 64, the vCPU one of its 8, and a generation that rises is below
+-- the greatest u64
 abbrev pub FitsTable : SlotChange → Type 0
 FitsTable KeepSlots = Unit {0}
 FitsTable (Reserve v kind vcpus) = v < 64
@@ -87,7 +106,8 @@ pub record CanInstall (g : Guest) (hand : PageRange) : Type 0 where
   pub few : hand.count ≤ 512
   pub low : end_of hand ≤ 2 ^ 36
 
--- a guest's pool can gain the frames of a range: it has none of them, and holds at most 512 with them
+-- a guest's pool can gain the frames of a range: it has none of them, and holds at most 512 with
+-- them
 pub record CanGain (l : Layout) (g : Guest) (r : PageRange) : Type 0 where
   pub made : g.phase ≢ empty
   pub apart : (f : ℕ) → is_in_range r f ≡ true → guest_uses l.depth g f ≡ 0
@@ -111,4 +131,12 @@ pub record PartsFit (l : Layout) (h : Changes) (g : Guest) : Type 0 where
 
 -- so is it of what a step decides to change in a legal state of bounded numbers
 abbrev pub PartChangesFit : Type 0
-PartChangesFit = (l : Layout) (s : Reference) (cpu : ℕ) (slot : Option ℕ) (step : Step) (h : Changes) → IsAcceptedLayout l → Legal l s.contents → Bounded l s → cpu < l.config.cpus → slot ≡ guest_slot (s.contents.cpu cpu) step → decides l cpu slot step (used_of (names step) slot cpu s.contents) ≡ Ok h → PartsFit l h (used_of (names step) slot cpu s.contents).guest
+PartChangesFit =
+    (l : Layout) (s : Reference) (cpu : ℕ) (slot : Option ℕ) (step : Step) (h : Changes)
+    → IsAcceptedLayout l
+    → Legal l s.contents
+    → Bounded l s
+    → cpu < l.config.cpus
+    → slot ≡ guest_slot (s.contents.cpu cpu) step
+    → decides l cpu slot step (used_of (names step) slot cpu s.contents) ≡ Ok h
+    → PartsFit l h (used_of (names step) slot cpu s.contents).guest

@@ -14,17 +14,25 @@ use Rattle.reference_model.specs.model.State.{Contents}
 use Rattle.reference_model.specs.model.Step.{is_touched, rule_of, fails, made}
 use Rattle.reference_model.specs.model.Used.{used_of, put_back}
 
--- the condition of a frame of the range, counted from its first, where the host gives its page away: to the guest whose page changes too, or to the hypervisor
+-- the condition of a frame of the range, counted from its first, where the host gives its page
+-- away: to the guest whose page changes too, or to the hypervisor
 abbrev pub given_away : ℕ → Option ℕ → Changes → ℕ → Condition
-given_away cpu slot h i = elim (h.guest) [ Some c ↦ guests (unwrap_or slot 0) (c.range.first.0 + i) | None ↦ hyps (use_by cpu h.cpu.hand) ]
+given_away cpu slot h i =
+    elim (h.guest) [
+      | Some c ↦ guests (unwrap_or slot 0) (c.range.first.0 + i)
+      | None ↦ hyps (use_by cpu h.cpu.hand)
+    ]
 
 -- where the host shares it: with the guest whose page changes too, or with the hypervisor
 abbrev pub lent_out : Option ℕ → Changes → ℕ → Condition
-lent_out slot h i = elim (h.guest) [ Some c ↦ with_guest (unwrap_or slot 0) (c.range.first.0 + i) | None ↦ with_hyp ]
+lent_out slot h i =
+    elim (h.guest)
+    [ Some c ↦ with_guest (unwrap_or slot 0) (c.range.first.0 + i) | None ↦ with_hyp ]
 
 -- where the host borrows it: from the guest whose page changes too
 abbrev pub borrowed : Option ℕ → Changes → ℕ → Condition
-borrowed slot h i = elim (h.guest) [ Some c ↦ lent_back (unwrap_or slot 0) (c.range.first.0 + i) | None ↦ hosts ]
+borrowed slot h i =
+    elim (h.guest) [ Some c ↦ lent_back (unwrap_or slot 0) (c.range.first.0 + i) | None ↦ hosts ]
 
 -- the condition by what the host's pages get
 abbrev pub condition_by : ℕ → Option ℕ → Changes → ℕ → Entry → Condition
@@ -35,19 +43,36 @@ condition_by cpu slot h i other = hosts
 
 -- the condition of a touched frame; where the host's map stays, it goes to the guest's pool
 abbrev pub told_condition : ℕ → Option ℕ → Changes → ℕ → Condition
-told_condition cpu slot h f = elim (h.host) [ Some c ↦ condition_by cpu slot h (f - c.range.first.0) c.entry | None ↦ hyps (VmPool (unwrap_or slot 0)) ]
+told_condition cpu slot h f =
+    elim (h.host) [
+      | Some c ↦ condition_by cpu slot h (f - c.range.first.0) c.entry
+      | None ↦ hyps (VmPool (unwrap_or slot 0))
+    ]
 
--- the conditions after the changes: memory frames of the touched range have the given ones, and all else stays
+-- the conditions after the changes: memory frames of the touched range have the given ones, and all
+-- else stays
 abbrev pub conditions_after : Layout → ℕ → Option ℕ → Changes → (ℕ → Condition) → ℕ → Condition
-conditions_after l cpu slot h condition f = elim (is_memory l f && is_touched h f) [ true ↦ told_condition cpu slot h f | false ↦ condition f ]
+conditions_after l cpu slot h condition f =
+    elim (is_memory l f && is_touched h f)
+    [ true ↦ told_condition cpu slot h f | false ↦ condition f ]
 
 -- a state determines the condition of each frame
 abbrev pub ConditionOnce : Type 0
-ConditionOnce = (l : Layout) (s : Contents) (a b : Legal l s) (f : ℕ) → b.condition f ≡ a.condition f
+ConditionOnce =
+    (l : Layout) (s : Contents) (a b : Legal l s) (f : ℕ) → b.condition f ≡ a.condition f
 
 -- a made step moves the touched memory frames to the given conditions, and no other
 abbrev pub ConditionsMove : Type 0
-ConditionsMove = (l : Layout) (s : Contents) (cpu : ℕ) (slot : Option ℕ) (step : Step) (legal : Legal l s) → IsUsable l → cpu < l.config.cpus → slot ≡ guest_slot (s.cpu cpu) step →
+ConditionsMove =
+    (l : Layout) (s : Contents) (cpu : ℕ) (slot : Option ℕ) (step : Step) (legal : Legal l s)
+    → IsUsable l
+    → cpu < l.config.cpus
+    → slot ≡ guest_slot (s.cpu cpu) step
+    →
     let x = used_of (names step) slot cpu s in
     let t = put_back (names step) slot cpu s (made l cpu slot step x) in
-    fails l cpu slot step x ≡ None → (after : Legal l t) → (f : ℕ) → after.condition f ≡ conditions_after l cpu slot (rule_of l cpu slot step x).changes legal.condition f
+    fails l cpu slot step x ≡ None
+    → (after : Legal l t)
+    → (f : ℕ)
+    → after.condition f
+    ≡ conditions_after l cpu slot (rule_of l cpu slot step x).changes legal.condition f

@@ -1,4 +1,5 @@
--- The invariant of runs: each memory frame is in one condition, and all that a state says of the frame follows from its condition.
+-- The invariant of runs: each memory frame is in one condition, and all that a state says of the
+-- frame follows from its condition.
 use Rattle.std.specs.Prelude.{◌≡◌, ◌≢◌, ℕ, ◌+◌, ◌≤◌, ◌<◌, ◌⊎◌, Bool, true, false, ◌==◌, Some, None, if◌then◌else◌}
 use Rattle.descriptor.specs.declared.Prot.{Prot}
 use Rattle.descriptor.specs.declared.Prot.TheVariants.{RW, RWX}
@@ -22,7 +23,9 @@ use Rattle.page_state.specs.Trees.{Tree}
 use Rattle.coarse_trees.specs.Coarsest.{IsCoarsest}
 use Rattle.reference_model.specs.model.State.{Shared, Guest, empty, vacant, Contents, no_guest, plain_row}
 
--- the condition of a page: it is no memory frame, or the frame is the host's, shared by the host with the hypervisor, the hypervisor's in some use, shared by the host with a guest at a page, a guest's at a page, or lent back by a guest from a page
+-- the condition of a page: it is no memory frame, or the frame is the host's, shared by the host
+-- with the hypervisor, the hypervisor's in some use, shared by the host with a guest at a page, a
+-- guest's at a page, or lent back by a guest from a page
 pub data Condition : Type 0 where
   outside : Condition
   hosts : Condition
@@ -54,7 +57,8 @@ guest_condition Owned v g = guests v g
 guest_condition SharedOwned v g = lent_back v g
 guest_condition SharedBorrowed v g = with_guest v g
 
--- a guest's entry of a page is Unmapped, or the leaf of a frame whose condition names this guest and page
+-- a guest's entry of a page is Unmapped, or the leaf of a frame whose condition names this guest
+-- and page
 pub record IsGuestLeaf (condition : ℕ → Condition) (v g : ℕ) (e : Entry) : Type 0 where
   pub frame : ℕ
   pub prot : Prot
@@ -76,7 +80,9 @@ pub record MapsFit (s : Contents) (condition : ℕ → Condition) : Type 0 where
   pub hyp : (f : ℕ) → s.shared.hyp.map (hyp_page f) ≡ hyp_says f (condition f)
   pub hyp_below : (p : ℕ) → p < hyp_page 0 → s.shared.hyp.map p ≡ Unmapped
   pub guest : (v g : ℕ) → GuestFits condition v g ((s.guest v).tree.map g)
-  pub guest_has : (v g f : ℕ) (state : State) → condition f ≡ guest_condition state v g → IsMemoryLeaf f state ((s.guest v).tree.map g)
+  pub guest_has : (v g f : ℕ) (state : State)
+      → condition f ≡ guest_condition state v g
+      → IsMemoryLeaf f state ((s.guest v).tree.map g)
 
 -- a condition is a memory frame's
 abbrev pub is_inside : Condition → Bool
@@ -117,7 +123,8 @@ table_uses depth t f = count_blocks (depth + 1) (depth + 1) (λ b. is_frame f (t
 
 -- how often the Shared part holds the frame: in its pool and as a table
 abbrev pub shared_uses : ℕ → Shared → ℕ → ℕ
-shared_uses depth x f = frame_count f x.free + (table_uses depth x.host f + table_uses depth x.hyp f)
+shared_uses depth x f =
+    frame_count f x.free + (table_uses depth x.host f + table_uses depth x.hyp f)
 
 -- how often a guest holds the frame
 abbrev pub guest_uses : ℕ → Guest → ℕ → ℕ
@@ -135,7 +142,8 @@ row_in f with_hyp = record plain_row { lent = Some (lent_at 1 (hyp_page f)) }
 row_in f (hyps usage) = record { owner = record { 0 = 1 }; lent = None; usage = usage }
 row_in f (with_guest v g) = record plain_row { lent = Some (lent_at (2 + v) g) }
 row_in f (guests v g) = record { owner = record { 0 = 2 + v }; lent = None; usage = Plain }
-row_in f (lent_back v g) = record { owner = record { 0 = 2 + v }; lent = Some (lent_at 0 f); usage = Plain }
+row_in f (lent_back v g) =
+    record { owner = record { 0 = 2 + v }; lent = Some (lent_at 0 f); usage = Plain }
 row_in f other = plain_row
 
 -- each tree is the coarsest tree of its map
@@ -147,9 +155,12 @@ pub record AreCoarsest (l : Layout) (s : Contents) : Type 0 where
 -- an Empty guest has nothing, and any other a root
 pub record GuestsFit (l : Layout) (s : Contents) : Type 0 where
   pub blank : (v : ℕ) → (s.guest v).phase ≡ empty → s.guest v ≡ no_guest
-  pub rooted : (v : ℕ) → (s.guest v).phase ≢ empty → (root : ℕ) × ((s.guest v).tree.table (l.depth + 1, 0) ≡ Some root)
+  pub rooted : (v : ℕ)
+      → (s.guest v).phase ≢ empty
+      → (root : ℕ) × ((s.guest v).tree.table (l.depth + 1, 0) ≡ Some root)
 
--- slots, loads and tickets agree; there are 64 slots, each with at most 8 vCPUs, and a hand is empty or has a frame
+-- slots, loads and tickets agree; there are 64 slots, each with at most 8 vCPUs, and a hand is
+-- empty or has a frame
 pub record SlotsFit (s : Contents) : Type 0 where
   pub agree : SlotsAgree s
   pub few_slots : (v : ℕ) → 64 ≤ v → (s.vms.slot v).stand ≡ vacant
@@ -176,9 +187,15 @@ pub record Legal (l : Layout) (s : Contents) : Type 0 where
   pub guest_parts : GuestsFit l s
   pub slots : SlotsFit s
 
--- the requirements on a layout: a memory frame and its page of the hypervisor lie in the trees, a region is that of each of its pages, and the carve-out is memory
+-- the requirements on a layout: a memory frame and its page of the hypervisor lie in the trees, a
+-- region is that of each of its pages, and the carve-out is memory
 pub record IsUsable (l : Layout) : Type 0 where
   pub pages : (f : ℕ) → is_memory l f ≡ true → hyp_page f < pages_below l.depth
-  pub regions : (page p : ℕ) (r : Region) → region_of l.memory page ≡ Some r → is_in_range r.pages p ≡ true → region_of l.memory p ≡ Some r
-  pub below : (page : ℕ) (r : Region) → region_of l.memory page ≡ Some r → page < pages_below l.depth
+  pub regions : (page p : ℕ) (r : Region)
+      → region_of l.memory page ≡ Some r
+      → is_in_range r.pages p ≡ true
+      → region_of l.memory p ≡ Some r
+  pub below : (page : ℕ) (r : Region)
+      → region_of l.memory page ≡ Some r
+      → page < pages_below l.depth
   pub carve : (f : ℕ) → is_in_range l.memory.carve f ≡ true → is_memory l f ≡ true

@@ -13,15 +13,32 @@ use Rattle.reference_model.specs.model.Stored.{held_state}
 
 -- a step on what a call uses of what there is, stored there, makes the history longer
 abbrev pub HistorySteps : Type 0
-HistorySteps = (l : Layout) (before after : Kept) (log : List Call) (c : Call) (y : Used) (q : UsedRooms) → CanBoot l → IsHistory l before log → c.cpu < l.config.cpus → IsStored c.reply
-    → StepsOn l c (used_by c (held_state l before)) (rooms_by c (held_state l before)) y q → StoresCall c (with_used c (held_state l before) y q).contents before after → IsHistory l after (log ++ c ∷ [])
+HistorySteps =
+    (l : Layout) (before after : Kept) (log : List Call) (c : Call) (y : Used) (q : UsedRooms)
+    → CanBoot l
+    → IsHistory l before log
+    → c.cpu < l.config.cpus
+    → IsStored c.reply
+    → StepsOn l c (used_by c (held_state l before)) (rooms_by c (held_state l before)) y q
+    → StoresCall c (with_used c (held_state l before) y q).contents before after
+    → IsHistory l after (log ++ c ∷ [])
 
--- a call that code does on what there is, with room in each log, and stores, makes the history longer
+-- a call that code does on what there is, with room in each log, and stores, makes the history
+-- longer
 abbrev pub CallGrows : Type 0
-CallGrows = (l : Layout) (before after : Kept) (log : List Call) (c : Call) (wants : Bool) (y : Used) → CanBoot l → IsHistory l before log → c.cpu < l.config.cpus →
+CallGrows =
+    (l : Layout) (before after : Kept) (log : List Call) (c : Call) (wants : Bool) (y : Used)
+    → CanBoot l
+    → IsHistory l before log
+    → c.cpu < l.config.cpus
+    →
     let s = held_state l before in
-    c.slot ≡ guest_slot (before.cpu c.cpu).0 c.step → c.number ≡ length (before.cpu c.cpu).1 + 1 → is_full (names c.step) c.slot (rooms_by c s) ≡ false
-    → Does l c.cpu c.slot c.step wants (used_by c s) c.reply y → StoresCall c (with_used c s y (stored (rooms_by c s))).contents before after → IsHistory l after (log ++ c ∷ [])
+    c.slot ≡ guest_slot (before.cpu c.cpu).0 c.step
+    → c.number ≡ length (before.cpu c.cpu).1 + 1
+    → is_full (names c.step) c.slot (rooms_by c s) ≡ false
+    → Does l c.cpu c.slot c.step wants (used_by c s) c.reply y
+    → StoresCall c (with_used c s y (stored (rooms_by c s))).contents before after
+    → IsHistory l after (log ++ c ∷ [])
 
 -- the parts after a call that leads to a state is stored represent that state
 abbrev pub HeldStored : Type 0

@@ -18,4 +18,8 @@ pub record PoolsInOrder (s : Contents) : Type 0 where
 
 -- and so they are in each state of a run
 abbrev pub RunInOrder : Type 0
-RunInOrder = (l : Layout) (cs : List Call) (t : Reference) → CanBoot l → IsRun l cs t → PoolsInOrder t.contents
+RunInOrder =
+    (l : Layout) (cs : List Call) (t : Reference)
+    → CanBoot l
+    → IsRun l cs t
+    → PoolsInOrder t.contents

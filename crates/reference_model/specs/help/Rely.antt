@@ -13,18 +13,34 @@ use Rattle.reference_model.specs.model.Step.{rule_of, fails, made, changed, Answ
 use Rattle.reference_model.specs.model.Used.{Used}
 use Rattle.reference_model.specs.model.Reached.{IsReached}
 
--- what a step may rely on: its slot is one of the 64, what it decides to change can be written in the maps and made of the slots and the guest, and the rows that it finds again are those that its changes tell
+-- what a step may rely on: its slot is one of the 64, what it decides to change can be written in
+-- the maps and made of the slots and the guest, and the rows that it finds again are those that its
+-- changes tell
 pub record CanRely (l : Layout) (cpu : ℕ) (slot : Option ℕ) (step : Step) (x : Used) : Type 0 where
   pub slot_low : (v : ℕ) → slot ≡ Some v → v < 64
   pub fit : (h : Changes) → decides l cpu slot step x ≡ Ok h → AllFit l.depth h
   pub parts : (h : Changes) → decides l cpu slot step x ≡ Ok h → PartsFit l h x.guest
   pub touched : (h : Changes) → decides l cpu slot step x ≡ Ok h → TouchedFits l cpu slot h
-  pub rows : fails l cpu slot step x ≡ None → made l cpu slot step x ≡ with_told l cpu slot (rule_of l cpu slot step x).changes (changed l.depth (rule_of l cpu slot step x).changes x)
+  pub rows : fails l cpu slot step x ≡ None
+      → made l cpu slot step x
+      ≡ with_told l cpu slot (rule_of l cpu slot step x).changes
+      (changed l.depth (rule_of l cpu slot step x).changes x)
 
 -- so it may where a run leaves what it uses
 abbrev pub ReachedRelies : Type 0
-ReachedRelies = (l : Layout) (cpu : ℕ) (slot : Option ℕ) (step : Step) (x : Used) → cpu < l.config.cpus → slot ≡ guest_slot x.cpu step → ∥ IsReached l (names step) slot cpu x ∥₁ → CanRely l cpu slot step x
+ReachedRelies =
+    (l : Layout) (cpu : ℕ) (slot : Option ℕ) (step : Step) (x : Used)
+    → cpu < l.config.cpus
+    → slot ≡ guest_slot x.cpu step
+    → ∥ IsReached l (names step) slot cpu x ∥₁
+    → CanRely l cpu slot step x
 
 -- and then carrying out the decision answers the step
 abbrev pub RelyingAnswers : Type 0
-RelyingAnswers = (l : Layout) (cpu : ℕ) (slot : Option ℕ) (step : Step) (x : Used) (wants : Bool) (h : Changes) (reply : Reply) (y : Used) → CanRely l cpu slot step x → decides l cpu slot step x ≡ Ok h → CarriesOut l cpu slot step wants h x reply y → Answered l cpu slot step wants x reply y
+RelyingAnswers =
+    (l : Layout) (cpu : ℕ) (slot : Option ℕ) (step : Step) (x : Used) (wants : Bool) (h : Changes)
+    (reply : Reply) (y : Used)
+    → CanRely l cpu slot step x
+    → decides l cpu slot step x ≡ Ok h
+    → CarriesOut l cpu slot step wants h x reply y
+    → Answered l cpu slot step wants x reply y

@@ -21,7 +21,11 @@ pub record RoomsFall (c : Call) (before after : Rooms) : Type 0 where
 
 -- each stored call lowers just the rooms of its used logs by one
 abbrev pub StoredFalls : Type 0
-StoredFalls = (l : Layout) (s t : Reference) (c : Call) → Steps l s c t → c.reply ≢ Refused LogFull → RoomsFall c s.rooms t.rooms
+StoredFalls =
+    (l : Layout) (s t : Reference) (c : Call)
+    → Steps l s c t
+    → c.reply ≢ Refused LogFull
+    → RoomsFall c s.rooms t.rooms
 
 -- a log's room and its calls make up the log's size
 pub record RoomsTold (l : Layout) (cs : List Call) (r : Rooms) : Type 0 where
@@ -32,4 +36,8 @@ pub record RoomsTold (l : Layout) (cs : List Call) (r : Rooms) : Type 0 where
 
 -- after a run of stored calls
 abbrev pub RunRooms : Type 0
-RunRooms = (l : Layout) (cs : List Call) (t : Reference) → IsRun l cs t → All (λ c. IsStored c.reply) cs → RoomsTold l cs t.rooms
+RunRooms =
+    (l : Layout) (cs : List Call) (t : Reference)
+    → IsRun l cs t
+    → All (λ c. IsStored c.reply) cs
+    → RoomsTold l cs t.rooms

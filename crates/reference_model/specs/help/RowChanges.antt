@@ -34,9 +34,11 @@ borrower slot h = elim (h.hyp) [
 
 -- the row of the first frame, by what the host's page gets
 abbrev pub row_by : ℕ → Option ℕ → Changes → ℕ → Entry → Row
-row_by cpu slot h f (Annotated owner) = record { owner = owner; lent = None; usage = use_by cpu h.cpu.hand }
+row_by cpu slot h f (Annotated owner) =
+    record { owner = owner; lent = None; usage = use_by cpu h.cpu.hand }
 row_by cpu slot h f (Leaf frame prot kind SharedOwned) = record plain_row { lent = borrower slot h }
-row_by cpu slot h f (Leaf frame prot kind SharedBorrowed) = record { owner = record { 0 = guest_owner slot }; lent = Some (lent_at 0 f); usage = Plain }
+row_by cpu slot h f (Leaf frame prot kind SharedBorrowed) =
+    record { owner = record { 0 = guest_owner slot }; lent = Some (lent_at 0 f); usage = Plain }
 row_by cpu slot h f other = plain_row
 
 -- the row of the first frame; where the host's map stays, the frames go to the guest's pool
@@ -57,4 +59,10 @@ told_row cpu slot h f = advance_row (first_row cpu slot h) (f - first_of (touche
 
 -- the used parts with the given rows at the touched range, if that is memory
 unfoldable pub with_told : Layout → ℕ → Option ℕ → Changes → Used → Used
-with_told l cpu slot h x = record x { shared = record x.shared { row = λ f. elim (is_memory l (first_of (touched h)) && is_touched h f) [ true ↦ told_row cpu slot h f | false ↦ x.shared.row f ] } }
+with_told l cpu slot h x =
+    record x {
+      shared = record x.shared {
+        row = λ f. elim (is_memory l (first_of (touched h)) && is_touched h f)
+            [ true ↦ told_row cpu slot h f | false ↦ x.shared.row f ];
+      };
+    }

@@ -12,7 +12,8 @@ use Rattle.page_state.specs.Layouts.{Layout, is_memory, hyp_page}
 use Rattle.reference_model.specs.model.Owner.{row_of}
 use Rattle.page_state.specs.Tables.{Edit, put, need, edited}
 
--- the row of a frame that the Shared part holds: the hypervisor's, lent to nobody, in the shared pool
+-- the row of a frame that the Shared part holds: the hypervisor's, lent to nobody, in the shared
+-- pool
 abbrev pub pool_row : Row
 pool_row = record { owner = record { 0 = 1 }; lent = None; usage = SharedPool }
 
@@ -68,7 +69,13 @@ module _ (l : Layout) where
 
   -- what there is at boot: the row of each memory frame is that from scratch
   unfoldable pub booted : Contents
-  booted = record boot_without_rows { shared = record boot_shared { row = λ f. elim (is_memory l f) [ true ↦ row_of l boot_without_rows f | false ↦ plain_row ] } }
+  booted =
+      record boot_without_rows {
+        shared = record boot_shared {
+          row = λ f. elim (is_memory l f)
+              [ true ↦ row_of l boot_without_rows f | false ↦ plain_row ];
+        };
+      }
 
   -- the state at boot: each log is empty
   abbrev pub boot : Reference

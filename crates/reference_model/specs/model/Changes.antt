@@ -28,7 +28,12 @@ updated (Becomes y) x = y
 
 -- the CPU's own state after a change
 abbrev pub cpu_by : CpuChange → Cpu → Cpu
-cpu_by c k = record { loaded = updated c.loaded k.loaded; hand = updated c.hand k.hand; ticket = updated c.ticket k.ticket }
+cpu_by c k =
+    record {
+      loaded = updated c.loaded k.loaded;
+      hand = updated c.hand k.hand;
+      ticket = updated c.ticket k.ticket;
+    }
 
 -- the frames of a range, in order
 abbrev pub frames_in : PageRange → Pool
@@ -42,7 +47,14 @@ rest (f ∷ fs) = fs
 -- the guest after a change, in trees of the depth
 abbrev pub guest_by : ℕ → GuestChange → Guest → Guest
 guest_by depth KeepGuest g = g
-guest_by depth (Install kind generation hand) g = record { phase = live; generation = generation; kind = kind; tree = root_tree depth hand.first.0; free = rest (frames_in hand) }
+guest_by depth (Install kind generation hand) g =
+    record {
+      phase = live;
+      generation = generation;
+      kind = kind;
+      tree = root_tree depth hand.first.0;
+      free = rest (frames_in hand);
+    }
 guest_by depth (Gain range) g = record g { free = all_given (frames_in range) g.free }
 guest_by depth LoseLowest g = record g { free = rest g.free }
 guest_by depth Die g = record g { phase = dying }
@@ -55,7 +67,8 @@ with_slot v f x = record x { slot = put_at x.slot v (f (x.slot v)) }
 -- the VM part after a change
 abbrev pub vms_by : SlotChange → Vms → Vms
 vms_by KeepSlots x = x
-vms_by (Reserve v kind vcpus) x = with_slot v (λ y. record y { stand = reserved; kind = kind; vcpus = vcpus }) x
+vms_by (Reserve v kind vcpus) x =
+    with_slot v (λ y. record y { stand = reserved; kind = kind; vcpus = vcpus }) x
 vms_by (Open v) x = with_slot v (λ y. record y { stand = opened }) x
 vms_by (Close v) x = with_slot v (λ y. record y { stand = closing }) x
 vms_by (Release vm) x = with_slot vm.slot (λ y. no_slot (vm.generation + 1)) x
@@ -64,7 +77,8 @@ vms_by (Unload v i) x = with_slot v (λ y. record y { loaded = put_at y.loaded i
 
 -- a change of a map: `count` pages from the first on
 abbrev pub change : ℕ → ℕ → Entry → Option MapChange
-change first count entry = Some (record { range = record { first = record { 0 = first }; count = count }; entry = entry })
+change first count entry =
+    Some (record { range = record { first = record { 0 = first }; count = count }; entry = entry })
 
 -- the CPU's own state stays
 abbrev pub same_cpu : CpuChange
@@ -72,7 +86,17 @@ same_cpu = record { loaded = Keep; hand = Keep; ticket = Keep }
 
 -- nothing changes, and Ok has no value
 abbrev pub no_changes : Changes
-no_changes = record { host = None; hyp = None; guest = None; part = KeepGuest; slot = KeepSlots; cpu = same_cpu; moved = None; value = Nothing }
+no_changes =
+    record {
+      host = None;
+      hyp = None;
+      guest = None;
+      part = KeepGuest;
+      slot = KeepSlots;
+      cpu = same_cpu;
+      moved = None;
+      value = Nothing;
+    }
 
 -- the frames whose rows a call finds again: those of the host's change, or those that change use
 abbrev pub touched : Changes → Option PageRange

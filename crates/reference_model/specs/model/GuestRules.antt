@@ -62,7 +62,8 @@ ticket_kind k = elim (k.ticket) [ Some t ↦ t.kind | None ↦ PlainVm ]
 
 -- the CPU gets this ticket
 abbrev pub ticket_becomes : VmId → VmKind → Stage → CpuChange
-ticket_becomes vm kind stage = record same_cpu { ticket = Becomes (Some (record { vm = vm; kind = kind; stage = stage })) }
+ticket_becomes vm kind stage =
+    record same_cpu { ticket = Becomes (Some (record { vm = vm; kind = kind; stage = stage })) }
 
 -- the CPU's ticket moves on to another stage
 abbrev pub moved_on : Stage → Cpu → CpuChange
@@ -91,7 +92,8 @@ are_good_pages l g n = all_below n (λ i. is_good_page l (g + i))
 
 -- each page of the host's range is free, and the guest's page of it is unmapped
 abbrev pub may_give : Used → ℕ → ℕ → ℕ → Bool
-may_give x f g n = all_below n (λ i. is_free_page (host_entry x (f + i)) && is_unmapped (guest_entry x (g + i)))
+may_give x f g n =
+    all_below n (λ i. is_free_page (host_entry x (f + i)) && is_unmapped (guest_entry x (g + i)))
 
 -- the guest holds memory: it is Live or Dying, with the generation of the name
 abbrev pub is_alive : VmId → Guest → Bool
@@ -103,12 +105,16 @@ good_vm vm = is_good_vm vm otherwise codes "the slot is over 63"
 
 -- and an input page
 abbrev pub vm_and_page : Layout → VmId → ℕ → Test
-vm_and_page l vm g = is_good_vm vm && is_good_page l g otherwise codes "the slot is over 63, or the page is past the input pages"
+vm_and_page l vm g =
+    is_good_vm vm
+    && is_good_page l g otherwise
+    codes "the slot is over 63, or the page is past the input pages"
 
 -- a range that calls take, and as many input pages
 abbrev pub range_and_pages : Layout → ℕ → ℕ → ℕ → Test
 range_and_pages l f g n = is_good_range l f n && are_good_pages l g n
-    otherwise codes "the range isn't 1 to 512 pages of memory, or a page of the guest is past the input pages"
+    otherwise
+    codes "the range isn't 1 to 512 pages of memory, or a page of the guest is past the input pages"
 
 -- a page that the guest borrows
 abbrev pub borrowed : Entry → Test
@@ -119,7 +125,8 @@ abbrev pub share_guest : ℕ → ℕ → Prot → ℕ → Reads → Rule
 share_guest f g rights n x = record fine {
   valid = range_and_pages x.layout f g n;
   allowed = not (is_protected x.used.guest.kind) && may_give x.used f g n
-      otherwise codes "the VM is protected, one of the host's pages isn't free to give, or one of the guest's pages is mapped";
+      otherwise
+      codes "the VM is protected, one of the host's pages isn't free to give, or one of the guest's pages is mapped";
   changes = two_ranges f (leaf RWX f SharedOwned) g (leaf rights f SharedBorrowed) n;
 }
 
@@ -137,7 +144,8 @@ abbrev pub donate_guest : ℕ → ℕ → ℕ → Reads → Rule
 donate_guest f g n x = record fine {
   valid = range_and_pages x.layout f g n;
   allowed = is_protected x.used.guest.kind && may_give x.used f g n
-      otherwise codes "the VM isn't protected, one of the host's pages isn't free to give, or one of the guest's pages is mapped";
+      otherwise
+      codes "the VM isn't protected, one of the host's pages isn't free to give, or one of the guest's pages is mapped";
   changes = two_ranges f (annotation (guest_owner x.slot)) g (leaf RWX f Owned) n;
 }
 
@@ -146,7 +154,9 @@ abbrev pub guest_share_host : ℕ → Reads → Rule
 guest_share_host g x = let e = guest_entry x.used g in record fine {
   valid = input_page x.layout g;
   allowed = is_in Owned e otherwise codes "the guest's page isn't Owned";
-  changes = two_pages (entry_frame e) (leaf RWX (entry_frame e) SharedBorrowed) g (with_state SharedOwned e);
+  changes =
+      two_pages (entry_frame e) (leaf RWX (entry_frame e) SharedBorrowed) g
+      (with_state SharedOwned e);
 }
 
 -- the guest takes back a page that it shared
@@ -173,9 +183,16 @@ abbrev pub topup : VmId → Reads → Rule
 topup vm x = record fine {
   valid = good_vm vm;
   has_vm = is_alive vm x.used.guest otherwise codes "the VM's guest is neither Live nor Dying";
-  allowed = is_some x.used.cpu.hand && nat_le (guest_table_count x.layout x.used.guest.tree + length x.used.guest.free + (hand_of x.used.cpu).count) 512
-      otherwise codes "the CPU's hand is empty, or tables, free frames and the hand are over 512 together";
-  changes = record no_changes { part = Gain (hand_of x.used.cpu); cpu = hand_becomes None; moved = x.used.cpu.hand };
+  allowed =
+      is_some x.used.cpu.hand
+      && nat_le
+      (guest_table_count x.layout x.used.guest.tree + length x.used.guest.free +
+      (hand_of x.used.cpu).count) 512
+      otherwise
+      codes "the CPU's hand is empty, or tables, free frames and the hand are over 512 together";
+  changes =
+      record no_changes
+      { part = Gain (hand_of x.used.cpu); cpu = hand_becomes None; moved = x.used.cpu.hand };
 }
 
 -- the host gets a page of a Dying guest back
@@ -184,7 +201,9 @@ reclaim_page vm g x = let e = guest_entry x.used g in record fine {
   valid = vm_and_page x.layout vm g;
   has_vm = is_guest dying vm x.used.guest otherwise codes "the VM's guest isn't Dying";
   allowed = is_mapped e otherwise codes "the guest's page is unmapped";
-  changes = two_pages (entry_frame e) (if is_in Owned e then Unmapped else leaf RWX (entry_frame e) Owned) g Unmapped;
+  changes =
+      two_pages (entry_frame e)
+      (if is_in Owned e then Unmapped else leaf RWX (entry_frame e) Owned) g Unmapped;
 }
 
 -- the host gets a frame of a Dying guest's pool back
@@ -192,16 +211,23 @@ abbrev pub reclaim_pool : VmId → Reads → Rule
 reclaim_pool vm x = record fine {
   valid = good_vm vm;
   has_vm = is_guest dying vm x.used.guest otherwise codes "the VM's guest isn't Dying";
-  allowed = nat_lt 0 (length x.used.guest.free) otherwise codes "the guest's pool has no free frame";
-  changes = record (to_host (least x.used.guest.free) 1) { part = LoseLowest; value = FrameOf (record { 0 = least x.used.guest.free }) };
+  allowed =
+      nat_lt 0 (length x.used.guest.free) otherwise codes "the guest's pool has no free frame";
+  changes =
+      record (to_host (least x.used.guest.free) 1)
+      { part = LoseLowest; value = FrameOf (record { 0 = least x.used.guest.free }) };
 }
 
 -- the host gets the root of a Dying guest back, which is then Empty
 abbrev pub finish_guest : Reads → Rule
 finish_guest x = record fine {
-  allowed = all_below (pages_below x.layout.depth) (λ g. is_unmapped (guest_entry x.used g)) && length x.used.guest.free == 0
+  allowed =
+      all_below (pages_below x.layout.depth) (λ g. is_unmapped (guest_entry x.used g))
+      && length x.used.guest.free == 0
       otherwise codes "a page of the guest is mapped, or its pool has a free frame";
-  changes = record (to_host (unwrap_or (x.used.guest.tree.table (x.layout.depth + 1, 0)) 0) 1) { part = Empty; cpu = moved_on finished x.used.cpu };
+  changes =
+      record (to_host (unwrap_or (x.used.guest.tree.table (x.layout.depth + 1, 0)) 0) 1)
+      { part = Empty; cpu = moved_on finished x.used.cpu };
 }
 
 -- the guest may do more with a page that it borrows
@@ -222,4 +248,5 @@ guest_translate vm g x = record fine {
 
 -- a Live guest becomes Dying
 abbrev pub mark_dying : Reads → Rule
-mark_dying x = record fine { changes = record no_changes { part = Die; cpu = moved_on dying_vm x.used.cpu } }
+mark_dying x =
+    record fine { changes = record no_changes { part = Die; cpu = moved_on dying_vm x.used.cpu } }

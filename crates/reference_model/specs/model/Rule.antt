@@ -1,4 +1,5 @@
--- The form of a call rule: what it reads, its tests in their order with words for each, and what changes on Ok.
+-- The form of a call rule: what it reads, its tests in their order with words for each, and what
+-- changes on Ok.
 use Rattle.std.specs.Prelude.{ℕ, Bool, true, Option, List, codes}
 use Rattle.page_state.specs.Layouts.{Layout}
 use Rattle.reference_model.specs.declared.changes.Changes.{Changes}

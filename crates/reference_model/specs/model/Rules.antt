@@ -1,4 +1,5 @@
--- The rule of each step: the parts that it names, where its guest is found, whether it can want memory, its tests and its changes.
+-- The rule of each step: the parts that it names, where its guest is found, whether it can want
+-- memory, its tests and its changes.
 use Rattle.std.specs.Prelude.{ℕ, Bool, true, false, Option, Some, None, List, codes}
 use Rattle.call_table.specs.declared.reply.Call.{Call}
 use Rattle.call_table.specs.declared.step.Step.{Step}
@@ -15,7 +16,9 @@ use Rattle.reference_model.specs.declared.changes.Stage.{Stage}
 use Rattle.call_table.specs.declared.step.VmId.{VmId}
 use Rattle.reference_model.specs.declared.changes.Stage.TheVariants.{Booked as booked, Closing as closing_vm, Dying as dying_vm}
 
--- what the model says of a step: the parts that it names; the slot of its Guest part, by its VmId or by what the CPU has loaded or holds a ticket of; whether it can be refused for want of memory; its rule; and what is so where no slot is found, in words, if the rule has none
+-- what the model says of a step: the parts that it names; the slot of its Guest part, by its VmId
+-- or by what the CPU has loaded or holds a ticket of; whether it can be refused for want of memory;
+-- its rule; and what is so where no slot is found, in words, if the rule has none
 pub record StepRule : Type 0 where
   pub parts : Names
   pub slot : Cpu → Option ℕ
@@ -33,7 +36,14 @@ looks_at_shared r = record (on_shared r) { may_grow = false }
 
 -- on the Shared part and the guest of the vCPU that the CPU has loaded
 abbrev pub with_loaded : (Reads → Rule) → StepRule
-with_loaded r = record { parts = shared_and_guest; slot = loaded_slot; may_grow = true; rule = r; lacking = Some (codes "the CPU has no vCPU loaded") }
+with_loaded r =
+    record {
+      parts = shared_and_guest;
+      slot = loaded_slot;
+      may_grow = true;
+      rule = r;
+      lacking = Some (codes "the CPU has no vCPU loaded");
+    }
 
 -- on the Shared part and the guest of a VM
 abbrev pub with_vm : VmId → (Reads → Rule) → StepRule
@@ -48,7 +58,8 @@ no_ticket_of other = None
 
 -- on the Shared part and the guest of the CPU's ticket, which has the stage
 abbrev pub with_ticket : Stage → (Reads → Rule) → StepRule
-with_ticket stage r = record (with_loaded r) { slot = ticket_slot stage; lacking = no_ticket_of stage }
+with_ticket stage r =
+    record (with_loaded r) { slot = ticket_slot stage; lacking = no_ticket_of stage }
 
 -- on that guest alone
 abbrev pub alone : StepRule → StepRule
@@ -60,7 +71,8 @@ grows_none s = record s { may_grow = false }
 
 -- on the VM part alone
 abbrev pub on_vms : Names → (Reads → Rule) → StepRule
-on_vms names r = record { parts = names; slot = λ k. None; may_grow = false; rule = r; lacking = None }
+on_vms names r =
+    record { parts = names; slot = λ k. None; may_grow = false; rule = r; lacking = None }
 
 -- each step
 abbrev pub step_rule : Step → StepRule

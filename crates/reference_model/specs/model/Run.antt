@@ -11,7 +11,8 @@ abbrev pub Runs : {S : Type 0} → (S → Call → S → Type 0) → S → List 
 Runs Go s [] t = s ≡ t
 Runs {S} Go s (c ∷ cs) t = (between : S) × Go s c between × Runs Go between cs t
 
--- run: the calls are of the layout's CPUs, and lead by reference steps from the boot state to this one
+-- run: the calls are of the layout's CPUs, and lead by reference steps from the boot state to this
+-- one
 pub record IsRun (l : Layout) (cs : List Call) (t : Reference) : Type 0 where
   pub cpus : All (λ c. c.cpu < l.config.cpus) cs
   pub leads : Runs (Steps l) (boot l) cs t

@@ -61,7 +61,8 @@ abbrev pub share_hyp : ℕ → Reads → Rule
 share_hyp f x = record fine {
   valid = memory_frame x.layout f;
   allowed = is_free_page (host_entry x.used f) && is_unmapped (hyp_entry x.used f)
-      otherwise codes "the host's page isn't free to give, or the hypervisor's page of the frame is mapped";
+      otherwise
+      codes "the host's page isn't free to give, or the hypervisor's page of the frame is mapped";
   changes = record no_changes { host = host_share f; hyp = hyp_share f };
 }
 
@@ -80,15 +81,19 @@ hand_of k = unwrap_or k.hand no_range
 
 -- each page of the range is free, and its page of the hypervisor unmapped
 abbrev pub may_donate : Used → ℕ → ℕ → Bool
-may_donate x f n = all_below n (λ i. is_free_page (host_entry x (f + i)) && is_unmapped (hyp_entry x (f + i)))
+may_donate x f n =
+    all_below n (λ i. is_free_page (host_entry x (f + i)) && is_unmapped (hyp_entry x (f + i)))
 
 -- the hypervisor owns the frame, and it is in no other use
 abbrev pub may_return : Used → ℕ → Bool
-may_return x f = (x.shared.row f).owner.0 == 1 && is_plain (x.shared.row f).usage && is_in Owned (hyp_entry x f)
+may_return x f =
+    (x.shared.row f).owner.0 == 1 && is_plain (x.shared.row f).usage && is_in Owned (hyp_entry x f)
 
 -- the range goes to the hypervisor
 abbrev pub to_hyp : ℕ → ℕ → Changes
-to_hyp f n = record no_changes { host = change f n (annotation 1); hyp = change (hyp_page f) n (leaf RW f Owned) }
+to_hyp f n =
+    record no_changes
+    { host = change f n (annotation 1); hyp = change (hyp_page f) n (leaf RW f Owned) }
 
 -- the range goes back to the host
 abbrev pub to_host : ℕ → ℕ → Changes
@@ -102,7 +107,8 @@ hand_becomes hand = record same_cpu { hand = Becomes hand }
 abbrev pub may_map : Map → Region → ℕ → ℕ → Bool
 may_map m r d page =
     let b = block_at d page in
-    nat_le r.pages.first.0 (first_page b) && nat_le (first_page b + span b) (end_of r.pages) && is_empty m b
+    nat_le r.pages.first.0 (first_page b) && nat_le (first_page b + span b) (end_of r.pages)
+    && is_empty m b
 
 -- the leaf that host_abort maps from a page on
 abbrev pub abort_leaf : Region → ℕ → Entry
@@ -117,15 +123,19 @@ unfoldable pub abort_edit : Map → Option Region → ℕ → Option MapChange
 abort_edit m None page = None
 abort_edit m (Some r) page =
     let b = block_at (abort_depth m r page) page in
-    if is_unmapped (m page) then change (first_page b) (span b) (abort_leaf r (first_page b)) else None
+    if is_unmapped (m page) then change (first_page b) (span b) (abort_leaf r (first_page b))
+    else None
 
 -- the host takes back what it shared with the hypervisor
 abbrev pub unshare_hyp : ℕ → Reads → Rule
 unshare_hyp f x = record fine {
   valid = memory_frame x.layout f;
   allowed = is_in SharedOwned (host_entry x.used f) && is_in SharedBorrowed (hyp_entry x.used f)
-      otherwise codes "the host's page isn't SharedOwned, or the hypervisor's page of the frame isn't SharedBorrowed";
-  changes = record no_changes { host = change f 1 (leaf RWX f Owned); hyp = change (hyp_page f) 1 Unmapped };
+      otherwise
+      codes "the host's page isn't SharedOwned, or the hypervisor's page of the frame isn't SharedBorrowed";
+  changes =
+      record no_changes
+      { host = change f 1 (leaf RWX f Owned); hyp = change (hyp_page f) 1 Unmapped };
 }
 
 -- the host gives a range to the hypervisor
@@ -133,7 +143,8 @@ abbrev pub donate_hyp : ℕ → ℕ → Reads → Rule
 donate_hyp f n x = record fine {
   valid = good_range x.layout f n;
   allowed = may_donate x.used f n
-      otherwise codes "of some frame of the range the host's page isn't free to give, or the hypervisor's page is mapped";
+      otherwise
+      codes "of some frame of the range the host's page isn't free to give, or the hypervisor's page is mapped";
   changes = to_hyp f n;
 }
 
@@ -142,7 +153,8 @@ abbrev pub hyp_donate_host : ℕ → ℕ → Reads → Rule
 hyp_donate_host f n x = record fine {
   valid = good_range x.layout f n;
   allowed = all_below n (λ i. may_return x.used (f + i))
-      otherwise codes "the hypervisor doesn't own some frame of the range, or it is in a pool, a table or a hand";
+      otherwise
+      codes "the hypervisor doesn't own some frame of the range, or it is in a pool, a table or a hand";
   changes = to_host f n;
 }
 
@@ -150,21 +162,38 @@ hyp_donate_host f n x = record fine {
 abbrev pub host_abort : ℕ → Reads → Rule
 host_abort page x = record fine {
   valid = is_some (region_of x.layout.memory page) otherwise codes "the page is in no region";
-  allowed = not (is_annotated (host_entry x.used page)) otherwise codes "the page is annotated: another owner has it";
-  changes = record no_changes { host = abort_edit x.used.shared.host.map (region_of x.layout.memory page) page };
+  allowed =
+      not
+      (is_annotated (host_entry x.used page)) otherwise
+      codes "the page is annotated: another owner has it";
+  changes =
+      record no_changes
+      { host = abort_edit x.used.shared.host.map (region_of x.layout.memory page) page };
 }
 
 -- the host's entry of a page
 abbrev pub host_translate : ℕ → Reads → Rule
-host_translate page x = record fine { valid = input_page x.layout page; changes = record no_changes { value = EntryOf (x.used.shared.host.map page) } }
+host_translate page x =
+    record fine {
+      valid = input_page x.layout page;
+      changes = record no_changes { value = EntryOf (x.used.shared.host.map page) };
+    }
 
 -- the hypervisor's entry of a page
 abbrev pub hyp_translate : ℕ → Reads → Rule
-hyp_translate page x = record fine { valid = input_page x.layout page; changes = record no_changes { value = EntryOf (x.used.shared.hyp.map page) } }
+hyp_translate page x =
+    record fine {
+      valid = input_page x.layout page;
+      changes = record no_changes { value = EntryOf (x.used.shared.hyp.map page) };
+    }
 
 -- the row of a frame
 abbrev pub owner_of : ℕ → Reads → Rule
-owner_of f x = record fine { valid = memory_frame x.layout f; changes = record no_changes { value = RowOf (x.used.shared.row f) } }
+owner_of f x =
+    record fine {
+      valid = memory_frame x.layout f;
+      changes = record no_changes { value = RowOf (x.used.shared.row f) };
+    }
 
 -- the host gives a range into the CPU's hand
 abbrev pub fund : ℕ → ℕ → Reads → Rule
@@ -172,13 +201,18 @@ fund f n x = record fine {
   valid = good_range x.layout f n;
   ready = is_none x.used.cpu.hand otherwise codes "the CPU's hand isn't empty";
   allowed = may_donate x.used f n
-      otherwise codes "of some frame of the range the host's page isn't free to give, or the hypervisor's page is mapped";
-  changes = record (to_hyp f n) { cpu = hand_becomes (Some (record { first = record { 0 = f }; count = n })) };
+      otherwise
+      codes "of some frame of the range the host's page isn't free to give, or the hypervisor's page is mapped";
+  changes =
+      record (to_hyp f n)
+      { cpu = hand_becomes (Some (record { first = record { 0 = f }; count = n })) };
 }
 
 -- the CPU's hand goes back to the host
 abbrev pub unfund : Reads → Rule
 unfund x = record fine {
   allowed = has_hand x.used.cpu;
-  changes = record (to_host (hand_of x.used.cpu).first.0 (hand_of x.used.cpu).count) { cpu = hand_becomes None };
+  changes =
+      record (to_host (hand_of x.used.cpu).first.0 (hand_of x.used.cpu).count)
+      { cpu = hand_becomes None };
 }

@@ -1,4 +1,5 @@
--- The reference state: what the VM part, the Shared part, the Guest parts and the CPUs hold, and the rooms of their logs.
+-- The reference state: what the VM part, the Shared part, the Guest parts and the CPUs hold, and
+-- the rooms of their logs.
 use Rattle.std.specs.Prelude.{ℕ, ◌==◌, [], Option, None, if◌then◌else◌}
 use Rattle.reference_model.specs.declared.changes.Ticket.{Ticket}
 use Rattle.reference_model.specs.declared.changes.Loaded.{Loaded}
@@ -84,7 +85,14 @@ no_guest = record { phase = empty; generation = 0; kind = PlainVm; tree = no_tre
 
 -- an Empty slot of the generation
 abbrev pub no_slot : ℕ → Slot
-no_slot generation = record { stand = vacant; generation = generation; kind = PlainVm; vcpus = 0; loaded = λ i. None }
+no_slot generation =
+    record {
+      stand = vacant;
+      generation = generation;
+      kind = PlainVm;
+      vcpus = 0;
+      loaded = λ i. None;
+    }
 
 -- a VM part all of whose slots are Empty
 abbrev pub no_vms : Vms

@@ -45,14 +45,19 @@ module _ (depth : ℕ) (h : Changes) where
 
   -- a pool has fewer free frames than the change needs on its trees
   unfoldable pub is_short : Used → Bool
-  is_short x = nat_lt (length x.shared.free) (shared_need x.shared) || nat_lt (length x.guest.free) (guest_need x.guest)
+  is_short x =
+      nat_lt (length x.shared.free) (shared_need x.shared)
+      || nat_lt (length x.guest.free) (guest_need x.guest)
 
-  -- Shared with both maps changed: the host's new tables get the lowest frames, the hypervisor's the next; freed frames come back at the end
+  -- Shared with both maps changed: the host's new tables get the lowest frames, the hypervisor's
+  -- the next; freed frames come back at the end
   unfoldable pub shared_after : Shared → Shared
   shared_after x = record x {
     host = edited depth x.host (edit_of h.host) x.free;
     hyp = edited depth x.hyp (edit_of h.hyp) (drop (need depth x.host (edit_of h.host)) x.free);
-    free = all_given (returned depth x.host (edit_of h.host) ++ returned depth x.hyp (edit_of h.hyp)) (drop (shared_need x) x.free);
+    free =
+        all_given (returned depth x.host (edit_of h.host) ++ returned depth x.hyp (edit_of h.hyp))
+        (drop (shared_need x) x.free);
   }
 
   -- the guest with its map changed from its own pool, and then what else changes of it
@@ -64,9 +69,16 @@ module _ (depth : ℕ) (h : Changes) where
 
   -- all that changes but the rows
   unfoldable pub changed : Used → Used
-  changed x = record { vms = vms_by h.slot x.vms; shared = shared_after x.shared; guest = guest_after x.guest; cpu = cpu_by h.cpu x.cpu }
+  changed x =
+      record {
+        vms = vms_by h.slot x.vms;
+        shared = shared_after x.shared;
+        guest = guest_after x.guest;
+        cpu = cpu_by h.cpu x.cpu;
+      }
 
--- the first of a rule's tests that fails, in this order; `lacks`: the step names a guest where there is none
+-- the first of a rule's tests that fails, in this order; `lacks`: the step names a guest where
+-- there is none
 abbrev pub first_test : Rule → Bool → Option Refusal
 first_test r lacks =
     if not r.valid.passes then Some Invalid
@@ -82,7 +94,8 @@ or_else None next = next
 
 -- the first test that fails: one of the rule's, or then that of the pools
 unfoldable pub refusal : ℕ → Rule → Bool → Used → Option Refusal
-refusal depth r lacks x = or_else (first_test r lacks) (if is_short depth r.changes x then Some NoPool else None)
+refusal depth r lacks x =
+    or_else (first_test r lacks) (if is_short depth r.changes x then Some NoPool else None)
 
 module _ (l : Layout) (cpu : ℕ) (slot : Option ℕ) (step : Step) where
   -- the owner row from scratch over what a call uses: its parts and its CPU's own hand
@@ -91,7 +104,13 @@ module _ (l : Layout) (cpu : ℕ) (slot : Option ℕ) (step : Step) where
 
   -- the rows of the touched memory frames are found again
   unfoldable pub with_rows : Changes → Used → Used
-  with_rows h x = record x { shared = record x.shared { row = λ f. elim (is_memory l f && is_touched h f) [ true ↦ own_row x f | false ↦ x.shared.row f ] } }
+  with_rows h x =
+      record x {
+        shared = record x.shared {
+          row = λ f. elim (is_memory l f && is_touched h f)
+              [ true ↦ own_row x f | false ↦ x.shared.row f ];
+        };
+      }
 
   -- the step's rule
   abbrev pub rule_of : Used → Rule
@@ -107,7 +126,9 @@ module _ (l : Layout) (cpu : ℕ) (slot : Option ℕ) (step : Step) where
 
   -- the answer of a step, and the used parts after it, logs apart
   unfoldable pub answer : Used → Reply × Used
-  answer x = elim (fails x) [ Some why ↦ (Refused why, x) | None ↦ (Done (rule_of x).changes.value, made x) ]
+  answer x =
+      elim (fails x)
+      [ Some why ↦ (Refused why, x) | None ↦ (Done (rule_of x).changes.value, made x) ]
 
   -- made: no test fails, and all that the rule says has changed
   pub record IsMade (x : Used) (reply : Reply) (y : Used) : Type 0 where
@@ -142,13 +163,16 @@ pub record FindsFull (c : Call) (x : Used) (r : UsedRooms) (y : Used) (q : UsedR
   pub rooms : q ≡ r
 
 -- each log has room: the call is answered, and stored
-pub record IsStoredAnswer (l : Layout) (c : Call) (x : Used) (r : UsedRooms) (y : Used) (q : UsedRooms) : Type 0 where
+pub record IsStoredAnswer (l : Layout) (c : Call) (x : Used) (r : UsedRooms) (y : Used)
+    (q : UsedRooms) : Type 0 where
   pub room : is_full (names c.step) c.slot r ≡ false
   pub answered : Answered l c.cpu c.slot c.step true x c.reply y
   pub rooms : q ≡ stored r
 
--- the reference step on what a call uses and the rooms of its logs; a call's number is one more than its CPU's log held
-pub record StepsOn (l : Layout) (c : Call) (x : Used) (r : UsedRooms) (y : Used) (q : UsedRooms) : Type 0 where
+-- the reference step on what a call uses and the rooms of its logs; a call's number is one more
+-- than its CPU's log held
+pub record StepsOn (l : Layout) (c : Call) (x : Used) (r : UsedRooms) (y : Used)
+    (q : UsedRooms) : Type 0 where
   pub slot : c.slot ≡ guest_slot x.cpu c.step
   pub number : c.number ≡ l.config.log - r.cpu + 1
   pub answers : FindsFull c x r y q ⊎ IsStoredAnswer l c x r y q
@@ -163,7 +187,11 @@ rooms_by c s = rooms_of (names c.step) c.slot c.cpu s.rooms
 
 -- a state with what a call uses replaced, and the rooms of its logs
 abbrev pub with_used : Call → Reference → Used → UsedRooms → Reference
-with_used c s x r = record { contents = put_back (names c.step) c.slot c.cpu s.contents x; rooms = put_rooms (names c.step) c.slot c.cpu s.rooms r }
+with_used c s x r =
+    record {
+      contents = put_back (names c.step) c.slot c.cpu s.contents x;
+      rooms = put_rooms (names c.step) c.slot c.cpu s.rooms r;
+    }
 
 -- the reference step: on what the call uses, and all else stays
 pub record Steps (l : Layout) (s : Reference) (c : Call) (t : Reference) : Type 0 where
@@ -172,7 +200,8 @@ pub record Steps (l : Layout) (s : Reference) (c : Call) (t : Reference) : Type 
   pub on : StepsOn l c (used_by c s) (rooms_by c s) after left
   pub next : t ≡ with_used c s after left
 
--- the answer of a step, the used parts after it and the rooms of its logs, if memory doesn't run out
+-- the answer of a step, the used parts after it and the rooms of its logs, if memory doesn't run
+-- out
 unfoldable pub predict : Layout → ℕ → Option ℕ → Step → Used → UsedRooms → Reply × Used × UsedRooms
 predict l cpu slot step x r =
     let a = answer l cpu slot step x in
@@ -183,5 +212,10 @@ unfoldable pub foretell : Layout → Reference → ℕ → Step → Reply × Ref
 foretell l s cpu step =
     let n = names step in
     let slot = guest_slot (s.contents.cpu cpu) step in
-    let r = predict l cpu slot step (used_of n slot cpu s.contents) (rooms_of n slot cpu s.rooms) in
-    (r.0, record { contents = put_back n slot cpu s.contents r.1; rooms = put_rooms n slot cpu s.rooms r.2 })
+    let r = predict l cpu slot step (used_of n slot cpu s.contents) (rooms_of n slot cpu s.rooms) in (
+      r.0,
+      record {
+        contents = put_back n slot cpu s.contents r.1;
+        rooms = put_rooms n slot cpu s.rooms r.2;
+      },
+    )

@@ -7,15 +7,18 @@ use Rattle.reference_model.specs.model.Parts.{vm_part, shared_part, guest_part}
 use Rattle.reference_model.specs.model.Rules.{call_uses}
 use Rattle.reference_model.specs.model.State.{Contents, Reference}
 
--- what a part or a CPU has, before and after a call: where the call uses it, the content of the next state and the log with the call, and else the same
+-- what a part or a CPU has, before and after a call: where the call uses it, the content of the
+-- next state and the log with the call, and else the same
 abbrev pub Stores : {X : Type 0} → Bool → Call → X → X × List Call → X × List Call → Type 0
-Stores used c next before after = elim used [ true ↦ after ≡ (next, before.1 ++ c ∷ []) | false ↦ after ≡ before ]
+Stores used c next before after =
+    elim used [ true ↦ after ≡ (next, before.1 ++ c ∷ []) | false ↦ after ≡ before ]
 
 -- what there is stores a call that leads to a state
 pub record StoresCall (c : Call) (t : Contents) (before after : Kept) : Type 0 where
   pub vms : Stores (call_uses vm_part c) c t.vms before.vms after.vms
   pub shared : Stores (call_uses shared_part c) c t.shared before.shared after.shared
-  pub guest : (v : ℕ) → Stores (call_uses (guest_part v) c) c (t.guest v) (before.guest v) (after.guest v)
+  pub guest : (v : ℕ)
+      → Stores (call_uses (guest_part v) c) c (t.guest v) (before.guest v) (after.guest v)
   pub cpu : (cpu : ℕ) → Stores (c.cpu == cpu) c (t.cpu cpu) (before.cpu cpu) (after.cpu cpu)
 
 -- the room that a log leaves
@@ -25,6 +28,18 @@ left_of l log = l.config.log - length log
 -- what there is, as a state: a log's room is what its calls leave
 abbrev pub held_state : Layout → Kept → Reference
 held_state l k = record {
-  contents = record { vms = k.vms.0; shared = k.shared.0; guest = λ v. (k.guest v).0; cpu = λ c. (k.cpu c).0 };
-  rooms = record { vms = left_of l k.vms.1; shared = left_of l k.shared.1; guest = λ v. left_of l (k.guest v).1; cpu = λ c. left_of l (k.cpu c).1 };
+  contents =
+      record {
+        vms = k.vms.0;
+        shared = k.shared.0;
+        guest = λ v. (k.guest v).0;
+        cpu = λ c. (k.cpu c).0;
+      };
+  rooms =
+      record {
+        vms = left_of l k.vms.1;
+        shared = left_of l k.shared.1;
+        guest = λ v. left_of l (k.guest v).1;
+        cpu = λ c. left_of l (k.cpu c).1;
+      };
 }

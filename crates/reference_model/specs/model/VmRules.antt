@@ -66,14 +66,24 @@ vm_reserve kind vcpus x = record fine {
   valid = nat_le 1 vcpus && nat_le vcpus 8 otherwise codes "a VM has 1 to 8 vCPUs";
   ready = is_none x.used.cpu.ticket && is_some (vacant_slot x.used.vms)
       otherwise codes "the CPU has a ticket, or no slot is Empty";
-  changes = record no_changes { slot = Reserve (next_slot x.used) kind vcpus; cpu = ticket_becomes (next_name x.used) kind booked; value = Vm (next_name x.used) };
+  changes =
+      record no_changes {
+        slot = Reserve (next_slot x.used) kind vcpus;
+        cpu = ticket_becomes (next_name x.used) kind booked;
+        value = Vm (next_name x.used);
+      };
 }
 
 -- an installed VM opens
 abbrev pub vm_open : Reads → Rule
 vm_open x = record fine {
   has_vm = has_stage installed x.used.cpu otherwise codes "the CPU has no Installed ticket";
-  changes = record no_changes { slot = Open (ticket_vm x.used.cpu).slot; cpu = no_ticket; value = Vm (ticket_vm x.used.cpu) };
+  changes =
+      record no_changes {
+        slot = Open (ticket_vm x.used.cpu).slot;
+        cpu = no_ticket;
+        value = Vm (ticket_vm x.used.cpu);
+      };
 }
 
 -- the CPU loads a vCPU
@@ -84,14 +94,20 @@ vcpu_load vm i x = let slot = x.used.vms.slot vm.slot in record fine {
   ready = is_none x.used.cpu.loaded && is_none (slot.loaded i)
       otherwise codes "the CPU has a vCPU loaded, or another CPU has this one";
   allowed = nat_lt i slot.vcpus otherwise codes "the VM has no vCPU of that number";
-  changes = record no_changes { slot = Load vm.slot i x.id; cpu = load_becomes (Some (record { vm = vm; vcpu = i })) };
+  changes =
+      record no_changes
+      { slot = Load vm.slot i x.id; cpu = load_becomes (Some (record { vm = vm; vcpu = i })) };
 }
 
 -- the CPU puts its vCPU back
 abbrev pub vcpu_put : Reads → Rule
 vcpu_put x = record fine {
   has_vm = is_some x.used.cpu.loaded otherwise codes "the CPU has no vCPU loaded";
-  changes = record no_changes { slot = Unload (load_of x.used.cpu).vm.slot (load_of x.used.cpu).vcpu; cpu = load_becomes None };
+  changes =
+      record no_changes {
+        slot = Unload (load_of x.used.cpu).vm.slot (load_of x.used.cpu).vcpu;
+        cpu = load_becomes None;
+      };
 }
 
 -- an Open VM closes
@@ -101,7 +117,8 @@ teardown vm x = let slot = x.used.vms.slot vm.slot in record fine {
   has_vm = open_slot vm slot;
   ready = is_none x.used.cpu.ticket && not (is_any_loaded slot)
       otherwise codes "the CPU has a ticket, or a vCPU of the VM is loaded";
-  changes = record no_changes { slot = Close vm.slot; cpu = ticket_becomes vm slot.kind closing_vm };
+  changes =
+      record no_changes { slot = Close vm.slot; cpu = ticket_becomes vm slot.kind closing_vm };
 }
 
 -- the slot of a ticket becomes Empty

@@ -17,7 +17,10 @@ use Rattle.reference_model.specs.model.GuestRules.{two_pages}
 
 -- the conditions, in the order of their table
 abbrev pub each : List Condition
-each = outside ∷ (hosts ∷ (with_hyp ∷ (hyps Plain ∷ (with_guest 2 9 ∷ (guests 2 9 ∷ (lent_back 2 9 ∷ []))))))
+each =
+    outside
+    ∷ (hosts
+    ∷ (with_hyp ∷ (hyps Plain ∷ (with_guest 2 9 ∷ (guests 2 9 ∷ (lent_back 2 9 ∷ []))))))
 
 -- the report of each
 abbrev pub of_each : {X : Type 0} → (Condition → X) → List X
@@ -25,22 +28,46 @@ of_each f = map f each
 
 -- the host's page where the frame is no memory, and where it is the host's alone
 abbrev pub HostAloneRow : Type 0
-HostAloneRow = HostFits 5 outside Unmapped × HostFits 5 outside (device_leaf 5) × ¬ HostFits 5 outside (leaf RWX 5 Owned) × ¬ HostFits 5 outside (device_leaf 6)
-    × HostFits 5 hosts Unmapped × HostFits 5 hosts (leaf RWX 5 Owned) × ¬ HostFits 5 hosts (leaf RWX 6 Owned) × ¬ HostFits 5 hosts (leaf RWX 5 SharedOwned) × ¬ HostFits 5 hosts (annotation 1)
+HostAloneRow =
+    HostFits 5 outside Unmapped
+    × HostFits 5 outside (device_leaf 5)
+    × ¬ HostFits 5 outside (leaf RWX 5 Owned)
+    × ¬ HostFits 5 outside (device_leaf 6)
+    × HostFits 5 hosts Unmapped
+    × HostFits 5 hosts (leaf RWX 5 Owned)
+    × ¬ HostFits 5 hosts (leaf RWX 6 Owned)
+    × ¬ HostFits 5 hosts (leaf RWX 5 SharedOwned)
+    × ¬ HostFits 5 hosts (annotation 1)
 
 -- and where another has a part in it
 abbrev pub HostSharedRow : Type 0
-HostSharedRow = HostFits 5 with_hyp (leaf RWX 5 SharedOwned) × ¬ HostFits 5 with_hyp Unmapped × HostFits 5 (hyps Plain) (annotation 1) × ¬ HostFits 5 (hyps Plain) (annotation 2)
-    × HostFits 5 (with_guest 2 9) (leaf RWX 5 SharedOwned) × ¬ HostFits 5 (with_guest 2 9) (leaf RWX 9 SharedOwned) × HostFits 5 (guests 2 9) (annotation 4) × ¬ HostFits 5 (guests 2 9) (annotation 2)
-    × HostFits 5 (lent_back 2 9) (leaf RWX 5 SharedBorrowed) × ¬ HostFits 5 (lent_back 2 9) (leaf RWX 5 SharedOwned)
+HostSharedRow =
+    HostFits 5 with_hyp (leaf RWX 5 SharedOwned)
+    × ¬ HostFits 5 with_hyp Unmapped
+    × HostFits 5 (hyps Plain) (annotation 1)
+    × ¬ HostFits 5 (hyps Plain) (annotation 2)
+    × HostFits 5 (with_guest 2 9) (leaf RWX 5 SharedOwned)
+    × ¬ HostFits 5 (with_guest 2 9) (leaf RWX 9 SharedOwned)
+    × HostFits 5 (guests 2 9) (annotation 4)
+    × ¬ HostFits 5 (guests 2 9) (annotation 2)
+    × HostFits 5 (lent_back 2 9) (leaf RWX 5 SharedBorrowed)
+    × ¬ HostFits 5 (lent_back 2 9) (leaf RWX 5 SharedOwned)
 
 -- the hypervisor's page of the frame
 abbrev pub HypRow : Type 0
-HypRow = of_each (hyp_says 5) ≡ Unmapped ∷ (Unmapped ∷ (leaf RW 5 SharedBorrowed ∷ (leaf RW 5 Owned ∷ (Unmapped ∷ (Unmapped ∷ (Unmapped ∷ []))))))
+HypRow =
+    of_each (hyp_says 5)
+    ≡ Unmapped
+    ∷ (Unmapped
+    ∷ (leaf RW 5 SharedBorrowed
+    ∷ (leaf RW 5 Owned ∷ (Unmapped ∷ (Unmapped ∷ (Unmapped ∷ []))))))
 
 -- what a guest's page says of the frame that it maps
 abbrev pub GuestRow : Type 0
-GuestRow = (guest_condition Owned 2 9 ≡ guests 2 9) × (guest_condition SharedOwned 2 9 ≡ lent_back 2 9) × (guest_condition SharedBorrowed 2 9 ≡ with_guest 2 9)
+GuestRow =
+    (guest_condition Owned 2 9 ≡ guests 2 9)
+    × (guest_condition SharedOwned 2 9 ≡ lent_back 2 9)
+    × (guest_condition SharedBorrowed 2 9 ≡ with_guest 2 9)
 
 -- an owner row in no use
 abbrev pub owned_by : ℕ → Row
@@ -48,14 +75,22 @@ owned_by owner = record { owner = record { 0 = owner }; lent = None; usage = Pla
 
 -- the frame's owner row
 abbrev pub RowsOfEach : Type 0
-RowsOfEach = of_each (row_in 5) ≡ owned_by 0 ∷ (owned_by 0 ∷ (record (owned_by 0) { lent = Some (lent_at 1 0x4000005) } ∷ (owned_by 1
-    ∷ (record (owned_by 0) { lent = Some (lent_at 4 9) } ∷ (owned_by 4 ∷ (record (owned_by 4) { lent = Some (lent_at 0 5) } ∷ []))))))
+RowsOfEach =
+    of_each (row_in 5)
+    ≡ owned_by 0
+    ∷ (owned_by 0 ∷ (record (owned_by 0) { lent = Some (lent_at 1 0x4000005) } ∷ (owned_by 1
+    ∷ (record (owned_by 0) { lent = Some (lent_at 4 9) }
+    ∷ (owned_by 4 ∷ (record (owned_by 4) { lent = Some (lent_at 0 5) } ∷ []))))))
 
 -- which keeper holds a frame of the hypervisor's, by its use
 abbrev pub KeepersRow : Type 0
-KeepersRow = (map (λ u. in_shared (hyps u)) (Plain ∷ (SharedPool ∷ (VmPool 2 ∷ (InHand 3 ∷ [])))) ≡ false ∷ (true ∷ (false ∷ (false ∷ []))))
-    × (map (λ u. in_vm 2 (hyps u)) (Plain ∷ (SharedPool ∷ (VmPool 2 ∷ (VmPool 3 ∷ [])))) ≡ false ∷ (false ∷ (true ∷ (false ∷ []))))
-    × (map (λ u. in_hand 3 (hyps u)) (Plain ∷ (VmPool 3 ∷ (InHand 3 ∷ (InHand 2 ∷ [])))) ≡ false ∷ (false ∷ (true ∷ (false ∷ []))))
+KeepersRow =
+    (map (λ u. in_shared (hyps u)) (Plain ∷ (SharedPool ∷ (VmPool 2 ∷ (InHand 3 ∷ []))))
+    ≡ false ∷ (true ∷ (false ∷ (false ∷ []))))
+    × (map (λ u. in_vm 2 (hyps u)) (Plain ∷ (SharedPool ∷ (VmPool 2 ∷ (VmPool 3 ∷ []))))
+    ≡ false ∷ (false ∷ (true ∷ (false ∷ []))))
+    × (map (λ u. in_hand 3 (hyps u)) (Plain ∷ (VmPool 3 ∷ (InHand 3 ∷ (InHand 2 ∷ []))))
+    ≡ false ∷ (false ∷ (true ∷ (false ∷ []))))
 
 -- the condition that changes of CPU 3 with the guest of slot 2 move a frame to
 abbrev pub moves_to : Changes → Condition
@@ -67,8 +102,24 @@ two_sides e g = two_pages 5 e 9 g
 
 -- the places to which calls move a frame: shares, donations, funds and frames taken back
 abbrev pub MovesRow : Type 0
-MovesRow = (moves_to (record no_changes { host = change 5 1 (leaf RWX 5 SharedOwned); hyp = change 0x4000005 1 (leaf RW 5 SharedBorrowed) }) ≡ with_hyp)
-    × (moves_to (to_hyp 5 1) ≡ hyps Plain) × (moves_to (record (to_hyp 5 1) { cpu = hand_becomes (Some (record { first = record { 0 = 5 }; count = 1 })) }) ≡ hyps (InHand 3)) × (moves_to (to_host 5 1) ≡ hosts)
-    × (moves_to (record no_changes { moved = Some (record { first = record { 0 = 5 }; count = 1 }) }) ≡ hyps (VmPool 2))
-    × (moves_to (two_sides (leaf RWX 5 SharedOwned) (leaf RW 5 SharedBorrowed)) ≡ with_guest 2 9) × (moves_to (two_sides (annotation 4) (leaf RWX 5 Owned)) ≡ guests 2 9)
-    × (moves_to (two_sides (leaf RWX 5 SharedBorrowed) (leaf RWX 5 SharedOwned)) ≡ lent_back 2 9) × (moves_to (two_sides (leaf RWX 5 Owned) Unmapped) ≡ hosts) × (moves_to (two_sides Unmapped Unmapped) ≡ hosts)
+MovesRow =
+    (moves_to
+    (record no_changes {
+      host = change 5 1 (leaf RWX 5 SharedOwned);
+      hyp = change 0x4000005 1 (leaf RW 5 SharedBorrowed);
+    })
+    ≡ with_hyp)
+    × (moves_to (to_hyp 5 1) ≡ hyps Plain)
+    × (moves_to
+    (record (to_hyp 5 1)
+    { cpu = hand_becomes (Some (record { first = record { 0 = 5 }; count = 1 })) })
+    ≡ hyps (InHand 3))
+    × (moves_to (to_host 5 1) ≡ hosts)
+    × (moves_to
+    (record no_changes { moved = Some (record { first = record { 0 = 5 }; count = 1 }) })
+    ≡ hyps (VmPool 2))
+    × (moves_to (two_sides (leaf RWX 5 SharedOwned) (leaf RW 5 SharedBorrowed)) ≡ with_guest 2 9)
+    × (moves_to (two_sides (annotation 4) (leaf RWX 5 Owned)) ≡ guests 2 9)
+    × (moves_to (two_sides (leaf RWX 5 SharedBorrowed) (leaf RWX 5 SharedOwned)) ≡ lent_back 2 9)
+    × (moves_to (two_sides (leaf RWX 5 Owned) Unmapped) ≡ hosts)
+    × (moves_to (two_sides Unmapped Unmapped) ≡ hosts)

@@ -20,11 +20,21 @@ use Rattle.page_state.specs.Trees.{Block}
 use Rattle.reference_model.specs.model.State.{Reference}
 use Rattle.reference_model.specs.model.Step.{foretell}
 
--- 0x800 frames of memory from 0x1000 on, 16 device pages from 0x900 on, a carve-out of 64 frames from 0x1600 on, logs of 64 calls, and trees with `depth` levels below the root
+-- 0x800 frames of memory from 0x1000 on, 16 device pages from 0x900 on, a carve-out of 64 frames
+-- from 0x1600 on, logs of 64 calls, and trees with `depth` levels below the root
 abbrev pub small : ℕ → Layout
 small depth = record {
   memory = record {
-    regions = record { kind = MemoryKind; pages = record { first = record { 0 = 0x1000 }; count = 0x800 } } ∷ (record { kind = Device; pages = record { first = record { 0 = 0x900 }; count = 0x10 } } ∷ []);
+    regions =
+        record {
+          kind = MemoryKind;
+          pages = record { first = record { 0 = 0x1000 }; count = 0x800 };
+        }
+        ∷ (record {
+          kind = Device;
+          pages = record { first = record { 0 = 0x900 }; count = 0x10 };
+        }
+        ∷ []);
     carve = record { first = record { 0 = 0x1600 }; count = 0x40 };
   };
   config = record { cpus = 16; log = 64; geometry = 12 + 9 * (depth + 1) };
@@ -71,13 +81,17 @@ abbrev pub old_row : Row
 old_row = row 9 SharedPool
 
 -- the step is refused so, and leaves all that there is
-pub record Refuses (l : Layout) (s : Reference) (cpu : ℕ) (step : Step) (why : Refusal) : Type 0 where
+pub record Refuses (l : Layout) (s : Reference) (cpu : ℕ) (step : Step)
+    (why : Refusal) : Type 0 where
   pub reply : (foretell l s cpu step).0 ≡ Refused why
   pub left : (foretell l s cpu step).1.contents ≡ s.contents
 
 -- beside the Shared part nothing has changed: no slot, no guest and nothing of the CPU
 abbrev pub SharedAlone : Reference → ℕ → Reference → Type 0
-SharedAlone s cpu t = (t.contents.vms ≡ s.contents.vms) × (t.contents.guest ≡ s.contents.guest) × (t.contents.cpu cpu ≡ s.contents.cpu cpu)
+SharedAlone s cpu t =
+    (t.contents.vms ≡ s.contents.vms)
+    × (t.contents.guest ≡ s.contents.guest)
+    × (t.contents.cpu cpu ≡ s.contents.cpu cpu)
 
 -- the Shared part and the slots are as they were
 abbrev pub GuestAlone : Reference → Reference → Type 0

@@ -1,4 +1,5 @@
--- Worked rows of calls whose pages have their tables in each run: written without tables and free frames, they are refused as the others are.
+-- Worked rows of calls whose pages have their tables in each run: written without tables and free
+-- frames, they are refused as the others are.
 use Rattle.std.specs.Prelude.{[], ◌∷◌}
 use Rattle.descriptor.specs.declared.Prot.TheVariants.{RW, RX}
 use Rattle.descriptor.specs.declared.State.TheVariants.{SharedBorrowed}
@@ -23,10 +24,23 @@ bare = record scene {
 
 -- the scene with the root as the only table of the plain guest, which has no free frame
 abbrev pub bare_plain : Reference
-bare_plain = with_guest_part 4 (record plain_guest { free = []; tree = record { map = pages ((16, leaf RX 0x1006 SharedBorrowed) ∷ []); table = tables (((2, 0), 0x1711) ∷ []) } }) scene
+bare_plain =
+    with_guest_part 4
+    (record plain_guest {
+      free = [];
+      tree =
+          record {
+            map = pages ((16, leaf RX 0x1006 SharedBorrowed) ∷ []);
+            table = tables (((2, 0), 0x1711) ∷ []);
+          };
+    }) scene
 
 -- a change of one page needs a table there, and none is free
 abbrev pub TablesShort : Type 0
 TablesShort =
-    Refuses (small 1) bare 2 (UnshareHyp 0x1001) NoPool × Refuses (small 1) bare 2 (UnshareGuest (vm 4 2) 16) NoPool × Refuses (small 1) bare 0 (GuestShareHost 7) NoPool
-    × Refuses (small 1) bare 0 (GuestUnshareHost 8) NoPool × Refuses (small 1) bare 2 (ReclaimPage (vm 5 3) 2) NoPool × Refuses (small 1) bare_plain 1 (GuestRelax 16 RW) NoPool
+    Refuses (small 1) bare 2 (UnshareHyp 0x1001) NoPool
+    × Refuses (small 1) bare 2 (UnshareGuest (vm 4 2) 16) NoPool
+    × Refuses (small 1) bare 0 (GuestShareHost 7) NoPool
+    × Refuses (small 1) bare 0 (GuestUnshareHost 8) NoPool
+    × Refuses (small 1) bare 2 (ReclaimPage (vm 5 3) 2) NoPool
+    × Refuses (small 1) bare_plain 1 (GuestRelax 16 RW) NoPool

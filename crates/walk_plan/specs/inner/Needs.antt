@@ -17,12 +17,15 @@ sum_to f (suc n) = sum_to f n + f n
 
 -- what `f` gives for part `i`, where the change meets it
 unfoldable pub met : ℕ → Change → (ℕ → Change → ℕ) → ℕ → ℕ
-met depth c f i = if nat_lt (part depth i c).first (part depth i c).end then f i (part depth i c) else 0
+met depth c f i =
+    if nat_lt (part depth i c).first (part depth i c).end then f i (part depth i c) else 0
 
 -- the tables that a change needs in a block without a table
 unfoldable pub block_need : ℕ → Entry → Change → ℕ
 block_need zero x c = 0
-block_need (suc depth) x c = if stays_one_word (suc depth) x c then 0 else 1 + sum_to (met depth c (λ i. block_need depth (advance x (i * block_pages depth)))) 512
+block_need (suc depth) x c =
+    if stays_one_word (suc depth) x c then 0
+    else 1 + sum_to (met depth c (λ i. block_need depth (advance x (i * block_pages depth)))) 512
 
 -- what it needs in part `i` of such a block
 unfoldable pub block_parts : ℕ → Entry → ℕ → Change → ℕ
@@ -31,7 +34,9 @@ block_parts depth x i c = block_need depth (advance x (i * block_pages depth)) c
 -- what it needs in a slot
 unfoldable pub slot_need : {A : Type 0} → ℕ → Slot A → Change → ℕ
 slot_need zero s c = 0
-slot_need (suc depth) s c = slot_case (λ w. block_need (suc depth) (entry_of_word (desc_of (level_at (suc depth)) w)) c) (λ t. sum_to (met depth c (λ i. slot_need depth (slot_at t i))) 512) s
+slot_need (suc depth) s c =
+    slot_case (λ w. block_need (suc depth) (entry_of_word (desc_of (level_at (suc depth)) w)) c)
+    (λ t. sum_to (met depth c (λ i. slot_need depth (slot_at t i))) 512) s
 
 -- what it needs in slot `i` of a table
 unfoldable pub table_parts : {A : Type 0} → ℕ → Table A → ℕ → Change → ℕ

@@ -28,42 +28,58 @@ later n (Some r) = Some (n + r)
 
 -- what `f` gives for the part `i`, where the change meets it
 abbrev pub met_at : ℕ → Change → (ℕ → Change → Option ℕ) → ℕ → Option ℕ
-met_at depth c f i = if nat_lt (part depth i c).first (part depth i c).end then f i (part depth i c) else None
+met_at depth c f i =
+    if nat_lt (part depth i c).first (part depth i c).end then f i (part depth i c) else None
 
--- how many tables a change makes in a block before the one with `low` levels below it on a page's path, where it makes that one
+-- how many tables a change makes in a block before the one with `low` levels below it on a page's
+-- path, where it makes that one
 unfoldable pub block_rank : ℕ → Entry → Change → ℕ → ℕ → Option ℕ
 block_rank zero x c low q = None
 block_rank (suc depth) x c low q =
     if stays_one_word (suc depth) x c then None
     else if low == depth then Some 0
-    else later 1 (later (sum_to (met depth c (block_parts depth x)) (index_at depth q)) (met_at depth c (λ i d. block_rank depth (advance x (i * block_pages depth)) d low q) (index_at depth q)))
+    else later 1
+    (later (sum_to (met depth c (block_parts depth x)) (index_at depth q))
+    (met_at depth c (λ i d. block_rank depth (advance x (i * block_pages depth)) d low q)
+    (index_at depth q)))
 
 -- the same for the parts of a block
 unfoldable pub parts_rank : ℕ → Entry → Change → ℕ → ℕ → Option ℕ
-parts_rank depth x c low q = later (sum_to (met depth c (block_parts depth x)) (index_at depth q)) (met_at depth c (λ i d. block_rank depth (advance x (i * block_pages depth)) d low q) (index_at depth q))
+parts_rank depth x c low q =
+    later (sum_to (met depth c (block_parts depth x)) (index_at depth q))
+    (met_at depth c (λ i d. block_rank depth (advance x (i * block_pages depth)) d low q)
+    (index_at depth q))
 
 -- the same for a slot
 unfoldable pub slot_rank : {A : Type 0} → ℕ → Slot A → Change → ℕ → ℕ → Option ℕ
 slot_rank zero s c low q = None
 slot_rank (suc depth) s c low q = slot_case
     (λ w. block_rank (suc depth) (entry_of_word (desc_of (level_at (suc depth)) w)) c low q)
-    (λ b. later (sum_to (met depth c (table_parts depth b)) (index_at depth q)) (met_at depth c (λ i d. slot_rank depth (slot_at b i) d low q) (index_at depth q)))
+    (λ b. later (sum_to (met depth c (table_parts depth b)) (index_at depth q))
+    (met_at depth c (λ i d. slot_rank depth (slot_at b i) d low q) (index_at depth q)))
     s
 
 -- the same for a table
 unfoldable pub table_rank : {A : Type 0} → ℕ → Table A → Change → ℕ → ℕ → Option ℕ
-table_rank depth t c low q = later (sum_to (met depth c (table_parts depth t)) (index_at depth q)) (met_at depth c (λ i d. slot_rank depth (slot_at t i) d low q) (index_at depth q))
+table_rank depth t c low q =
+    later (sum_to (met depth c (table_parts depth t)) (index_at depth q))
+    (met_at depth c (λ i d. slot_rank depth (slot_at t i) d low q) (index_at depth q))
 
 -- whether a word can say what a change leaves of the entries `m` of a block
 unfoldable pub is_folded : ℕ → (ℕ → Entry) → Change → Bool
-is_folded depth m c = fits_word depth (changed_entry depth m c 0) && all_below (block_pages depth) (λ i. entry_eq (changed_entry depth m c i) (advance (changed_entry depth m c 0) i))
+is_folded depth m c =
+    fits_word depth (changed_entry depth m c 0)
+    && all_below (block_pages depth)
+    (λ i. entry_eq (changed_entry depth m c i) (advance (changed_entry depth m c 0) i))
 
--- how often a frame is that of a table at a slot or below it that goes: a word can say the block's map afterwards
+-- how often a frame is that of a table at a slot or below it that goes: a word can say the block's
+-- map afterwards
 unfoldable pub slot_gone : {A : Type 0} → ℕ → Slot A → Change → ℕ → ℕ
 slot_gone zero s c f = 0
 slot_gone (suc depth) s c f = slot_case
     (λ _. 0)
-    (λ t. sum_to (met depth c (λ i d. slot_gone depth (slot_at t i) d f)) 512 + (if is_folded (suc depth) (entry_at depth t) c then is_one (frame_of t) f else 0))
+    (λ t. sum_to (met depth c (λ i d. slot_gone depth (slot_at t i) d f)) 512 +
+    (if is_folded (suc depth) (entry_at depth t) c then is_one (frame_of t) f else 0))
     s
 
 -- the same in slot `i` of a table

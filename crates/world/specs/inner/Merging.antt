@@ -1,4 +1,5 @@
--- How logs are merged: the calls given of each log are its first, and the rest of it goes on from there.
+-- How logs are merged: the calls given of each log are its first, and the rest of it goes on from
+-- there.
 use Rattle.std.specs.Prelude.{◌≡◌, ℕ, zero, suc, ◌+◌, Bool, true, ◌==◌, if◌then◌else◌, List, [], ◌∷◌, Option, Some, None, Vec, drop, length, slice_index}
 use Rattle.call_table.specs.declared.reply.Call.{Call}
 use Rattle.reference_model.specs.model.Parts.{Part, vm_part, shared_part, guest_part}
@@ -65,4 +66,6 @@ left_at logs places k = drop (slice_index places k) (log_at logs k)
 
 -- the next call was given in each log whose number passes a test
 abbrev pub IsAdvanced : {Z : Type 0} → (ℕ → Bool) → List (Vec Call Z) → List ℕ → List ℕ → Type 0
-IsAdvanced passes logs old new = (k : ℕ) → left_at logs new k ≡ (if passes k then rest_of (left_at logs old k) else left_at logs old k)
+IsAdvanced passes logs old new =
+    (k : ℕ)
+    → left_at logs new k ≡ (if passes k then rest_of (left_at logs old k) else left_at logs old k)

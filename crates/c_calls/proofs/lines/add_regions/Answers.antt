@@ -8,6 +8,8 @@ pub loop-region-preserved : goal.loop-region-preserved
 loop-region-preserved c =
     let none : PlainRegion = record { kind = 0; first = 0; count = 0 } in
     record {
-      added = one_added c.args.regions.now c.loop-region.region-index none (string_bytes c.args.text.now) (string_bytes c.loop-region.text) (string_bytes c.add_region.new.text) (omega arith)
+      added =
+          one_added c.args.regions.now c.loop-region.region-index none (string_bytes c.args.text.now)
+          (string_bytes c.loop-region.text) (string_bytes c.add_region.new.text) (omega arith)
           c.loop-region.invariant.added c.in_ok-add_region.ensures;
     }

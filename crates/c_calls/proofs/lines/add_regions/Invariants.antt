@@ -5,4 +5,8 @@ use Rattle.c_calls.proofs.lines.add_regions.Given as goal
 
 -- the lines of the regions so far are added
 abbrev pub invariant-loop-region : goal.invariant-loop-region
-invariant-loop-region l = record { added : string_bytes l.text ≡ string_bytes l.initial.text ++ text_of_lines (map region_line (take l.region-index l.regions)) }
+invariant-loop-region l =
+    record {
+      added : string_bytes l.text
+          ≡ string_bytes l.initial.text ++ text_of_lines (map region_line (take l.region-index l.regions));
+    }

@@ -10,7 +10,10 @@ pub returns-in-Ok-suggested-clause-call : goal.returns-in-Ok-suggested-clause-ca
 returns-in-Ok-suggested-clause-call c =
     let l = layout_said c.args.layout.now c.args.layout.now.regions.now in
     let call = c.in-Ok-suggested.call in
-    let on_layout = subst (λ m. IsSuggested m (ghost_state c.in-Ok.state) c.args.random c.args.hostile call) c.in-Ok.ensures.layout c.in-Ok-suggested.ensures in
+    let on_layout =
+    subst
+    (λ m. IsSuggested m (ghost_state c.in-Ok.state) c.args.random c.args.hostile call) c.in-Ok.ensures.layout
+    c.in-Ok-suggested.ensures in
     record {
       step = call.step;
       step_is = ap step_said c.step_told.ensures ∙ steps_said call.step;

@@ -9,10 +9,15 @@ returns-then-not-has_next_generation-clause-untold c = (
   search rules,
   c.in-Ok.ensures.ready,
   c.in-Ok.ensures.taken,
-  last-generation (ghost_state c.in-Ok.pre) (lists_told c.args.before.now) c.args.cpu c.args.step c.in-Some.step c.has_next_generation.result (search rules) c.in-Ok.ensures.state c.has_next_generation.ensures (search rules),
+  last-generation (ghost_state c.in-Ok.pre)
+      (lists_told c.args.before.now) c.args.cpu c.args.step c.in-Some.step c.has_next_generation.result
+      (search rules) c.in-Ok.ensures.state c.has_next_generation.ensures (search rules),
 )
 
 pub returns-else-not-has_next_generation-clause-ready : goal.returns-else-not-has_next_generation-clause-ready
 returns-else-not-has_next_generation-clause-ready c =
-    callable c.args.layout.now c.args.layout.now.regions.now c.in-Ok.pre (lists_told c.args.before.now) c.args.cpu c.args.step c.in-Some.step c.has_next_generation.result (search rules) (search rules)
-    c.in-Ok.ensures.ready c.in-Ok.ensures.taken c.in-Ok.ensures.state c.has_next_generation.ensures c.if-not-has_next_generation.false c.in-Ok.ensures.layout c.in-Ok.ensures.cpus
+    callable c.args.layout.now c.args.layout.now.regions.now c.in-Ok.pre
+    (lists_told c.args.before.now) c.args.cpu c.args.step c.in-Some.step c.has_next_generation.result
+    (search rules) (search rules)
+    c.in-Ok.ensures.ready c.in-Ok.ensures.taken c.in-Ok.ensures.state c.has_next_generation.ensures
+    c.if-not-has_next_generation.false c.in-Ok.ensures.layout c.in-Ok.ensures.cpus

@@ -3,4 +3,11 @@ use Rattle.c_states.proofs.OneReason.{layout_once, unjudged_once, unmade_once, u
 use Rattle.c_states.proofs.laws.one_reason.Goals as goal
 
 pub returns : goal.returns
-returns c = record { layout = layout_once; lists = fault_once; made = unmade_once; foretold = untold_once; judged = unjudged_once }
+returns c =
+    record {
+      layout = layout_once;
+      lists = fault_once;
+      made = unmade_once;
+      foretold = untold_once;
+      judged = unjudged_once;
+    }

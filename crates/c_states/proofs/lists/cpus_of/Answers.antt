@@ -5,5 +5,9 @@ use Rattle.c_states.proofs.OneMore.{numbered_more}
 use Rattle.c_states.proofs.lists.cpus_of.Goals as goal
 
 pub loop-number-preserved : goal.loop-number-preserved
-loop-number-preserved c = ap (map cpu_in) c.in_ok-push.ensures.items ∙ numbered_more cpu_in (λ n. cpu_said (cpu_listed c.args.cpus.now n)) c.loop-number.made.items c.loop-number.number c.cpu_of.result c.loop-number.invariant
+loop-number-preserved c =
+    ap (map cpu_in) c.in_ok-push.ensures.items
+    ∙ numbered_more cpu_in
+    (λ n. cpu_said (cpu_listed c.args.cpus.now n)) c.loop-number.made.items c.loop-number.number
+    c.cpu_of.result c.loop-number.invariant
     (c.cpu_of.ensures ∙ ap cpu_said c.listed_cpu.ensures)

@@ -5,4 +5,5 @@ use Rattle.c_states.specs.Lists.{cpu_listed, cpu_said}
 use Rattle.c_states.proofs.lists.cpus_of.Given as goal
 
 abbrev pub invariant-loop-number : goal.invariant-loop-number
-invariant-loop-number l = map cpu_in l.made.items ≡ map (λ c. cpu_said (cpu_listed l.cpus c)) (range_with_len 0 l.number)
+invariant-loop-number l =
+    map cpu_in l.made.items ≡ map (λ c. cpu_said (cpu_listed l.cpus c)) (range_with_len 0 l.number)

@@ -9,10 +9,15 @@ use Rattle.c_states.proofs.lists.loaders_of.Goals as goal
 pub loop-vcpu-preserved : goal.loop-vcpu-preserved
 loop-vcpu-preserved c =
     let here : 0 + c.loop-vcpu.vcpu ≡ c.loop-vcpu.vcpu = omega arith in
-    c.in_ok-push.ensures.items ∙ same2 (λ (os : List (Option ℕ)) (o : Option ℕ). os ++ o ∷ []) c.loop-vcpu.invariant c.loader_of.ensures ∙ sym (map-range_with_len_more (loader_said c.args.loads.now c.args.slot) 0 c.loop-vcpu.vcpu c.loop-vcpu.vcpu here)
+    c.in_ok-push.ensures.items
+    ∙ same2 (λ (os : List (Option ℕ)) (o : Option ℕ). os ++ o ∷ []) c.loop-vcpu.invariant c.loader_of.ensures
+    ∙ sym
+    (map-range_with_len_more
+    (loader_said c.args.loads.now c.args.slot) 0 c.loop-vcpu.vcpu c.loop-vcpu.vcpu here)
 
 pub returns : goal.returns
 returns c = λ i.
     let end : c.loop-vcpu.vcpu ≡ 8 = search rules in
-    ap (λ (os : List (Option ℕ)). get_or os i None) c.loop-vcpu.invariant ∙ by_range (loader_said c.args.loads.now c.args.slot) c.loop-vcpu.vcpu i
+    ap (λ (os : List (Option ℕ)). get_or os i None) c.loop-vcpu.invariant
+    ∙ by_range (loader_said c.args.loads.now c.args.slot) c.loop-vcpu.vcpu i
     ∙ ap (λ (n : ℕ). if nat_lt i n then loader_said c.args.loads.now c.args.slot i else None) end

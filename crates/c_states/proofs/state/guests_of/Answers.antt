@@ -6,5 +6,11 @@ use Rattle.c_states.proofs.OneMore.{numbered_more}
 use Rattle.c_states.proofs.state.guests_of.Goals as goal
 
 pub loop-slot-preserved : goal.loop-slot-preserved
-loop-slot-preserved c = ap (map lists_in) c.in_ok-push.ensures.items ∙ numbered_more lists_in (λ n. guest_lists_said (lists_told c.args.state.now) n (guest_listed c.args.state.now.guests.now n)) c.loop-slot.made.items c.loop-slot.slot c.in_ok-guest.guest c.loop-slot.invariant
-    (c.in_ok-guest.ensures ∙ ap (guest_lists_said (lists_told c.args.state.now) c.loop-slot.slot) c.listed_guest.ensures)
+loop-slot-preserved c =
+    ap (map lists_in) c.in_ok-push.ensures.items
+    ∙ numbered_more lists_in
+    (λ n. guest_lists_said (lists_told c.args.state.now) n
+    (guest_listed c.args.state.now.guests.now n)) c.loop-slot.made.items c.loop-slot.slot
+    c.in_ok-guest.guest c.loop-slot.invariant
+    (c.in_ok-guest.ensures
+    ∙ ap (guest_lists_said (lists_told c.args.state.now) c.loop-slot.slot) c.listed_guest.ensures)

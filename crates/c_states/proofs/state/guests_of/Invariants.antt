@@ -6,4 +6,7 @@ use Rattle.c_states.specs.Views.{lists_told}
 use Rattle.c_states.proofs.state.guests_of.Given as goal
 
 abbrev pub invariant-loop-slot : goal.invariant-loop-slot
-invariant-loop-slot l = map lists_in l.made.items ≡ map (λ n. guest_lists_said (lists_told l.state) n (guest_listed l.state.guests.now n)) (range_with_len 0 l.slot)
+invariant-loop-slot l =
+    map lists_in l.made.items
+    ≡ map (λ n. guest_lists_said (lists_told l.state) n (guest_listed l.state.guests.now n))
+    (range_with_len 0 l.slot)

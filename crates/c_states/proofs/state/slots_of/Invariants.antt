@@ -6,4 +6,5 @@ use Rattle.c_states.specs.Lists.{slot_listed}
 use Rattle.c_states.proofs.state.slots_of.Given as goal
 
 abbrev pub invariant-loop-number : goal.invariant-loop-number
-invariant-loop-number l = map slot_in l.made.items ≡ map (λ n. slot_filled l.loads n (slot_listed l.slots n)) (range_with_len 0 l.number)
+invariant-loop-number l =
+    map slot_in l.made.items ≡ map (λ n. slot_filled l.loads n (slot_listed l.slots n)) (range_with_len 0 l.number)

@@ -10,7 +10,16 @@ use Rattle.c_states.proofs.told.cpus_told.Goals as goal
 
 pub loop-i-preserved : goal.loop-i-preserved
 loop-i-preserved c = (
-  ap (map (λ (x : PlainCpu). x.cpu)) c.in_ok-push.ensures.items ∙ numbered_more (λ (x : PlainCpu). x.cpu) (λ n. n) c.loop-i.told.items c.loop-i.i c.cpu_told.result c.loop-i.invariant.0 c.cpu_told.ensures.number,
-  ap (map cpu_said) c.in_ok-push.ensures.items ∙ seen_more cpu_said cpu_in c.args.cpus.now c.loop-i.told.items c.loop-i.i _ c.cpu_told.result c.loop-i-test.true c.loop-i.invariant.1 c.cpu_told.ensures.said,
-  known_more (is_cpu_told (length c.args.cpus.now)) c.loop-i.told.items c.push.new.self.items c.cpu_told.result c.in_ok-push.ensures.items c.loop-i.invariant.2 (cpu_known (length c.args.cpus.now) c.loop-i.i c.cpu_told.result c.cpu_told.ensures.number c.loop-i-test.true c.cpu_told.ensures.known),
+  ap (map (λ (x : PlainCpu). x.cpu)) c.in_ok-push.ensures.items
+      ∙ numbered_more (λ (x : PlainCpu). x.cpu)
+      (λ n. n) c.loop-i.told.items c.loop-i.i c.cpu_told.result c.loop-i.invariant.0 c.cpu_told.ensures.number,
+  ap (map cpu_said) c.in_ok-push.ensures.items
+      ∙ seen_more cpu_said cpu_in c.args.cpus.now c.loop-i.told.items c.loop-i.i _ c.cpu_told.result c.loop-i-test.true
+      c.loop-i.invariant.1 c.cpu_told.ensures.said,
+  known_more
+      (is_cpu_told (length c.args.cpus.now)) c.loop-i.told.items c.push.new.self.items c.cpu_told.result
+      c.in_ok-push.ensures.items c.loop-i.invariant.2
+      (cpu_known
+      (length c.args.cpus.now) c.loop-i.i c.cpu_told.result c.cpu_told.ensures.number c.loop-i-test.true
+      c.cpu_told.ensures.known),
 )

@@ -9,5 +9,6 @@ use Rattle.c_states.proofs.told.cpus_told.Given as goal
 
 abbrev pub invariant-loop-i : goal.invariant-loop-i
 invariant-loop-i l =
-    (map (λ (k : PlainCpu). k.cpu) l.told.items ≡ map (λ n. n) (range_with_len 0 l.i)) × (map cpu_said l.told.items ≡ map cpu_in (take l.i l.cpus))
+    (map (λ (k : PlainCpu). k.cpu) l.told.items ≡ map (λ n. n) (range_with_len 0 l.i))
+    × (map cpu_said l.told.items ≡ map cpu_in (take l.i l.cpus))
     × (AreKnown (is_cpu_told (length l.cpus)) l.told.items)

@@ -8,5 +8,7 @@ use Rattle.c_states.proofs.told.frames_told.Given as goal
 abbrev pub invariant-loop-i : goal.invariant-loop-i
 invariant-loop-i l =
     (frames_said l.told.items 1 ≡ l.lists.shared.free.items)
-    × ((v : ℕ) → frames_said l.told.items (2 + v) ≡ get_or (map (λ (g : GhostGuest). g.free.items) (take l.i l.lists.guests.items)) v [])
+    × ((v : ℕ)
+    → frames_said l.told.items (2 + v)
+    ≡ get_or (map (λ (g : GhostGuest). g.free.items) (take l.i l.lists.guests.items)) v [])
     × (AreKnown is_frame l.told.items)

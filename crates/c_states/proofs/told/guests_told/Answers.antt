@@ -10,8 +10,15 @@ use Rattle.c_states.proofs.told.guests_told.Goals as goal
 pub loop-i-preserved : goal.loop-i-preserved
 loop-i-preserved c =
     let here : get_or c.args.guests.now c.loop-i.i c.index-guests-i.result ≡ c.index-guests-i.result = search rules in (
-      ap (map (λ (x : PlainGuest). x.slot)) c.in_ok-push.ensures.items ∙ numbered_more (λ (x : PlainGuest). x.slot) (λ n. n) c.loop-i.told.items c.loop-i.i c.guest_told.result c.loop-i.invariant.0 c.guest_told.ensures.number,
+      ap (map (λ (x : PlainGuest). x.slot)) c.in_ok-push.ensures.items
+          ∙ numbered_more (λ (x : PlainGuest). x.slot)
+          (λ n. n) c.loop-i.told.items c.loop-i.i c.guest_told.result
+          c.loop-i.invariant.0 c.guest_told.ensures.number,
       ap (map guest_head_said) c.in_ok-push.ensures.items
-          ∙ seen_more guest_head_said guest_head_in c.args.guests.now c.loop-i.told.items c.loop-i.i c.index-guests-i.result c.guest_told.result c.loop-i-test.true c.loop-i.invariant.1 (c.guest_told.ensures.head ∙ ap guest_head_in (sym here)),
-      λ most. known_more is_guest c.loop-i.told.items c.push.new.self.items c.guest_told.result c.in_ok-push.ensures.items (c.loop-i.invariant.2 most) (c.guest_told.ensures.known (omega (arith, most, c.loop-i-test.true))),
+          ∙ seen_more guest_head_said guest_head_in c.args.guests.now c.loop-i.told.items c.loop-i.i
+          c.index-guests-i.result c.guest_told.result c.loop-i-test.true c.loop-i.invariant.1
+          (c.guest_told.ensures.head ∙ ap guest_head_in (sym here)),
+      λ most. known_more is_guest c.loop-i.told.items c.push.new.self.items c.guest_told.result
+          c.in_ok-push.ensures.items
+          (c.loop-i.invariant.2 most) (c.guest_told.ensures.known (omega (arith, most, c.loop-i-test.true))),
     )

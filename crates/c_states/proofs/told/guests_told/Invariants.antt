@@ -9,5 +9,6 @@ use Rattle.c_states.proofs.told.guests_told.Given as goal
 
 abbrev pub invariant-loop-i : goal.invariant-loop-i
 invariant-loop-i l =
-    (map (λ (g : PlainGuest). g.slot) l.told.items ≡ map (λ n. n) (range_with_len 0 l.i)) × (map guest_head_said l.told.items ≡ map guest_head_in (take l.i l.guests))
+    (map (λ (g : PlainGuest). g.slot) l.told.items ≡ map (λ n. n) (range_with_len 0 l.i))
+    × (map guest_head_said l.told.items ≡ map guest_head_in (take l.i l.guests))
     × (length l.guests ≤ 64 → AreKnown is_guest l.told.items)

@@ -32,8 +32,22 @@ returns-clause-said c =
     let rows = second_ok last c.both-4.ensures.second in
     let all = c.lists-lists.ensures.value in
     let known = c.lists-lists.ensures.kept in
-    let told : Lists = record { runs = c.in_ok-runs.runs.items; tables = c.in_ok-runs.tables.items; frames = c.in_ok-runs.frames.items; slots = c.in_ok-runs.slots.items; loads = c.in_ok-runs.loads.items; guests = c.in_ok-runs.guests.items; cpus = c.in_ok-runs.cpus.items; rows = c.in_ok-runs.rows.items } in
-    told_contents told c.lists-lists.result.now (ap (λ x. length x.vms.items) all ∙ known.vms_count) (ap (λ x. length x.guests.items) all ∙ known.guests_count) (record {
+    let told : Lists =
+    record {
+      runs = c.in_ok-runs.runs.items;
+      tables = c.in_ok-runs.tables.items;
+      frames = c.in_ok-runs.frames.items;
+      slots =
+          c.in_ok-runs.slots.items;
+      loads =
+          c.in_ok-runs.loads.items;
+      guests =
+          c.in_ok-runs.guests.items;
+      cpus = c.in_ok-runs.cpus.items;
+      rows = c.in_ok-runs.rows.items;
+    } in
+    told_contents told c.lists-lists.result.now (ap (λ x. length x.vms.items) all ∙ known.vms_count)
+    (ap (λ x. length x.guests.items) all ∙ known.guests_count) (record {
       host_runs = at_ok runs _ c.runs_told-runs.ensures.host;
       hyp_runs = at_ok runs _ c.runs_told-runs.ensures.hyp;
       guest_runs = at_ok runs _ c.runs_told-runs.ensures.guests;
@@ -42,12 +56,23 @@ returns-clause-said c =
       guest_tables = at_ok tables _ c.tables_told-tables.ensures.guests;
       shared_frames = at_ok frames _ c.frames_told-frames.ensures.shared;
       guest_frames = at_ok frames _ c.frames_told-frames.ensures.guests;
-      slot_numbers = at_ok slots _ c.slots_told-slots.ensures.numbers ∙ ap (λ xs. map (λ n. n) (range_with_len 0 (length xs))) c.as_slice.ensures.value;
+      slot_numbers =
+          at_ok slots _ c.slots_told-slots.ensures.numbers
+          ∙ ap (λ xs. map (λ n. n) (range_with_len 0 (length xs))) c.as_slice.ensures.value;
       slot_heads = at_ok slots _ c.slots_told-slots.ensures.heads ∙ ap (map slot_head_in) c.as_slice.ensures.value;
-      loads = λ s k. at_ok loads _ c.loads_told-loads.ensures.said s k ∙ ap (λ xs. get_or (get_or (map (λ (x : GhostSlot). x.loaded.items) xs) s []) k None) c.as_slice-2.ensures.value;
-      guest_numbers = at_ok guests _ c.guests_told-guests.ensures.numbers ∙ ap (λ xs. map (λ n. n) (range_with_len 0 (length xs))) c.as_slice-3.ensures.value;
-      guest_heads = at_ok guests _ c.guests_told-guests.ensures.heads ∙ ap (map guest_head_in) c.as_slice-3.ensures.value;
-      cpu_numbers = at_ok cpus _ c.cpus_told-cpus.ensures.numbers ∙ ap (λ xs. map (λ n. n) (range_with_len 0 (length xs))) c.as_slice-4.ensures.value;
+      loads =
+          λ s k. at_ok loads _ c.loads_told-loads.ensures.said s k
+          ∙ ap
+          (λ xs. get_or
+          (get_or (map (λ (x : GhostSlot). x.loaded.items) xs) s []) k None) c.as_slice-2.ensures.value;
+      guest_numbers =
+          at_ok guests _ c.guests_told-guests.ensures.numbers
+          ∙ ap (λ xs. map (λ n. n) (range_with_len 0 (length xs))) c.as_slice-3.ensures.value;
+      guest_heads =
+          at_ok guests _ c.guests_told-guests.ensures.heads ∙ ap (map guest_head_in) c.as_slice-3.ensures.value;
+      cpu_numbers =
+          at_ok cpus _ c.cpus_told-cpus.ensures.numbers
+          ∙ ap (λ xs. map (λ n. n) (range_with_len 0 (length xs))) c.as_slice-4.ensures.value;
       cpus_said = at_ok cpus _ c.cpus_told-cpus.ensures.said ∙ ap (map cpu_in) c.as_slice-4.ensures.value;
       rows = at_ok rows _ c.rows_told-rows.ensures.said ∙ c.runs.ensures.runs;
     }) ∙ ap (λ x. in_pool_order (contents_in x)) all
@@ -69,22 +94,44 @@ returns-clause-told c =
     let rows = second_ok last c.both-4.ensures.second in
     let all = c.lists-lists.ensures.value in
     let known = c.lists-lists.ensures.kept in
-    let vms_count : length c.as_slice.result.now ≡ 64 = ap length c.as_slice.ensures.value ∙ (ap (λ x. length x.vms.items) all ∙ known.vms_count) in
-    let loads_count : length c.as_slice-2.result.now ≡ 64 = ap length c.as_slice-2.ensures.value ∙ (ap (λ x. length x.vms.items) all ∙ known.vms_count) in
-    let guests_count : length c.as_slice-3.result.now ≡ 64 = ap length c.as_slice-3.ensures.value ∙ (ap (λ x. length x.guests.items) all ∙ known.guests_count) in
-    let cpus_count : length c.as_slice-4.result.now ≡ c.args.state.now.layout.config.cpus = ap length c.as_slice-4.ensures.value ∙ (ap (λ x. length x.cpus.items) all ∙ known.cpus_count) in
+    let vms_count : length c.as_slice.result.now ≡ 64 =
+    ap length c.as_slice.ensures.value ∙ (ap (λ x. length x.vms.items) all ∙ known.vms_count) in
+    let loads_count : length c.as_slice-2.result.now ≡ 64 =
+    ap length c.as_slice-2.ensures.value ∙ (ap (λ x. length x.vms.items) all ∙ known.vms_count) in
+    let guests_count : length c.as_slice-3.result.now ≡ 64 =
+    ap length c.as_slice-3.ensures.value ∙ (ap (λ x. length x.guests.items) all ∙ known.guests_count) in
+    let cpus_count : length c.as_slice-4.result.now ≡ c.args.state.now.layout.config.cpus =
+    ap length c.as_slice-4.ensures.value ∙ (ap (λ x. length x.cpus.items) all ∙ known.cpus_count) in
     record {
       runs = at_ok runs (λ v. AreKnown is_run v.items) c.runs_told-runs.ensures.known;
       tables = at_ok tables (λ v. AreKnown is_table v.items) c.tables_told-tables.ensures.known;
       frames = at_ok frames (λ v. AreKnown is_frame v.items) c.frames_told-frames.ensures.known;
-      slots = at_ok slots (λ v. length c.as_slice.result.now ≤ 64 → AreKnown is_slot v.items) c.slots_told-slots.ensures.known (omega (arith, vms_count));
-      loads = at_ok loads (λ v. length c.as_slice-2.result.now ≤ 64 → AreLoads v.items) c.loads_told-loads.ensures.known (omega (arith, loads_count));
-      guests = at_ok guests (λ v. length c.as_slice-3.result.now ≤ 64 → AreKnown is_guest v.items) c.guests_told-guests.ensures.known (omega (arith, guests_count));
-      cpus_are = subst (λ n. AreKnown (is_cpu_told n) c.in_ok-runs.cpus.items) cpus_count (at_ok cpus (λ v. AreKnown (is_cpu_told (length c.as_slice-4.result.now)) v.items) c.cpus_told-cpus.ensures.known);
+      slots =
+          at_ok slots
+          (λ v. length c.as_slice.result.now ≤ 64 → AreKnown is_slot v.items) c.slots_told-slots.ensures.known
+          (omega (arith, vms_count));
+      loads =
+          at_ok loads (λ v. length c.as_slice-2.result.now ≤ 64 → AreLoads v.items) c.loads_told-loads.ensures.known
+          (omega (arith, loads_count));
+      guests =
+          at_ok guests
+          (λ v. length c.as_slice-3.result.now ≤ 64 → AreKnown is_guest v.items) c.guests_told-guests.ensures.known
+          (omega (arith, guests_count));
+      cpus_are =
+          subst (λ n. AreKnown (is_cpu_told n) c.in_ok-runs.cpus.items) cpus_count
+          (at_ok cpus
+          (λ v. AreKnown
+          (is_cpu_told (length c.as_slice-4.result.now)) v.items) c.cpus_told-cpus.ensures.known);
       rows = at_ok rows (λ v. AreKnown is_row v.items) c.rows_told-rows.ensures.known;
       once = record {
-        slots = numbers_once (λ (s : PlainSlot). s.slot) c.in_ok-runs.slots.items (length c.as_slice.result.now) (at_ok slots _ c.slots_told-slots.ensures.numbers);
-        guests = numbers_once (λ (g : PlainGuest). g.slot) c.in_ok-runs.guests.items (length c.as_slice-3.result.now) (at_ok guests _ c.guests_told-guests.ensures.numbers);
-        cpus = numbers_once (λ (k : PlainCpu). k.cpu) c.in_ok-runs.cpus.items (length c.as_slice-4.result.now) (at_ok cpus _ c.cpus_told-cpus.ensures.numbers);
+        slots =
+            numbers_once (λ (s : PlainSlot). s.slot) c.in_ok-runs.slots.items (length c.as_slice.result.now)
+            (at_ok slots _ c.slots_told-slots.ensures.numbers);
+        guests =
+            numbers_once (λ (g : PlainGuest). g.slot) c.in_ok-runs.guests.items (length c.as_slice-3.result.now)
+            (at_ok guests _ c.guests_told-guests.ensures.numbers);
+        cpus =
+            numbers_once (λ (k : PlainCpu). k.cpu) c.in_ok-runs.cpus.items (length c.as_slice-4.result.now)
+            (at_ok cpus _ c.cpus_told-cpus.ensures.numbers);
       };
     }

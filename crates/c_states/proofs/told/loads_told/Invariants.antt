@@ -7,5 +7,7 @@ use Rattle.c_states.proofs.told.loads_told.Given as goal
 
 abbrev pub invariant-loop-i : goal.invariant-loop-i
 invariant-loop-i l =
-    ((s k : ℕ) → loader_said l.told.items s k ≡ get_or (get_or (map (λ (x : GhostSlot). x.loaded.items) (take l.i l.slots)) s []) k None)
+    ((s k : ℕ)
+    → loader_said l.told.items s k
+    ≡ get_or (get_or (map (λ (x : GhostSlot). x.loaded.items) (take l.i l.slots)) s []) k None)
     × (length l.slots ≤ 64 → AreLoads l.told.items)

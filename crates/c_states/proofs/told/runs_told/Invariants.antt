@@ -7,6 +7,9 @@ use Rattle.c_states.proofs.told.runs_told.Given as goal
 
 abbrev pub invariant-loop-i : goal.invariant-loop-i
 invariant-loop-i l =
-    (runs_said l.told.items 0 ≡ l.lists.shared.host.runs.items) × (runs_said l.told.items 1 ≡ l.lists.shared.hyp.runs.items)
-    × ((v : ℕ) → runs_said l.told.items (2 + v) ≡ get_or (map (λ (g : GhostGuest). g.tree.runs.items) (take l.i l.lists.guests.items)) v [])
+    (runs_said l.told.items 0 ≡ l.lists.shared.host.runs.items)
+    × (runs_said l.told.items 1 ≡ l.lists.shared.hyp.runs.items)
+    × ((v : ℕ)
+    → runs_said l.told.items (2 + v)
+    ≡ get_or (map (λ (g : GhostGuest). g.tree.runs.items) (take l.i l.lists.guests.items)) v [])
     × (AreKnown is_run l.told.items)

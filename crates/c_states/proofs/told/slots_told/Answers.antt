@@ -10,8 +10,14 @@ use Rattle.c_states.proofs.told.slots_told.Goals as goal
 pub loop-i-preserved : goal.loop-i-preserved
 loop-i-preserved c =
     let here : get_or c.args.slots.now c.loop-i.i c.index-slots-i.result ≡ c.index-slots-i.result = search rules in (
-      ap (map (λ (x : PlainSlot). x.slot)) c.in_ok-push.ensures.items ∙ numbered_more (λ (x : PlainSlot). x.slot) (λ n. n) c.loop-i.told.items c.loop-i.i c.slot_told.result c.loop-i.invariant.0 c.slot_told.ensures.number,
+      ap (map (λ (x : PlainSlot). x.slot)) c.in_ok-push.ensures.items
+          ∙ numbered_more (λ (x : PlainSlot). x.slot)
+          (λ n. n) c.loop-i.told.items c.loop-i.i c.slot_told.result
+          c.loop-i.invariant.0 c.slot_told.ensures.number,
       ap (map slot_head_said) c.in_ok-push.ensures.items
-          ∙ seen_more slot_head_said slot_head_in c.args.slots.now c.loop-i.told.items c.loop-i.i c.index-slots-i.result c.slot_told.result c.loop-i-test.true c.loop-i.invariant.1 (c.slot_told.ensures.head ∙ ap slot_head_in (sym here)),
-      λ most. known_more is_slot c.loop-i.told.items c.push.new.self.items c.slot_told.result c.in_ok-push.ensures.items (c.loop-i.invariant.2 most) (c.slot_told.ensures.known (omega (arith, most, c.loop-i-test.true))),
+          ∙ seen_more slot_head_said slot_head_in c.args.slots.now c.loop-i.told.items c.loop-i.i
+          c.index-slots-i.result c.slot_told.result c.loop-i-test.true c.loop-i.invariant.1
+          (c.slot_told.ensures.head ∙ ap slot_head_in (sym here)),
+      λ most. known_more is_slot c.loop-i.told.items c.push.new.self.items c.slot_told.result c.in_ok-push.ensures.items
+          (c.loop-i.invariant.2 most) (c.slot_told.ensures.known (omega (arith, most, c.loop-i-test.true))),
     )

@@ -9,5 +9,6 @@ use Rattle.c_states.proofs.told.slots_told.Given as goal
 
 abbrev pub invariant-loop-i : goal.invariant-loop-i
 invariant-loop-i l =
-    (map (λ (s : PlainSlot). s.slot) l.told.items ≡ map (λ n. n) (range_with_len 0 l.i)) × (map slot_head_said l.told.items ≡ map slot_head_in (take l.i l.slots))
+    (map (λ (s : PlainSlot). s.slot) l.told.items ≡ map (λ n. n) (range_with_len 0 l.i))
+    × (map slot_head_said l.told.items ≡ map slot_head_in (take l.i l.slots))
     × (length l.slots ≤ 64 → AreKnown is_slot l.told.items)

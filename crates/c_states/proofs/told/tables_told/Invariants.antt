@@ -7,6 +7,9 @@ use Rattle.c_states.proofs.told.tables_told.Given as goal
 
 abbrev pub invariant-loop-i : goal.invariant-loop-i
 invariant-loop-i l =
-    (tables_said l.told.items 0 ≡ l.lists.shared.host.tables.items) × (tables_said l.told.items 1 ≡ l.lists.shared.hyp.tables.items)
-    × ((v : ℕ) → tables_said l.told.items (2 + v) ≡ get_or (map (λ (g : GhostGuest). g.tree.tables.items) (take l.i l.lists.guests.items)) v [])
+    (tables_said l.told.items 0 ≡ l.lists.shared.host.tables.items)
+    × (tables_said l.told.items 1 ≡ l.lists.shared.hyp.tables.items)
+    × ((v : ℕ)
+    → tables_said l.told.items (2 + v)
+    ≡ get_or (map (λ (g : GhostGuest). g.tree.tables.items) (take l.i l.lists.guests.items)) v [])
     × (AreKnown is_table l.told.items)

@@ -10,6 +10,12 @@ pub loop-i-preserved : goal.loop-i-preserved
 loop-i-preserved c = (
   λ t.
       ap (λ xs. frames_said xs t) c.in_ok-push.ensures.items
-      ∙ list_more (frame_said t) (c.args.pool == t) c.args.told.now.items c.loop-i.told.items c.frame_told.result c.args.frames.now c.loop-i.i _ c.loop-i-test.true (c.loop-i.invariant.0 t) (c.frame_told.ensures t),
-  λ some low known. known_more is_frame c.loop-i.told.items c.push.new.self.items c.frame_told.result c.in_ok-push.ensures.items (c.loop-i.invariant.1 some low known) (frame_known c.args.pool c.frame_told.result _ c.frame_told.ensures some low),
+      ∙ list_more (frame_said t)
+      (c.args.pool == t) c.args.told.now.items c.loop-i.told.items c.frame_told.result c.args.frames.now c.loop-i.i
+      _ c.loop-i-test.true
+      (c.loop-i.invariant.0 t) (c.frame_told.ensures t),
+  λ some low known. known_more is_frame c.loop-i.told.items c.push.new.self.items c.frame_told.result
+      c.in_ok-push.ensures.items
+      (c.loop-i.invariant.1 some low known)
+      (frame_known c.args.pool c.frame_told.result _ c.frame_told.ensures some low),
 )

@@ -8,5 +8,6 @@ use Rattle.c_states.proofs.told.tell_frames.Given as goal
 
 abbrev pub invariant-loop-i : goal.invariant-loop-i
 invariant-loop-i l =
-    ((t : ℕ) → frames_said l.told.items t ≡ frames_said l.fn.told.items t ++ (if l.pool == t then take l.i l.frames else []))
+    ((t : ℕ)
+    → frames_said l.told.items t ≡ frames_said l.fn.told.items t ++ (if l.pool == t then take l.i l.frames else []))
     × (1 ≤ l.pool → l.pool < 66 → AreKnown is_frame l.fn.told.items → AreKnown is_frame l.told.items)

@@ -8,5 +8,8 @@ use Rattle.c_states.proofs.told.tell_loads.Given as goal
 
 abbrev pub invariant-loop-i : goal.invariant-loop-i
 invariant-loop-i l =
-    ((s k : ℕ) → loader_said l.told.items s k ≡ option_or (loader_said l.fn.told.items s k) (if l.slot == s then get_or (take l.i l.loaded) k None else None))
+    ((s k : ℕ)
+    → loader_said l.told.items s k
+    ≡ option_or (loader_said l.fn.told.items s k)
+    (if l.slot == s then get_or (take l.i l.loaded) k None else None))
     × (l.slot < 64 → AreLoads l.fn.told.items → AreLoads l.told.items)

@@ -10,6 +10,10 @@ pub loop-i-preserved : goal.loop-i-preserved
 loop-i-preserved c = (
   λ t.
       ap (λ xs. runs_said xs t) c.in_ok-push.ensures.items
-      ∙ list_more (run_said t) (c.args.tree == t) c.args.told.now.items c.loop-i.told.items c.run_told.result c.args.runs.now c.loop-i.i _ c.loop-i-test.true (c.loop-i.invariant.0 t) (c.run_told.ensures t),
-  λ low known. known_more is_run c.loop-i.told.items c.push.new.self.items c.run_told.result c.in_ok-push.ensures.items (c.loop-i.invariant.1 low known) (run_known c.args.tree c.run_told.result _ c.run_told.ensures low),
+      ∙ list_more (run_said t)
+      (c.args.tree == t) c.args.told.now.items c.loop-i.told.items c.run_told.result c.args.runs.now c.loop-i.i _
+      c.loop-i-test.true
+      (c.loop-i.invariant.0 t) (c.run_told.ensures t),
+  λ low known. known_more is_run c.loop-i.told.items c.push.new.self.items c.run_told.result c.in_ok-push.ensures.items
+      (c.loop-i.invariant.1 low known) (run_known c.args.tree c.run_told.result _ c.run_told.ensures low),
 )

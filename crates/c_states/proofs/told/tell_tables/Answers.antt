@@ -10,6 +10,11 @@ pub loop-i-preserved : goal.loop-i-preserved
 loop-i-preserved c = (
   λ t.
       ap (λ xs. tables_said xs t) c.in_ok-push.ensures.items
-      ∙ list_more (table_said t) (c.args.tree == t) c.args.told.now.items c.loop-i.told.items c.table_told.result c.args.tables.now c.loop-i.i _ c.loop-i-test.true (c.loop-i.invariant.0 t) (c.table_told.ensures t),
-  λ low known. known_more is_table c.loop-i.told.items c.push.new.self.items c.table_told.result c.in_ok-push.ensures.items (c.loop-i.invariant.1 low known) (table_known c.args.tree c.table_told.result _ c.table_told.ensures low),
+      ∙ list_more (table_said t)
+      (c.args.tree == t) c.args.told.now.items c.loop-i.told.items c.table_told.result c.args.tables.now c.loop-i.i
+      _ c.loop-i-test.true
+      (c.loop-i.invariant.0 t) (c.table_told.ensures t),
+  λ low known. known_more is_table c.loop-i.told.items c.push.new.self.items c.table_told.result
+      c.in_ok-push.ensures.items
+      (c.loop-i.invariant.1 low known) (table_known c.args.tree c.table_told.result _ c.table_told.ensures low),
 )

@@ -8,5 +8,6 @@ use Rattle.c_states.proofs.told.tell_tables.Given as goal
 
 abbrev pub invariant-loop-i : goal.invariant-loop-i
 invariant-loop-i l =
-    ((t : ℕ) → tables_said l.told.items t ≡ tables_said l.fn.told.items t ++ (if l.tree == t then take l.i l.tables else []))
+    ((t : ℕ)
+    → tables_said l.told.items t ≡ tables_said l.fn.told.items t ++ (if l.tree == t then take l.i l.tables else []))
     × (l.tree < 66 → AreKnown is_table l.fn.told.items → AreKnown is_table l.told.items)

@@ -15,4 +15,7 @@ small_entry l w (Leaf f p k s) h = let x = h.frame_is in omega arith
 small_entry l w (Table f) h = tt
 
 pub returns-clause-small : goal.returns-clause-small
-returns-clause-small c = rw c.from.ensures (small_entry (level_at c.args.depth) c.args.word c.decode.result (rw c.level_of.ensures at ((c.decode.ensures.exact c.decode.result).0 refl)))
+returns-clause-small c =
+    rw c.from.ensures
+    (small_entry (level_at c.args.depth) c.args.word c.decode.result
+    (rw c.level_of.ensures at ((c.decode.ensures.exact c.decode.result).0 refl)))

@@ -4,7 +4,13 @@ use Rattle.c_tables.proofs.MetTables.{again, none_met}
 use Rattle.c_tables.proofs.reached.reach.Goals as goal
 
 pub returns-in-Some-clause-stopped : goal.returns-in-Some-clause-stopped
-returns-in-Some-clause-stopped c = again c.args.met.now.items c.args.next c.in-Some.first c.requires.apart (ap (λ m. reached_of m c.args.next.table.frame) (sym c.as_slice.ensures.value) ∙ sym c.of_frame.ensures ∙ c.in-Some.is)
+returns-in-Some-clause-stopped c =
+    again c.args.met.now.items c.args.next c.in-Some.first c.requires.apart
+    (ap (λ m. reached_of m c.args.next.table.frame) (sym c.as_slice.ensures.value) ∙ sym c.of_frame.ensures
+    ∙ c.in-Some.is)
 
 pub returns-clause-fresh : goal.returns-clause-fresh
-returns-clause-fresh c = none_met c.args.met.now.items c.args.next.table.frame (ap (λ m. reached_of m c.args.next.table.frame) (sym c.as_slice.ensures.value) ∙ sym c.of_frame.ensures ∙ c.in_default.is)
+returns-clause-fresh c =
+    none_met c.args.met.now.items c.args.next.table.frame
+    (ap (λ m. reached_of m c.args.next.table.frame) (sym c.as_slice.ensures.value) ∙ sym c.of_frame.ensures
+    ∙ c.in_default.is)

@@ -9,19 +9,45 @@ use Rattle.c_tables.proofs.Roots.{root_whole}
 use Rattle.c_tables.proofs.trees.tree_from.Goals as goal
 
 pub walked-requires-clause-root : goal.walked-requires-clause-root
-walked-requires-clause-root c = root_whole c.args.pages.now c.args.roots.now c.args.tree c.in-Some.root (sym c.root_of.ensures ∙ c.in-Some.is) c.requires.whole
+walked-requires-clause-root c =
+    root_whole c.args.pages.now c.args.roots.now c.args.tree c.in-Some.root
+    (sym c.root_of.ensures ∙ c.in-Some.is) c.requires.whole
 
 pub returns-in-Some-clause-tree : goal.returns-in-Some-clause-tree
-returns-in-Some-clause-tree c = subst (λ o. IfOk c.walked.result (λ t. tree_in_lists t ≡ led_case no_tree (tree_by_frames c.args.geometry c.args.pages.now c.args.tree) o)) (sym (sym c.root_of.ensures ∙ c.in-Some.is)) c.walked.ensures.tree
+returns-in-Some-clause-tree c =
+    subst
+    (λ o. IfOk c.walked.result
+    (λ t. tree_in_lists t ≡ led_case no_tree (tree_by_frames c.args.geometry c.args.pages.now c.args.tree) o))
+    (sym (sym c.root_of.ensures ∙ c.in-Some.is)) c.walked.ensures.tree
 
 pub returns-in-Some-clause-met : goal.returns-in-Some-clause-met
-returns-in-Some-clause-met c = subst (λ o. OnOk c.walked.result (c.walked.new.met.items ≡ c.args.met.now.items ++ led_case [] (tables_by_frames c.args.geometry c.args.pages.now c.args.tree) o)) (sym (sym c.root_of.ensures ∙ c.in-Some.is)) c.walked.ensures.met
+returns-in-Some-clause-met c =
+    subst
+    (λ o. OnOk c.walked.result
+    (c.walked.new.met.items
+    ≡ c.args.met.now.items
+    ++ led_case [] (tables_by_frames c.args.geometry c.args.pages.now c.args.tree) o))
+    (sym (sym c.root_of.ensures ∙ c.in-Some.is)) c.walked.ensures.met
 
 pub returns-in-Some-clause-stopped : goal.returns-in-Some-clause-stopped
-returns-in-Some-clause-stopped c = subst (λ o. IfErr c.walked.result (IsStopped (c.args.met.now.items ++ led_case [] (tables_by_frames c.args.geometry c.args.pages.now c.args.tree) o))) (sym (sym c.root_of.ensures ∙ c.in-Some.is)) c.walked.ensures.stopped
+returns-in-Some-clause-stopped c =
+    subst
+    (λ o. IfErr c.walked.result
+    (IsStopped
+    (c.args.met.now.items
+    ++ led_case [] (tables_by_frames c.args.geometry c.args.pages.now c.args.tree) o)))
+    (sym (sym c.root_of.ensures ∙ c.in-Some.is)) c.walked.ensures.stopped
 
 pub returns-in-None-clause-tree : goal.returns-in-None-clause-tree
-returns-in-None-clause-tree c = c.none.ensures.none ∙ ap (λ o. led_case no_tree (tree_by_frames c.args.geometry c.args.pages.now c.args.tree) o) (sym (sym c.root_of.ensures ∙ c.in-None.is))
+returns-in-None-clause-tree c =
+    c.none.ensures.none
+    ∙ ap (λ o. led_case no_tree (tree_by_frames c.args.geometry c.args.pages.now c.args.tree) o)
+    (sym (sym c.root_of.ensures ∙ c.in-None.is))
 
 pub returns-in-None-clause-met : goal.returns-in-None-clause-met
-returns-in-None-clause-met c = sym (ap (λ o. c.args.met.now.items ++ led_case [] (tables_by_frames c.args.geometry c.args.pages.now c.args.tree) o) (sym c.root_of.ensures ∙ c.in-None.is) ∙ append-nil c.args.met.now.items)
+returns-in-None-clause-met c =
+    sym
+    (ap
+    (λ o. c.args.met.now.items ++ led_case [] (tables_by_frames c.args.geometry c.args.pages.now c.args.tree) o)
+    (sym c.root_of.ensures ∙ c.in-None.is)
+    ∙ append-nil c.args.met.now.items)

@@ -4,4 +4,8 @@ use Rattle.c_words.specs.Steps.{arguments_said}
 use Rattle.c_words.proofs.step.arguments_of.Given as goal
 
 abbrev pub invariant-loop-form : goal.invariant-loop-form
-invariant-loop-form l = record { value : arguments_said l.forms l.fn.step blank ≡ arguments_said (drop l.form-index l.forms) l.left l.arguments }
+invariant-loop-form l =
+    record {
+      value : arguments_said l.forms l.fn.step blank
+          ≡ arguments_said (drop l.form-index l.forms) l.left l.arguments;
+    }

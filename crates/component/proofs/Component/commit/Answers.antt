@@ -29,17 +29,26 @@ returns-in-None g c =
     let fs = frames_of c.args.plan.spare.stock in
     let given = c.release.ensures.given in
     let none = empty t c.args.plan.change fs c.requires.just c.in-None.is in
-    let back : back_from t c.args.plan.change ≡ [] = ap (back_from t) c.in-None.is ∙ returned_keep (levels_below t.geometry) (tree_of t) in
+    let back : back_from t c.args.plan.change ≡ [] =
+    ap (back_from t) c.in-None.is ∙ returned_keep (levels_below t.geometry) (tree_of t) in
     let pool : c.release.new.pool.frames ≡ p = given.frames ∙ ap (λ gs. all_given gs p) none in
     record {
-      tree = same_tree u t given.stays.geometry given.stays.table ∙ sym (ap (λ x. tree_after t x fs) c.in-None.is ∙ edited_keep (levels_below t.geometry) (tree_of t) fs);
+      tree =
+          same_tree u t given.stays.geometry given.stays.table
+          ∙ sym (ap (λ x. tree_after t x fs) c.in-None.is ∙ edited_keep (levels_below t.geometry) (tree_of t) fs);
       pool = pool ∙ sym (ap (λ gs. all_given gs p) back);
       spares = omega (arith, ap length none, ap length back, given.spares);
       keeps = record {
         geometry = given.stays.geometry;
         root = root_is t u (ap (λ x. frame_of x) given.stays.table);
         room = given.room;
-        frames = λ f. omega (arith, ap (frame_count f) none, ap (frame_count f) pool, same_uses u t given.stays.geometry given.stays.table f);
+        frames =
+            λ f. omega (
+              arith,
+              ap (frame_count f) none,
+              ap (frame_count f) pool,
+              same_uses u t given.stays.geometry given.stays.table f,
+            );
         tables = omega (arith, ap length none, ap length pool, same_count u t given.stays.geometry given.stays.table);
       };
     }

@@ -15,7 +15,12 @@ invariant_of-self g c =
     let e = c.args.change in
     let m : Map = map_of c.args.self.now.maplets.runs in
     record {
-      agree = ap (λ (t : Tree). t.map) c.set_with.ensures.edited.tree ∙ ap (λ (m : Map). update m e.range.first.0 e.range.count e.entry) c.args.self.now.agree
-          ∙ sym (c.set.ensures.map ∙ ap (λ (x : Option Target). update m e.range.first.0 e.range.count (entry_of x)) c.target.ensures ∙ ap (λ (x : Entry). update m e.range.first.0 e.range.count x) (entry_of-target_of e.entry));
+      agree =
+          ap (λ (t : Tree). t.map) c.set_with.ensures.edited.tree
+          ∙ ap (λ (m : Map). update m e.range.first.0 e.range.count e.entry) c.args.self.now.agree
+          ∙ sym
+          (c.set.ensures.map
+          ∙ ap (λ (x : Option Target). update m e.range.first.0 e.range.count (entry_of x)) c.target.ensures
+          ∙ ap (λ (x : Entry). update m e.range.first.0 e.range.count x) (entry_of-target_of e.entry));
       coarsest = c.set.ensures.coarsest;
     }

@@ -11,7 +11,11 @@ use Rattle.cpu_threads.proofs.boot.machine_of.Goals as goal
 pub open-requires : goal.open-requires
 open-requires g c =
     let a = c.apart-layout.ensures in
-    record { end = subst (λ (l : TheLayout). IsEndIn {A = g.row.A.Denot} l c.apart-layout.result.1.items c.apart-layout.result.2.items) (sym a.layout) (a.end c.requires.history) }
+    record {
+      end = subst
+          (λ (l : TheLayout). IsEndIn {A = g.row.A.Denot} l c.apart-layout.result.1.items c.apart-layout.result.2.items)
+          (sym a.layout) (a.end c.requires.history);
+    }
 
 pub invariant_of-result : goal.invariant_of-result
 invariant_of-result g c =
@@ -27,6 +31,9 @@ returns g c =
     let p = c.args.parts in
     record {
       layout = e.layout ∙ a.layout;
-      begun = e.begun ∙ (λ i. record { logs = (ap logs_in a.slots ∙ logs_laid (slots_of p)) i; owns = (a.cpus i).items });
-      passes = subst (λ (n : ℕ). AreFirst c.in_ok-table.table n c.in_ok-table.passes.items) (ap (λ (l : TheLayout). l.config.cpus) a.layout) e.passes;
+      begun =
+          e.begun ∙ (λ i. record { logs = (ap logs_in a.slots ∙ logs_laid (slots_of p)) i; owns = (a.cpus i).items });
+      passes =
+          subst (λ (n : ℕ). AreFirst c.in_ok-table.table n c.in_ok-table.passes.items)
+          (ap (λ (l : TheLayout). l.config.cpus) a.layout) e.passes;
     }

@@ -24,7 +24,9 @@ loop-j-preserved g c j p lt e =
     let inside : n < length ps = search rules in
     let other : o.knows.cpu ≢ c.args.cpu = search rules in
     dite (ℕ_discrete j n)
-    (λ is. let same : o ≡ p = ap (from o) (sym (get_of_or ps n o inside c.index.ensures) ∙ (ap (slice_get ps) (sym is) ∙ e)) in subst (λ (q : Pass). q.knows.cpu ≢ c.args.cpu) same other)
+    (λ is. let same : o ≡ p =
+    ap (from o) (sym (get_of_or ps n o inside c.index.ensures) ∙ (ap (slice_get ps) (sym is) ∙ e)) in
+    subst (λ (q : Pass). q.knows.cpu ≢ c.args.cpu) same other)
     (λ ne. c.loop-j.invariant j p (omega arith) e)
 
 pub returns-clause-none : goal.returns-clause-none

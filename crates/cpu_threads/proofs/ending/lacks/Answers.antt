@@ -27,4 +27,6 @@ pub returns-clause-missing : goal.returns-clause-missing
 returns-clause-missing g c e = absurd (false≢true e)
 
 pub returns-clause-all : goal.returns-clause-all
-returns-clause-all g c _ k less out = c.loop-cpu.invariant k (omega (arith, less, c.loop-cpu-test.false, c.len-cpu-end.ensures, c.args.passes.now.ok.0)) out
+returns-clause-all g c _ k less out =
+    c.loop-cpu.invariant k
+    (omega (arith, less, c.loop-cpu-test.false, c.len-cpu-end.ensures, c.args.passes.now.ok.0)) out

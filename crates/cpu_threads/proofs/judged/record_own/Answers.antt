@@ -11,4 +11,5 @@ of_kept-requires g c = c.in_ok-lists.ensures.kept tt c.requires.low.own_low
 pub returns : goal.returns
 returns g c =
     subst (IsRecordOf {A = g.row.A.Denot} (layout_of c.args.layout.now) none_at c.args.cpu.now) (sym c.of_kept.ensures)
-    (record_of {A = g.row.A.Denot} (layout_of c.args.layout.now) none_at c.args.cpu.now None None None refl refl refl (given_own c.args.cpu.now) c.in_ok-lists.lists c.in_ok-lists.ensures.state c.in_ok-lists.ensures.layout)
+    (record_of {A = g.row.A.Denot} (layout_of c.args.layout.now) none_at c.args.cpu.now None None None refl refl refl
+    (given_own c.args.cpu.now) c.in_ok-lists.lists c.in_ok-lists.ensures.state c.in_ok-lists.ensures.layout)

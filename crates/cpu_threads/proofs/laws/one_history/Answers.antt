@@ -13,10 +13,16 @@ use Rattle.cpu_threads.specs.Laws.{EndsInOne, IsHistoryOf}
 use Rattle.cpu_threads.proofs.laws.one_history.Goals as goal
 
 -- the end's history is that of a pass whose state and whose logs stand there
-of_kept : {A : Type 0} (l : TheLayout) (found : List (Slot A)) (cpus : List CpuState) (e : IsEndOf l found cpus) (p : Pass) → KeepsOwn cpus p → KeepsSeen found p → KeepsTried l found p → IsHistoryOf l e.left.log p
+of_kept : {A : Type 0} (l : TheLayout) (found : List (Slot A)) (cpus : List CpuState) (e : IsEndOf l found cpus)
+    (p : Pass)
+    → KeepsOwn cpus p
+    → KeepsSeen found p
+    → KeepsTried l found p
+    → IsHistoryOf l e.left.log p
 of_kept l found cpus e p own seen tried = record {
   calls = sym (e.left.cpus p.knows.cpu p.knows.own own).0;
-  seen = λ j less. let h = each_part e j less in subst (λ (cs : List Call). StartsWith cs (seen_at p.knows.seen j)) h.3 (seen j h.0 h.1);
+  seen = λ j less. let h = each_part e j less in
+      subst (λ (cs : List Call). StartsWith cs (seen_at p.knows.seen j)) h.3 (seen j h.0 h.1);
   tried = end_fronts l found cpus e p.knows.tries tried;
 }
 

@@ -12,6 +12,7 @@ loop-cpu-preserved g c =
     let n : ℕ = c.loop-cpu.cpu in
     let o : Option Pass = c.index.result.now in
     let inside : n < length ps = search rules in
-    grew_on (λ p. total p (take n ps)) (λ p. of_pass p o) (λ p. total p (take (n + 1) ps)) c.args.tally.now c.loop-cpu.tally c.count_place.new.tally c.loop-cpu.invariant
+    grew_on (λ p. total p (take n ps)) (λ p. of_pass p o)
+    (λ p. total p (take (n + 1) ps)) c.args.tally.now c.loop-cpu.tally c.count_place.new.tally c.loop-cpu.invariant
     (c.count_place.ensures c.if-not-count_place.false)
     (λ p. total_more p ps n o (get_of_or ps n o inside c.index.ensures))

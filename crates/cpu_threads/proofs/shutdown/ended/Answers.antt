@@ -12,11 +12,16 @@ use Rattle.cpu_threads.proofs.shutdown.ended.Goals as goal
 pub together-parts-requires-clause-end : goal.together-parts-requires-clause-end
 together-parts-requires-clause-end g c =
     let e = c.close-alloc.ensures in
-    subst (λ (l : TheLayout). IsEndOf {A = g.row.A.Denot} l c.close-alloc.result.2.items c.close-alloc.result.3.items) (sym e.layout) e.end.end
+    subst (λ (l : TheLayout). IsEndOf {A = g.row.A.Denot} l c.close-alloc.result.2.items c.close-alloc.result.3.items)
+    (sym e.layout) e.end.end
 
 pub returns-clause-end : goal.returns-clause-end
 returns-clause-end g c =
     let t = c.together-parts.ensures in
     let t' : Opened = c.args.table in
-    subst (λ (p : Parts g.row.A.Denot). IsEndFor t' (slots_of p) p.cpus.items (ForEach c.args.passes.items)) (sym c.join.ensures)
-    (subst (λ (z : List (Slot g.row.A.Denot) × List CpuState). IsEndFor {A = g.row.A.Denot} t' z.0 z.1 (ForEach c.args.passes.items)) (λ i. (sym t.parts i, (sym t.cpus i).items)) c.close-alloc.ensures.end)
+    subst (λ (p : Parts g.row.A.Denot). IsEndFor t' (slots_of p) p.cpus.items (ForEach c.args.passes.items))
+    (sym c.join.ensures)
+    (subst
+    (λ (z : List (Slot g.row.A.Denot) × List CpuState). IsEndFor {A = g.row.A.Denot} t' z.0 z.1
+    (ForEach c.args.passes.items))
+    (λ i. (sym t.parts i, (sym t.cpus i).items)) c.close-alloc.ensures.end)

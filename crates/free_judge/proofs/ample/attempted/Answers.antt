@@ -22,14 +22,21 @@ use Rattle.free_judge.proofs.Rooms.{has-room, low-cpu, low-slot}
 use Rattle.free_judge.proofs.ample.attempted.Goals as goal
 
 pub predict_last-requires-clause-generation : goal.predict_last-requires-clause-generation
-predict_last-requires-clause-generation c = subst (λ (s : Contents). HasNextGeneration (s.cpu c.args.cpu).ticket c.args.step) (sym c.in_ok-before.ensures.contents) c.requires.generation
+predict_last-requires-clause-generation c =
+    subst (λ (s : Contents). HasNextGeneration (s.cpu c.args.cpu).ticket c.args.step)
+    (sym c.in_ok-before.ensures.contents) c.requires.generation
 
 low : (g : GhostLists) (cpu : ℕ) (step : Step) → IsKept g → IsLowSlot (guest_slot ((contents_in g).cpu cpu) step)
 low g cpu step kept =
     let k = low-cpu g.cpus.items cpu kept.cpus in
     low-slot ((contents_in g).cpu cpu) k.0 k.1 step
 
-outside : (l : TheLayout) (fs : List ℕ) → AreOutside fs → IsAccepted l.map → (f : ℕ) → is_memory (layout_of l) f ≡ true → is_free fs f ≡ false
+outside : (l : TheLayout) (fs : List ℕ)
+    → AreOutside fs
+    → IsAccepted l.map
+    → (f : ℕ)
+    → is_memory (layout_of l) f ≡ true
+    → is_free fs f ≡ false
 outside l fs h accepted f m = none-outside fs f h (memory_below l.map f accepted m)
 
 pub returns-then-eq-clause-short : goal.returns-then-eq-clause-short
@@ -39,8 +46,11 @@ returns-then-eq-clause-short c e =
     let accepted : IsAccepted g.layout.map = rw c.lists.ensures.value at c.regions.ensures.accepted in
     let less = low g c.args.cpu c.args.step c.lists.ensures.kept in
     let slot = guest_slot ((contents_in g).cpu c.args.cpu) c.args.step in
-    few-at (layout_of g.layout) (layout_of b.layout) c.args.frames.now (outside g.layout c.args.frames.now c.requires.frames accepted) (contents_in g) c.args.cpu c.args.step less (ghost_state b) c.in_ok-before.ensures.layout c.in_ok-before.ensures.contents
-    (has-room (names c.args.step) slot c.args.cpu g.layout.config.cpus (ghost_state b).rooms c.requires.cpu less c.in_ok-before.ensures.rooms)
+    few-at (layout_of g.layout) (layout_of b.layout) c.args.frames.now
+    (outside g.layout c.args.frames.now c.requires.frames accepted) (contents_in g) c.args.cpu c.args.step less
+    (ghost_state b) c.in_ok-before.ensures.layout c.in_ok-before.ensures.contents
+    (has-room (names c.args.step) slot c.args.cpu g.layout.config.cpus
+    (ghost_state b).rooms c.requires.cpu less c.in_ok-before.ensures.rooms)
     c.in_ok-reply.reply (ghost_state c.in_ok-reply.after) c.in_ok-reply.ensures.foretold
     ((replies_tell c.in_ok-reply.reply (Refused NoPool)).0 (sym c.eq.ensures ∙ c.if-eq.true))
 
@@ -51,7 +61,12 @@ returns-clause-told c =
     let accepted : IsAccepted g.layout.map = rw c.lists.ensures.value at c.regions.ensures.accepted in
     let less = low g c.args.cpu c.args.step c.lists.ensures.kept in
     let slot = guest_slot ((contents_in g).cpu c.args.cpu) c.args.step in
-    told-at (layout_of g.layout) (layout_of b.layout) c.args.frames.now (outside g.layout c.args.frames.now c.requires.frames accepted) (contents_in g) c.args.cpu c.args.step less (ghost_state b) c.in_ok-before.ensures.layout c.in_ok-before.ensures.contents
-    (has-room (names c.args.step) slot c.args.cpu g.layout.config.cpus (ghost_state b).rooms c.requires.cpu less c.in_ok-before.ensures.rooms)
+    told-at (layout_of g.layout) (layout_of b.layout) c.args.frames.now
+    (outside g.layout c.args.frames.now c.requires.frames accepted) (contents_in g) c.args.cpu c.args.step less
+    (ghost_state b) c.in_ok-before.ensures.layout c.in_ok-before.ensures.contents
+    (has-room (names c.args.step) slot c.args.cpu g.layout.config.cpus
+    (ghost_state b).rooms c.requires.cpu less c.in_ok-before.ensures.rooms)
     c.in_ok-reply.reply (ghost_state c.in_ok-reply.after) c.in_ok-reply.ensures.foretold
-    (λ h. let bad : true ≡ false = sym ((replies_tell c.in_ok-reply.reply (Refused NoPool)).1 h) ∙ sym c.eq.ensures ∙ c.if-eq.false in cc)
+    (λ h. let bad : true ≡ false =
+    sym ((replies_tell c.in_ok-reply.reply (Refused NoPool)).1 h) ∙ sym c.eq.ensures ∙ c.if-eq.false in
+    cc)

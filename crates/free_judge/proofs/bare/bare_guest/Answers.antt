@@ -11,7 +11,14 @@ pub returns-clause-kept : goal.returns-clause-kept
 returns-clause-kept c =
     let runs = c.in_ok-from_slice.ensures.items ∙ c.as_slice.ensures.value in
     record {
-      tree = record { small = subst AreSmall (sym runs) c.requires.guest.tree.small; coarsest = subst IsCoarsest (sym runs) c.requires.guest.tree.coarsest };
-      tables = λ b f e. let w : None ≡ Some f = sym (ap (λ (ts : List Table). table_of ts b) c.new.ensures.items) ∙ e in cc;
-      free = subst (λ (fs : List ℕ). AreLowFrames fs) (sym c.in_ok-from_slice-2.ensures.items) (low-frames c.args.frames.now c.requires.frames);
+      tree =
+          record {
+            small = subst AreSmall (sym runs) c.requires.guest.tree.small;
+            coarsest = subst IsCoarsest (sym runs) c.requires.guest.tree.coarsest;
+          };
+      tables = λ b f e. let w : None ≡ Some f = sym (ap (λ (ts : List Table). table_of ts b) c.new.ensures.items) ∙ e in
+          cc;
+      free =
+          subst (λ (fs : List ℕ). AreLowFrames fs) (sym c.in_ok-from_slice-2.ensures.items)
+          (low-frames c.args.frames.now c.requires.frames);
     }

@@ -6,6 +6,7 @@ use Rattle.free_judge.proofs.bare.bare_guests.Given as goal
 
 abbrev pub invariant-loop-guest : goal.invariant-loop-guest
 invariant-loop-guest l = record {
-  same : map guest_in l.copies.items ≡ map (λ g. filled_guest false l.frames 0 (guest_in g)) (take l.guest-index l.guests);
+  same : map guest_in l.copies.items
+      ≡ map (λ g. filled_guest false l.frames 0 (guest_in g)) (take l.guest-index l.guests);
   kept : AreKeptGuests l.copies.items;
 }

@@ -18,12 +18,23 @@ returns c =
     let e = c.in_ok-told.ensures.told in
     let t = foretell_amply l e.ready c.args.cpu c.args.step in
     let at = λ (s : Contents) (g : GhostLists). view w (layout_of g.layout) s in
-    let eb : contents_in c.in_ok-before.before ≡ view w l pre = c.in_ok-before.ensures.contents ∙ ap (at pre) c.lists.ensures.value in
-    let ea : contents_in c.in_ok-after.after ≡ view w l post = c.in_ok-after.ensures.contents ∙ ap (at post) c.lists.ensures.value in
-    let ev : contents_in c.in_ok-wanted.wanted ≡ view w l made = c.in_ok-wanted.ensures.contents ∙ ap (at made) c.lists.ensures.value in
+    let eb : contents_in c.in_ok-before.before ≡ view w l pre =
+    c.in_ok-before.ensures.contents ∙ ap (at pre) c.lists.ensures.value in
+    let ea : contents_in c.in_ok-after.after ≡ view w l post =
+    c.in_ok-after.ensures.contents ∙ ap (at post) c.lists.ensures.value in
+    let ev : contents_in c.in_ok-wanted.wanted ≡ view w l made =
+    c.in_ok-wanted.ensures.contents ∙ ap (at made) c.lists.ensures.value in
     record {
       ready = e.ready;
       from = e.from;
-      none = both-ways c.judge_seen.ensures.none (agrees-by w l pre c.args.step c.args.reply.now post c.in_ok-told.told made (contents_in c.in_ok-before.before) (contents_in c.in_ok-after.after) (contents_in c.in_ok-wanted.wanted) t e.reply_is e.contents_are eb ea ev);
-      first = first-by w l pre c.args.step c.args.reply.now post c.in_ok-told.told made (contents_in c.in_ok-before.before) (contents_in c.in_ok-after.after) (contents_in c.in_ok-wanted.wanted) t e.reply_is e.contents_are eb ea ev c.judge_seen.result c.judge_seen.ensures.first;
+      none =
+          both-ways c.judge_seen.ensures.none
+          (agrees-by w l pre c.args.step c.args.reply.now post c.in_ok-told.told made
+          (contents_in c.in_ok-before.before) (contents_in c.in_ok-after.after)
+          (contents_in c.in_ok-wanted.wanted) t e.reply_is e.contents_are eb ea ev);
+      first =
+          first-by w l pre c.args.step c.args.reply.now post c.in_ok-told.told made (contents_in c.in_ok-before.before)
+          (contents_in c.in_ok-after.after)
+          (contents_in c.in_ok-wanted.wanted) t e.reply_is e.contents_are eb ea ev
+          c.judge_seen.result c.judge_seen.ensures.first;
     }

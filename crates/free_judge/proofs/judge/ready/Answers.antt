@@ -10,7 +10,9 @@ use Rattle.free_judge.proofs.Ready.{ready-read, ready-seen}
 use Rattle.free_judge.proofs.judge.ready.Goals as goal
 
 pub returns-then-is_read-clause-ready : goal.returns-then-is_read-clause-ready
-returns-then-is_read-clause-ready c = ready-read c.args.freedoms (layout_of c.args.pre.now.layout) (contents_in c.args.pre.now) c.args.step (contents_in c.in_ok-bare.bare) (sym c.is_read.ensures ∙ c.if-is_read.true) c.in_ok-bare.ensures.contents
+returns-then-is_read-clause-ready c =
+    ready-read c.args.freedoms (layout_of c.args.pre.now.layout) (contents_in c.args.pre.now) c.args.step
+    (contents_in c.in_ok-bare.bare) (sym c.is_read.ensures ∙ c.if-is_read.true) c.in_ok-bare.ensures.contents
 
 pub returns-then-is_read-clause-cpu : goal.returns-then-is_read-clause-cpu
 returns-then-is_read-clause-cpu c = ap (λ (s : Contents). s.cpu) c.in_ok-bare.ensures.contents
@@ -20,19 +22,26 @@ returns-then-asks_pool-clause-ready c =
     let w = c.args.freedoms in
     let l = layout_of c.args.pre.now.layout in
     let s = contents_in c.args.pre.now in
-    let seen : contents_in c.in_ok-seen.seen ≡ view w l s = c.in_ok-seen.ensures.contents ∙ ap (λ (g : GhostLists). view w (layout_of g.layout) s) c.lists.ensures.value in
-    ready-seen w l s c.args.step (contents_in c.in_ok-asked.asked) (sym c.is_read.ensures ∙ c.if-is_read.false) (c.in_ok-asked.ensures.alike ∙ ap without_tables seen) (λ h. let bad : true ≡ false = sym c.if-asks_pool.true ∙ c.asks_pool.ensures ∙ h in cc)
+    let seen : contents_in c.in_ok-seen.seen ≡ view w l s =
+    c.in_ok-seen.ensures.contents ∙ ap (λ (g : GhostLists). view w (layout_of g.layout) s) c.lists.ensures.value in
+    ready-seen w l s c.args.step (contents_in c.in_ok-asked.asked) (sym c.is_read.ensures ∙ c.if-is_read.false)
+    (c.in_ok-asked.ensures.alike ∙ ap without_tables seen)
+    (λ h. let bad : true ≡ false = sym c.if-asks_pool.true ∙ c.asks_pool.ensures ∙ h in cc)
 
 pub returns-then-asks_pool-clause-cpu : goal.returns-then-asks_pool-clause-cpu
-returns-then-asks_pool-clause-cpu c = ap (λ (s : Contents). s.cpu) c.in_ok-asked.ensures.alike ∙ ap (λ (s : Contents). s.cpu) c.in_ok-seen.ensures.contents
+returns-then-asks_pool-clause-cpu c =
+    ap (λ (s : Contents). s.cpu) c.in_ok-asked.ensures.alike
+    ∙ ap (λ (s : Contents). s.cpu) c.in_ok-seen.ensures.contents
 
 pub returns-clause-ready : goal.returns-clause-ready
 returns-clause-ready c =
     let w = c.args.freedoms in
     let l = layout_of c.args.pre.now.layout in
     let s = contents_in c.args.pre.now in
-    let seen : contents_in c.in_ok-seen.seen ≡ view w l s = c.in_ok-seen.ensures.contents ∙ ap (λ (g : GhostLists). view w (layout_of g.layout) s) c.lists.ensures.value in
-    ready-seen w l s c.args.step (contents_in c.in_ok-seen.seen) (sym c.is_read.ensures ∙ c.if-is_read.false) (ap without_tables seen) (λ h. seen)
+    let seen : contents_in c.in_ok-seen.seen ≡ view w l s =
+    c.in_ok-seen.ensures.contents ∙ ap (λ (g : GhostLists). view w (layout_of g.layout) s) c.lists.ensures.value in
+    ready-seen w l s c.args.step (contents_in c.in_ok-seen.seen) (sym c.is_read.ensures ∙ c.if-is_read.false)
+    (ap without_tables seen) (λ h. seen)
 
 pub returns-clause-cpu : goal.returns-clause-cpu
 returns-clause-cpu c = ap (λ (s : Contents). s.cpu) c.in_ok-seen.ensures.contents

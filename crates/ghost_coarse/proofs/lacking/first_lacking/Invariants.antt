@@ -5,4 +5,5 @@ use Rattle.ghost_coarse.specs.inner.Served.{HasWanted}
 use Rattle.ghost_coarse.proofs.lacking.first_lacking.Given as goal
 
 abbrev pub invariant-loop-d : goal.invariant-loop-d
-invariant-loop-d l = (d i : ℕ) → 1 ≤ d → d < l.d → i < block_pages (l.depth + 1 - d) → HasWanted (tree_in_lists l.tree) (d, i)
+invariant-loop-d l =
+    (d i : ℕ) → 1 ≤ d → d < l.d → i < block_pages (l.depth + 1 - d) → HasWanted (tree_in_lists l.tree) (d, i)

@@ -11,6 +11,9 @@ pub returns-clause-are : goal.returns-clause-are
 returns-clause-are c = λ i.
     let are = indexes-are c.args.depth i c.args.tables.now in
     let p = c.sort_unstable.ensures.permutation in (
-      λ h. are.0 (subst (λ (xs : List ℕ). Contains xs i) c.in_ok-indexes.ensures (Contains-permutation _ _ i (IsPermutation-sym _ _ p) h)),
-      λ h. Contains-permutation _ _ i p (subst (λ (xs : List ℕ). Contains xs i) (sym c.in_ok-indexes.ensures) (are.1 h)),
+      λ h. are.0
+          (subst (λ (xs : List ℕ). Contains xs i) c.in_ok-indexes.ensures
+          (Contains-permutation _ _ i (IsPermutation-sym _ _ p) h)),
+      λ h. Contains-permutation _ _ i p
+          (subst (λ (xs : List ℕ). Contains xs i) (sym c.in_ok-indexes.ensures) (are.1 h)),
     )

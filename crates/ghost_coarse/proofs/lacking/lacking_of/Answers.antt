@@ -12,8 +12,13 @@ pub lacking_on-requires-clause-some : goal.lacking_on-requires-clause-some
 lacking_on-requires-clause-some c = run-some c.args.runs.now c.loop-i.i _ c.requires.coarsest c.loop-i-test.true
 
 pub loop-i-preserved : goal.loop-i-preserved
-loop-i-preserved c = All-more (AreServedOn (map_of c.args.runs.now) c.args.indexes.now c.args.depth c.args.count) c.args.runs.now c.loop-i.i _ c.loop-i-test.true c.loop-i.invariant c.in_default.ensures
+loop-i-preserved c =
+    All-more
+    (AreServedOn (map_of c.args.runs.now) c.args.indexes.now c.args.depth c.args.count) c.args.runs.now c.loop-i.i
+    _ c.loop-i-test.true c.loop-i.invariant c.in_default.ensures
 
 pub returns : goal.returns
 returns c = λ i less. each-served c.args.runs.now c.args.indexes.now c.args.depth c.args.count i less
-    (all-taken (AreServedOn (map_of c.args.runs.now) c.args.indexes.now c.args.depth c.args.count) c.args.runs.now c.loop-i.i c.loop-i-test.false c.loop-i.invariant)
+    (all-taken
+    (AreServedOn (map_of c.args.runs.now) c.args.indexes.now c.args.depth c.args.count) c.args.runs.now c.loop-i.i
+    c.loop-i-test.false c.loop-i.invariant)

@@ -14,14 +14,23 @@ first_between-requires-clause-covers c =
     record {
       goes = c.requires.goes;
       first = rw c.span-size.ensures (omega (arith, x));
-      end = subst (λ (n : ℕ). c.last_block-high.result * n < run_end c.args.run) c.span-size.ensures c.last_block-high.ensures.end;
+      end =
+          subst
+          (λ
+          (n : ℕ). c.last_block-high.result * n < run_end
+          c.args.run) c.span-size.ensures c.last_block-high.ensures.end;
     }
 
 pub returns : goal.returns
 returns c =
     let s = block_pages c.args.depth in
-    ends_joined (map_of c.args.runs.now) c.args.indexes.now c.args.run c.args.depth c.args.count _ c.last_block-high.result c.first_between.result (size_some c.args.depth)
+    ends_joined
+    (map_of c.args.runs.now) c.args.indexes.now c.args.run c.args.depth c.args.count _ c.last_block-high.result
+    c.first_between.result
+    (size_some c.args.depth)
     (ap (λ (n : ℕ). c.args.run.pages.first.0 / n) c.span-size.ensures)
-    (c.last_block-high.ensures.last ∙ ap (λ (n : ℕ). min ((run_end c.args.run - 1) / n) (c.args.count - 1)) c.span-size.ensures)
+    (c.last_block-high.ensures.last
+    ∙ ap (λ (n : ℕ). min ((run_end c.args.run - 1) / n) (c.args.count - 1)) c.span-size.ensures)
     c.last_block-high.ensures.below
-    (c.is_served.ensures.0 c.if-not-is_served.false) (c.is_served-2.ensures.0 c.if-not-is_served-2.false) c.first_between.ensures
+    (c.is_served.ensures.0 c.if-not-is_served.false)
+    (c.is_served-2.ensures.0 c.if-not-is_served-2.false) c.first_between.ensures

@@ -6,7 +6,9 @@ use Rattle.ghost_coarse.proofs.lacking.last_block.Goals as goal
 pub returns : goal.returns
 returns c =
     let e = sym c.min.ensures in
-    let x = last_of c.args.run.pages.first.0 c.args.run.pages.count c.args.size c.args.count c.requires.run.0 c.requires.some c.requires.size c.requires.low in
+    let x =
+    last_of c.args.run.pages.first.0 c.args.run.pages.count c.args.size c.args.count c.requires.run.0
+    c.requires.some c.requires.size c.requires.low in
     record {
       last = c.min.ensures;
       from = subst (λ (n : ℕ). c.args.run.pages.first.0 / c.args.size ≤ n) e x.from;

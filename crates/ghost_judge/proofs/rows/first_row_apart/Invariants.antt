@@ -5,7 +5,8 @@ use Rattle.ghost_judge.proofs.Apart.{IsLeft}
 use Rattle.ghost_judge.proofs.rows.first_row_apart.Given as goal
 
 abbrev pub invariant-loop-k : goal.invariant-loop-k
-invariant-loop-k l = IsLeft advance_row HasPageBelow (marked l.a) (marked l.b) (marked (drop l.i l.a)) (marked (drop l.j l.b))
+invariant-loop-k l =
+    IsLeft advance_row HasPageBelow (marked l.a) (marked l.b) (marked (drop l.i l.a)) (marked (drop l.j l.b))
 
 abbrev pub decreases-loop-k : goal.decreases-loop-k
 decreases-loop-k l = length l.a - l.i

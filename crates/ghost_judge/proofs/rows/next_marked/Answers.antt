@@ -14,7 +14,11 @@ loop-at-preserved c =
     let x : Run Row = get_or c.args.runs.now c.loop-at.at none in
     record {
       behind = omega (arith, c.loop-at.invariant.behind);
-      same = marked_over c.args.runs.now c.loop-at.at x c.loop-at-test.true (get_or_default c.args.runs.now c.loop-at.at none x c.loop-at-test.true) (sym c.ne.ensures ∙ c.if-ne.false) ∙ c.loop-at.invariant.same;
+      same =
+          marked_over c.args.runs.now c.loop-at.at x c.loop-at-test.true
+          (get_or_default c.args.runs.now c.loop-at.at none x c.loop-at-test.true)
+          (sym c.ne.ensures ∙ c.if-ne.false)
+          ∙ c.loop-at.invariant.same;
     }
 
 pub returns-then-ne : goal.returns-then-ne
@@ -23,7 +27,11 @@ returns-then-ne c =
     record {
       behind = c.loop-at.invariant.behind;
       within = c.loop-at-test.true;
-      rest = λ d. sym c.loop-at.invariant.same ∙ marked_here c.args.runs.now c.loop-at.at x c.loop-at-test.true (get_or_default c.args.runs.now c.loop-at.at none x c.loop-at-test.true) (sym c.ne.ensures ∙ c.if-ne.true) d;
+      rest =
+          λ d. sym c.loop-at.invariant.same
+          ∙ marked_here c.args.runs.now c.loop-at.at x c.loop-at-test.true
+          (get_or_default c.args.runs.now c.loop-at.at none x c.loop-at-test.true)
+          (sym c.ne.ensures ∙ c.if-ne.true) d;
     }
 
 pub returns : goal.returns

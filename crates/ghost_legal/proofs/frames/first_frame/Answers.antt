@@ -10,12 +10,20 @@ use Rattle.ghost_legal.proofs.Past.{low-at, past}
 use Rattle.ghost_legal.proofs.frames.first_frame.Goals as goal
 
 pub fits-requires-clause-holder : goal.fits-requires-clause-holder
-fits-requires-clause-holder c = subst (λ (x : Facts). IsLowHolder x.holder) (sym c.facts_at-facts.ensures) (low-at c.args.held.now c.loop-frame.frame c.requires.held.small)
+fits-requires-clause-holder c =
+    subst (λ (x : Facts). IsLowHolder x.holder) (sym c.facts_at-facts.ensures)
+    (low-at c.args.held.now c.loop-frame.frame c.requires.held.small)
 
-goes-on : (p : ℕ → Facts) (frame f : ℕ) → frame ≤ f → IsCondition frame (p frame) → p f ≡ facts_later (p frame) (f - frame) → IsCondition f (p f)
+goes-on : (p : ℕ → Facts) (frame f : ℕ)
+    → frame ≤ f
+    → IsCondition frame (p frame)
+    → p f ≡ facts_later (p frame) (f - frame)
+    → IsCondition f (p f)
 goes-on p frame f a k e =
     let n : frame + (f - frame) ≡ f = omega (arith, a) in
-    subst (IsCondition f) (sym e) (subst (λ (m : ℕ). IsCondition m (facts_later (p frame) (f - frame))) n (condition-later frame (p frame) (f - frame) k))
+    subst (IsCondition f) (sym e)
+    (subst (λ (m : ℕ). IsCondition m (facts_later (p frame) (f - frame))) n
+    (condition-later frame (p frame) (f - frame) k))
 
 pub loop-frame-preserved : goal.loop-frame-preserved
 loop-frame-preserved c =
@@ -25,7 +33,8 @@ loop-frame-preserved c =
     let p = c.places_at-places.ensures in
     let above = c.until-frame.ensures.above in
     let next = c.until-frame.result in
-    let here : IsCondition frame (facts_in g hs frame) = subst (IsCondition frame) c.facts_at-facts.ensures (c.fits.ensures.0 (search)) in
+    let here : IsCondition frame (facts_in g hs frame) =
+    subst (IsCondition frame) c.facts_at-facts.ensures (c.fits.ensures.0 (search)) in
     record {
       low = c.until-frame.ensures.below;
       near = record {

@@ -6,5 +6,8 @@ abbrev pub invariant-loop-i : goal.invariant-loop-i
 invariant-loop-i l = record {
   above : l.page < l.until;
   below : l.until ≤ l.most;
-  goes_on : (f : ℕ) → l.page ≤ f → f < l.until → All (λ r. is_in_range r.pages f ≡ is_in_range r.pages l.page) (take l.i l.regions);
+  goes_on : (f : ℕ)
+      → l.page ≤ f
+      → f < l.until
+      → All (λ r. is_in_range r.pages f ≡ is_in_range r.pages l.page) (take l.i l.regions);
 }

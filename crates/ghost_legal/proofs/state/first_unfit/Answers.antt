@@ -12,4 +12,6 @@ returns-in-None c =
     let p = r.pages in
     let t = p.tables in
     let own = trees-own (layout_of g.layout).depth g t.host t.hyp t.guests r.tables in
-    frames-legal g hs r.once.order (all-held g hs r.once.order r.kept.guests_count r.kept.cpus_count own p.runs p.guests r.all) c.in-None.ensures p.guests p.hyp
+    frames-legal g hs r.once.order
+    (all-held g hs r.once.order r.kept.guests_count r.kept.cpus_count own p.runs p.guests r.all) c.in-None.ensures
+    p.guests p.hyp

@@ -9,6 +9,11 @@ returns c =
     let g = c.args.state.now in
     let n = c.depth_of-depth.ensures.value in
     tables-joined g c.first_guest_table.result c.requires.parts
-    (subst (λ (d : ℕ). AreInside d g.shared.host.tables.items) n (subst (λ (ts : List Table). AreInside c.depth_of-depth.result ts) c.as_slice.ensures.value c.in_default.ensures))
-    (subst (λ (d : ℕ). AreInside d g.shared.hyp.tables.items) n (subst (λ (ts : List Table). AreInside c.depth_of-depth.result ts) c.as_slice-2.ensures.value c.in_default-first_outside.ensures))
+    (subst (λ (d : ℕ). AreInside d g.shared.host.tables.items) n
+    (subst
+    (λ (ts : List Table). AreInside c.depth_of-depth.result ts) c.as_slice.ensures.value c.in_default.ensures))
+    (subst (λ (d : ℕ). AreInside d g.shared.hyp.tables.items) n
+    (subst
+    (λ (ts : List Table). AreInside c.depth_of-depth.result ts) c.as_slice-2.ensures.value
+    c.in_default-first_outside.ensures))
     c.first_guest_table.ensures

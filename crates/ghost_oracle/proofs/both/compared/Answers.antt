@@ -21,9 +21,15 @@ are_from_scratch-requires-clause-frames g c = λ f.
 pub of_kept-requires : goal.of_kept-requires
 of_kept-requires g c =
     let k = c.requires.kept in
-    let same : c.in-Ok-copied_rows.rows.runs ≡ c.args.parts.now.shared.owners = c.in-Ok-copied_rows.ensures ∙ c.runs-rows.ensures.runs in
+    let same : c.in-Ok-copied_rows.rows.runs ≡ c.args.parts.now.shared.owners =
+    c.in-Ok-copied_rows.ensures ∙ c.runs-rows.ensures.runs in
     record {
-      shared = record { host = k.shared.host; hyp = k.shared.hyp; rows = subst (AreInReach HasPageBelow) (sym same) c.runs-rows.ensures.reach };
+      shared =
+          record {
+            host = k.shared.host;
+            hyp = k.shared.hyp;
+            rows = subst (AreInReach HasPageBelow) (sym same) c.runs-rows.ensures.reach;
+          };
       guests = k.guests;
       cpus = k.cpus;
       vms_count = k.vms_count;
@@ -45,7 +51,8 @@ returns g c =
     let scratch : (f : ℕ) → run_map advance_row rows f ≡ elim (is_memory (layout_of found.layout) f) [ true ↦ Some (row_of (layout_of found.layout) (ghost_state found).contents f) | false ↦ None ] =
     λ f. ap (λ x. run_map advance_row x f) copied ∙ c.in-Ok.ensures.0 c.if-not-are_kept.false f in
     let m = c.is_kept.ensures.0 c.if-not-is_kept.false in
-    let frames : (f : ℕ) → is_some (run_map advance_row rows f) ≡ is_memory (parts_layout p) f = λ f. kept_frames p rows maps f in
+    let frames : (f : ℕ) → is_some (run_map advance_row rows f) ≡ is_memory (parts_layout p) f =
+    λ f. kept_frames p rows maps f in
     subst (λ x. IsCompared p (record { kept = x; other = None })) (sym c.of_kept.ensures) (record {
       state = ap (found_state (row_in rows)) c.requires.state ∙ same_rows p rows maps;
       layout = c.requires.layout;
@@ -53,7 +60,12 @@ returns g c =
       rows = maps;
       frames = frames;
       walked = walked (parts_layout p) (state_of p) _ (ghost_state found) rows c.requires.state
-          (subst (λ (l : Layout). (f : ℕ) → run_map advance_row rows f ≡ elim (is_memory l f) [ true ↦ Some (row_of l (ghost_state found).contents f) | false ↦ None ]) c.requires.layout scratch);
+          (subst
+          (λ (l : Layout). (f : ℕ)
+          → run_map advance_row rows f
+          ≡ elim (is_memory l f)
+          [ true ↦ Some (row_of l (ghost_state found).contents f) | false ↦ None ]) c.requires.layout
+          scratch);
       walked_layout = c.requires.layout;
       walked_frames = frames;
     })

@@ -13,7 +13,8 @@ returns-clause-shared g c =
     c.in_ok-tree_with_maplets.ensures.tree
     c.in_ok-tree_with_maplets-2.ensures.tree
     (c.in_ok-from_slice.ensures.items ∙ c.as_slice.ensures.value ∙ c.requires.free)
-    (rows_same c.args.part.now c.in_ok-copied_rows.field-0.runs (ap (run_map advance_row) (c.in_ok-copied_rows.ensures ∙ c.runs.ensures.runs)))
+    (rows_same c.args.part.now c.in_ok-copied_rows.field-0.runs
+    (ap (run_map advance_row) (c.in_ok-copied_rows.ensures ∙ c.runs.ensures.runs)))
 
 pub returns-clause-kept : goal.returns-clause-kept
 returns-clause-kept g c = record {

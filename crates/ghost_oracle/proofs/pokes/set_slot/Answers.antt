@@ -15,16 +15,30 @@ use Rattle.ghost_oracle.proofs.pokes.set_slot.Given as Given
 pub returns-in-Some-clause-poked : goal.returns-in-Some-clause-poked
 returns-in-Some-clause-poked g c = λ geometry h.
     let path = c.args.path.now in
-    subst (λ t. IsPokedSeen (block_of geometry path) t (raw_seen c.set.new.self.tree) path c.args.word) c.in-Some.ensures.seen
-    (poked_alike c.in-Some.guest.map.tree.geometry geometry _ _ path c.args.word (c.in-Some.ensures.depth geometry h).1 c.set.ensures.poked)
+    subst
+    (λ t. IsPokedSeen (block_of geometry path) t
+    (raw_seen c.set.new.self.tree) path c.args.word) c.in-Some.ensures.seen
+    (poked_alike c.in-Some.guest.map.tree.geometry geometry _ _ path c.args.word
+    (c.in-Some.ensures.depth geometry h).1 c.set.ensures.poked)
 
 pub returns-in-Some-clause-beside : goal.returns-in-Some-clause-beside
-returns-in-Some-clause-beside g c = same2 (λ (guest : Option GuestBeside) (log : StoredCalls). record { guest = guest; log = log })
-    (ap (λ (maplets : KeptMaplets). Some (record { phase = c.in-Some.guest.phase; generation = c.in-Some.guest.generation; kind = c.in-Some.guest.kind; maplets = maplets; pool = c.in-Some.guest.pool })) c.set.ensures.maplets ∙ c.in-Some.ensures.beside)
+returns-in-Some-clause-beside g c =
+    same2 (λ (guest : Option GuestBeside) (log : StoredCalls). record { guest = guest; log = log })
+    (ap
+    (λ (maplets : KeptMaplets). Some
+    (record {
+      phase = c.in-Some.guest.phase;
+      generation = c.in-Some.guest.generation;
+      kind = c.in-Some.guest.kind;
+      maplets = maplets;
+      pool = c.in-Some.guest.pool;
+    })) c.set.ensures.maplets
+    ∙ c.in-Some.ensures.beside)
     c.in-Some.ensures.log
 
 pub returns-in-Some-clause-depth : goal.returns-in-Some-clause-depth
-returns-in-Some-clause-depth g c = λ geometry h. let depth = c.in-Some.ensures.depth geometry h in (depth.0, ap levels_below c.set.ensures.geometry ∙ depth.1)
+returns-in-Some-clause-depth g c = λ geometry h. let depth = c.in-Some.ensures.depth geometry h in
+    (depth.0, ap levels_below c.set.ensures.geometry ∙ depth.1)
 
 gone : (g : Given.Over) (c : goal.In_default g) → ⊥
 gone g c = unseen (slot_seen c.args.part.now c.args.held.now) c.args.path.now c.in_default.ensures.seen c.requires.there

@@ -15,16 +15,24 @@ pub returns-clause-found : goal.returns-clause-found
 returns-clause-found g c = c.raw_from.ensures.found
 
 pub returns-clause-rows : goal.returns-clause-rows
-returns-clause-rows g c = if_ok (λ x. x.shared.rows ≡ c.in_ok-rows.rows) (SaysRawRows c.args.parts.now) c.raw_from.result
-    (λ x h. ap (λ r. run_map advance_row r.runs) h ∙ ap (run_map advance_row) (c.in_ok-rows.ensures ∙ c.runs.ensures.runs))
+returns-clause-rows g c =
+    if_ok (λ x. x.shared.rows ≡ c.in_ok-rows.rows) (SaysRawRows c.args.parts.now) c.raw_from.result
+    (λ x h. ap (λ r. run_map advance_row r.runs) h
+    ∙ ap (run_map advance_row) (c.in_ok-rows.ensures ∙ c.runs.ensures.runs))
     c.raw_from.ensures.rows
 
 pub returns-clause-frames : goal.returns-clause-frames
-returns-clause-frames g c = if_ok (λ x. x.shared.rows ≡ c.in_ok-rows.rows) (HasRowsOf (layout_of c.args.parts.now.layout)) c.raw_from.result
-    (λ x h f. ap (λ m. is_some (m f)) (ap (λ r. run_map advance_row r.runs) h ∙ ap (run_map advance_row) (c.in_ok-rows.ensures ∙ c.runs.ensures.runs)) ∙ c.args.parts.now.memory_rows f)
+returns-clause-frames g c =
+    if_ok (λ x. x.shared.rows ≡ c.in_ok-rows.rows) (HasRowsOf (layout_of c.args.parts.now.layout)) c.raw_from.result
+    (λ x h f. ap (λ m. is_some (m f))
+    (ap (λ r. run_map advance_row r.runs) h ∙ ap (run_map advance_row) (c.in_ok-rows.ensures ∙ c.runs.ensures.runs))
+    ∙ c.args.parts.now.memory_rows f)
     c.raw_from.ensures.rows
 
 pub returns-clause-ready : goal.returns-clause-ready
-returns-clause-ready g c = if_ok2 (IsRawFound Maplets c.args.parts.now) (λ x. x.shared.rows ≡ c.in_ok-rows.rows) AreMapsKept c.raw_from.result
-    (λ x found h. ready Maplets c.args.parts.now x found (subst (AreInReach HasPageBelow) (sym (ap (λ r. r.runs) h ∙ c.in_ok-rows.ensures ∙ c.runs.ensures.runs)) c.runs.ensures.reach))
+returns-clause-ready g c =
+    if_ok2 (IsRawFound Maplets c.args.parts.now) (λ x. x.shared.rows ≡ c.in_ok-rows.rows) AreMapsKept c.raw_from.result
+    (λ x found h. ready Maplets c.args.parts.now x found
+    (subst (AreInReach HasPageBelow)
+    (sym (ap (λ r. r.runs) h ∙ c.in_ok-rows.ensures ∙ c.runs.ensures.runs)) c.runs.ensures.reach))
     c.raw_from.ensures.found c.raw_from.ensures.rows

@@ -12,7 +12,13 @@ returns-clause-found g c = record {
   host_runs = c.in_ok-shared.ensures.host_runs;
   hyp_runs = c.in_ok-shared.ensures.hyp_runs;
   free = c.in_ok-shared.ensures.free;
-  guests = subst (λ ps. AreSlotsFound c.args.source ps c.args.parts.now.poked.items c.in_ok-guests.guests.items) c.as_slice.ensures.value (subst (λ hs. AreSlotsFound c.args.source c.as_slice.result.now hs c.in_ok-guests.guests.items) c.as_slice-2.ensures.value c.in_ok-guests.ensures.found);
+  guests =
+      subst
+      (λ ps. AreSlotsFound c.args.source ps c.args.parts.now.poked.items
+      c.in_ok-guests.guests.items) c.as_slice.ensures.value
+      (subst
+      (λ hs. AreSlotsFound c.args.source c.as_slice.result.now hs
+      c.in_ok-guests.guests.items) c.as_slice-2.ensures.value c.in_ok-guests.ensures.found);
   count = c.in_ok-guests.ensures.count;
   slots = c.in-Ok.ensures.slots;
   cpus = c.in-Ok.ensures.cpus;

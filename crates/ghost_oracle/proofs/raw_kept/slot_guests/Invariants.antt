@@ -7,6 +7,8 @@ use Rattle.ghost_oracle.proofs.raw_kept.slot_guests.Given as goal
 
 abbrev pub invariant-loop-v : goal.invariant-loop-v
 invariant-loop-v g l = record {
-  found : (k : ℕ) (part : GuestPart g.row.A.Denot) (held : Option (RawGuest g.row.A.Denot)) (x : GhostGuest) → k < l.v → IsSlotFound l.fn.source (get_or l.guests k part) (get_or l.poked k held) (get_or l.found.items k x);
+  found : (k : ℕ) (part : GuestPart g.row.A.Denot) (held : Option (RawGuest g.row.A.Denot)) (x : GhostGuest)
+      → k < l.v
+      → IsSlotFound l.fn.source (get_or l.guests k part) (get_or l.poked k held) (get_or l.found.items k x);
   count : length l.found.items ≡ l.v;
 }

@@ -16,8 +16,18 @@ returns-clause-state g c =
     let log = c.args.layout.now.config.log in
     let b = c.in_ok-beside.beside in
     let rooms = c.in_ok-beside.ensures.rooms in
-    is_recorded (given (option_copied c.args.vms) (option_copied c.args.shared) (option_map (λ (p : ℕ × Bor (GuestPart g.row.A.Denot)). (p.0, p.1.now)) c.args.guest) c.args.state.now) (layout_of c.args.layout.now)
-    (record { layout = b.layout; vms = b.vms; shared = c.in-Ok-shared_given.shared; guests = c.in-Ok.guests; cpus = b.cpus; rooms = b.rooms })
+    is_recorded
+    (given (option_copied c.args.vms) (option_copied c.args.shared)
+    (option_map (λ (p : ℕ × Bor (GuestPart g.row.A.Denot)). (p.0, p.1.now)) c.args.guest) c.args.state.now)
+    (layout_of c.args.layout.now)
+    (record {
+      layout = b.layout;
+      vms = b.vms;
+      shared = c.in-Ok-shared_given.shared;
+      guests = c.in-Ok.guests;
+      cpus = b.cpus;
+      rooms = b.rooms;
+    })
     (record {
       log = ap (λ l. l.config.log) c.in_ok-beside.ensures.layout;
       slots = c.in_ok-beside.ensures.slots;
@@ -27,7 +37,9 @@ returns-clause-state g c =
       vms_room = ap (λ r. r.vms) rooms ∙ c.vms_room.ensures;
       shared_room = ap (λ r. r.shared) rooms ∙ c.shared_room.ensures;
       guest_rooms = ap (λ r. rooms_of log r.guests.items) rooms ∙ c.in_ok-guest_rooms_given.ensures.rooms;
-      cpu_rooms = ap (λ r. rooms_of log r.cpus.items) rooms ∙ c.in_ok-rooms_with.ensures.rooms ∙ ap (put_at (λ k. log) c.args.state.now.id) c.room.ensures;
+      cpu_rooms =
+          ap (λ r. rooms_of log r.cpus.items) rooms ∙ c.in_ok-rooms_with.ensures.rooms
+          ∙ ap (put_at (λ k. log) c.args.state.now.id) c.room.ensures;
     })
 
 pub returns-clause-layout : goal.returns-clause-layout
@@ -61,4 +73,7 @@ pub guest_rooms_given-requires : goal.guest_rooms_given-requires
 guest_rooms_given-requires g c = c.requires.slot
 
 pub returns-clause-reads : goal.returns-clause-reads
-returns-clause-reads g c = read_given (count_of c.args.reads.now) (count_of c.guests_given.new.reads) (count_of c.shared_given.new.reads) _ _ (omega (arith, c.count-count.type_inv, c.count-count.ensures)) c.in-Ok.ensures.reads c.in-Ok-shared_given.ensures.reads
+returns-clause-reads g c =
+    read_given (count_of c.args.reads.now) (count_of c.guests_given.new.reads) (count_of c.shared_given.new.reads) _ _
+    (omega (arith, c.count-count.type_inv, c.count-count.ensures)) c.in-Ok.ensures.reads
+    c.in-Ok-shared_given.ensures.reads

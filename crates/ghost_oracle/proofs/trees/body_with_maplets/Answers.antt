@@ -10,5 +10,9 @@ pub returns-clause-kept : goal.returns-clause-kept
 returns-clause-kept g c = λ low. record {
   tree = c.in_ok-tree_with_maplets.ensures.kept;
   tables = subst HasLowTables (sym (ap (λ t. t.table) c.in_ok-tree_with_maplets.ensures.tree)) low.tables;
-  free = subst AreLowFrames (sym (c.in_ok-from_slice.ensures.items ∙ c.as_slice.ensures.value ∙ ap (λ (x : Guest). x.free) c.requires)) low.free;
+  free =
+      subst AreLowFrames
+      (sym
+      (c.in_ok-from_slice.ensures.items ∙ c.as_slice.ensures.value
+      ∙ ap (λ (x : Guest). x.free) c.requires)) low.free;
 }

@@ -11,7 +11,11 @@ pub returns : goal.returns
 returns c =
     let s = c.args.state.now in
     let l = layout_of s.layout in
-    let same : (f : ℕ) → is_memory l f ≡ true → told c.in_ok-lists.lists f ≡ row_of l (contents_in s) f = λ f memory. c.in_ok-lists.ensures.told f (c.is_low_memory.ensures f memory) in (
-      λ h f. rows-from (is_memory l f) _ _ _ (c.requires.frames f) (told-map c.in_ok-lists.lists c.args.rows.now (c.are_told.ensures.0 h) f) (same f),
-      λ h. c.are_told.ensures.1 (map-told c.in_ok-lists.lists c.args.rows.now c.requires.coarsest (λ f some. told-from (is_memory l f) _ _ _ (sym (c.requires.frames f) ∙ some) (h f) (same f))),
+    let same : (f : ℕ) → is_memory l f ≡ true → told c.in_ok-lists.lists f ≡ row_of l (contents_in s) f =
+    λ f memory. c.in_ok-lists.ensures.told f (c.is_low_memory.ensures f memory) in (
+      λ h f. rows-from (is_memory l f) _ _ _ (c.requires.frames f)
+          (told-map c.in_ok-lists.lists c.args.rows.now (c.are_told.ensures.0 h) f) (same f),
+      λ h. c.are_told.ensures.1
+          (map-told c.in_ok-lists.lists c.args.rows.now c.requires.coarsest
+          (λ f some. told-from (is_memory l f) _ _ _ (sym (c.requires.frames f) ∙ some) (h f) (same f))),
     )

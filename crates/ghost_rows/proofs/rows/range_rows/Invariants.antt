@@ -11,7 +11,9 @@ abbrev pub invariant-loop-low : goal.invariant-loop-low
 invariant-loop-low l = record {
   begun : l.fn.pages.first.0 ≤ l.low;
   within : l.low ≤ l.end;
-  map : (f : ℕ) → run_map advance_row l.rows.items f ≡ (if is_within l.fn.pages.first.0 (l.low - l.fn.pages.first.0) f then Some (told l.lists f) else None);
+  map : (f : ℕ)
+      → run_map advance_row l.rows.items f
+      ≡ (if is_within l.fn.pages.first.0 (l.low - l.fn.pages.first.0) f then Some (told l.lists f) else None);
   kept : IsKept advance_row HasPageBelow l.rows.items;
   behind : EndBefore (l.low + 1) l.rows.items;
   near : AreCarried l.low l.stands l.lists;

@@ -18,7 +18,8 @@ returns-clause-rows c = λ f.
     let start : c.loop-i.i ≡ 0 = omega (arith, c.loop-i-test.false) in
     let s = c.args.state.now in
     let row : Row = told c.in_ok-lists.lists f in
-    memory-rows s.layout.map f (run_map advance_row c.loop-i.rows.runs f) row (row_of (layout_of s.layout) (contents_in s) f) c.regions-regions.ensures.accepted
+    memory-rows s.layout.map f (run_map advance_row c.loop-i.rows.runs f) row
+    (row_of (layout_of s.layout) (contents_in s) f) c.regions-regions.ensures.accepted
     (c.loop-i.invariant.map f
     ∙ ap (λ (i : ℕ). memory_row (find_region (drop i c.regions-regions.result.now) f) row) start
     ∙ ap (λ (rs : List Region). memory_row (find_region rs f) row) c.regions-regions.ensures.value)
@@ -47,7 +48,9 @@ returns-in_err-lists-clause-reach c = IfOk-from_err _ _ c.from_residual.ensures.
 
 pub loop-i-init : goal.loop-i-init
 loop-i-init c = rw c.new-rows.ensures (record {
-  map = λ f. ap (λ (rs : List Region). memory_row (find_region rs f) (told c.in_ok-lists.lists f)) (sym (drop_all (length c.regions-regions.result.now) c.regions-regions.result.now (omega arith)));
+  map =
+      λ f. ap (λ (rs : List Region). memory_row (find_region rs f) (told c.in_ok-lists.lists f))
+      (sym (drop_all (length c.regions-regions.result.now) c.regions-regions.result.now (omega arith)));
   reach = tt;
 })
 
@@ -68,6 +71,10 @@ returns-clause-reach c = c.loop-i.invariant.reach
 
 pub loop-i-preserved : goal.loop-i-preserved
 loop-i-preserved c = record {
-  map = λ f. regions-more c.regions-regions.result.now c.loop-i.i _ f (told c.in_ok-lists.lists f) (run_map advance_row c.add_region.new.rows.runs f) (run_map advance_row c.loop-i.rows.runs f) (omega (arith, c.loop-i-test.true)) (omega arith) (c.in_ok-add_region.ensures.map f) (c.loop-i.invariant.map f);
+  map =
+      λ f. regions-more c.regions-regions.result.now c.loop-i.i _ f (told c.in_ok-lists.lists f)
+      (run_map advance_row c.add_region.new.rows.runs f) (run_map advance_row c.loop-i.rows.runs f)
+      (omega (arith, c.loop-i-test.true)) (omega arith) (c.in_ok-add_region.ensures.map f)
+      (c.loop-i.invariant.map f);
   reach = c.add_region.ensures.reach;
 }

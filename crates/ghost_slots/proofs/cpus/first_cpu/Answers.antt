@@ -10,4 +10,5 @@ returns c = all-cpus c.args.state.now c.requires c.loop-cpu.cpu c.loop-cpu-test.
 
 pub loop-cpu-preserved : goal.loop-cpu-preserved
 loop-cpu-preserved c = λ d less. by_lt d c.loop-cpu.cpu (λ l. c.loop-cpu.invariant d l) (λ l.
-    let e : c.loop-cpu.cpu ≡ d = omega (arith, l, less) in subst (CpuFits (contents_in c.args.state.now)) e c.in_default.ensures)
+    let e : c.loop-cpu.cpu ≡ d = omega (arith, l, less) in
+    subst (CpuFits (contents_in c.args.state.now)) e c.in_default.ensures)

@@ -6,7 +6,10 @@ use Rattle.ghost_sound.proofs.Loops.{below_more}
 use Rattle.ghost_sound.proofs.share.stray_found.Goals as goal
 
 pub loop-tree-preserved : goal.loop-tree-preserved
-loop-tree-preserved c = below_more (λ u. All (AllShared c.args.state.now) (runs_in c.args.state.now u)) c.loop-tree.tree c.loop-tree.invariant (subst (All (AllShared c.args.state.now)) c.runs_of.ensures.value c.in_default.ensures)
+loop-tree-preserved c =
+    below_more
+    (λ u. All (AllShared c.args.state.now) (runs_in c.args.state.now u)) c.loop-tree.tree c.loop-tree.invariant
+    (subst (All (AllShared c.args.state.now)) c.runs_of.ensures.value c.in_default.ensures)
 
 pub returns : goal.returns
 returns c = λ u h. c.loop-tree.invariant u (omega (arith, h, c.loop-tree-test.false))

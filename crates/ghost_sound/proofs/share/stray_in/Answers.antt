@@ -4,7 +4,10 @@ use Rattle.ghost_sound.specs.inner.Share.{AllShared}
 use Rattle.ghost_sound.proofs.share.stray_in.Goals as goal
 
 pub loop-i-preserved : goal.loop-i-preserved
-loop-i-preserved c = All-more (AllShared c.args.state.now) c.args.runs.now c.loop-i.i _ c.loop-i-test.true c.loop-i.invariant c.in_default.ensures
+loop-i-preserved c =
+    All-more
+    (AllShared c.args.state.now) c.args.runs.now c.loop-i.i _ c.loop-i-test.true c.loop-i.invariant
+    c.in_default.ensures
 
 pub returns : goal.returns
 returns c = all-taken (AllShared c.args.state.now) c.args.runs.now c.loop-i.i c.loop-i-test.false c.loop-i.invariant

@@ -9,4 +9,6 @@ make v s g k = record { vms = v; shared = s; guest = g; cpu = k }
 
 pub returns-clause-used : goal.returns-clause-used
 unfolding changed make
-returns-clause-used c = same4 make c.in_ok-change.ensures.after c.in_ok-change-2.ensures.after c.in_ok-change-3.ensures.after c.changed-used.ensures
+returns-clause-used c =
+    same4 make c.in_ok-change.ensures.after c.in_ok-change-2.ensures.after c.in_ok-change-3.ensures.after
+    c.changed-used.ensures

@@ -20,7 +20,8 @@ pub returns-in-DonateHyp-clause-small : goal.returns-in-DonateHyp-clause-small
 returns-in-DonateHyp-clause-small c = c.donate_hyp.ensures.small
 
 pub returns-in-HypDonateHost-clause-decided : goal.returns-in-HypDonateHost-clause-decided
-returns-in-HypDonateHost-clause-decided c = rw c.in-HypDonateHost.is (c.hyp_donate_host.ensures.decided c.args.cpu c.args.slot)
+returns-in-HypDonateHost-clause-decided c =
+    rw c.in-HypDonateHost.is (c.hyp_donate_host.ensures.decided c.args.cpu c.args.slot)
 
 pub returns-in-HypDonateHost-clause-small : goal.returns-in-HypDonateHost-clause-small
 returns-in-HypDonateHost-clause-small c = c.hyp_donate_host.ensures.small
@@ -32,13 +33,15 @@ pub returns-in-HostAbort-clause-small : goal.returns-in-HostAbort-clause-small
 returns-in-HostAbort-clause-small c = c.host_abort.ensures.small
 
 pub returns-in-HostTranslate-clause-decided : goal.returns-in-HostTranslate-clause-decided
-returns-in-HostTranslate-clause-decided c = rw c.in-HostTranslate.is (c.host_translate.ensures.decided c.args.cpu c.args.slot)
+returns-in-HostTranslate-clause-decided c =
+    rw c.in-HostTranslate.is (c.host_translate.ensures.decided c.args.cpu c.args.slot)
 
 pub returns-in-HostTranslate-clause-small : goal.returns-in-HostTranslate-clause-small
 returns-in-HostTranslate-clause-small c = c.host_translate.ensures.small
 
 pub returns-in-HypTranslate-clause-decided : goal.returns-in-HypTranslate-clause-decided
-returns-in-HypTranslate-clause-decided c = rw c.in-HypTranslate.is (c.hyp_translate.ensures.decided c.args.cpu c.args.slot)
+returns-in-HypTranslate-clause-decided c =
+    rw c.in-HypTranslate.is (c.hyp_translate.ensures.decided c.args.cpu c.args.slot)
 
 pub returns-in-HypTranslate-clause-small : goal.returns-in-HypTranslate-clause-small
 returns-in-HypTranslate-clause-small c = c.hyp_translate.ensures.small
@@ -86,13 +89,15 @@ pub returns-in-GuestShareHost-clause-small : goal.returns-in-GuestShareHost-clau
 returns-in-GuestShareHost-clause-small c = c.guest_share_host.ensures.small
 
 pub returns-in-GuestUnshareHost-clause-decided : goal.returns-in-GuestUnshareHost-clause-decided
-returns-in-GuestUnshareHost-clause-decided c = rw c.in-GuestUnshareHost.is (c.guest_unshare_host.ensures.decided c.args.cpu)
+returns-in-GuestUnshareHost-clause-decided c =
+    rw c.in-GuestUnshareHost.is (c.guest_unshare_host.ensures.decided c.args.cpu)
 
 pub returns-in-GuestUnshareHost-clause-small : goal.returns-in-GuestUnshareHost-clause-small
 returns-in-GuestUnshareHost-clause-small c = c.guest_unshare_host.ensures.small
 
 pub returns-in-Install-clause-decided : goal.returns-in-Install-clause-decided
-returns-in-Install-clause-decided c = rw c.in-Install.is (c.install.ensures.decided (layout_of c.args.layout.now) c.args.cpu)
+returns-in-Install-clause-decided c =
+    rw c.in-Install.is (c.install.ensures.decided (layout_of c.args.layout.now) c.args.cpu)
 
 pub returns-in-Install-clause-small : goal.returns-in-Install-clause-small
 returns-in-Install-clause-small c = c.install.ensures.small
@@ -110,7 +115,8 @@ pub returns-in-ReclaimPage-clause-small : goal.returns-in-ReclaimPage-clause-sma
 returns-in-ReclaimPage-clause-small c = c.reclaim_page.ensures.small
 
 pub returns-in-ReclaimPool-clause-decided : goal.returns-in-ReclaimPool-clause-decided
-returns-in-ReclaimPool-clause-decided c = rw c.in-ReclaimPool.is (c.reclaim_pool.ensures.decided (layout_of c.args.layout.now) c.args.cpu)
+returns-in-ReclaimPool-clause-decided c =
+    rw c.in-ReclaimPool.is (c.reclaim_pool.ensures.decided (layout_of c.args.layout.now) c.args.cpu)
 
 pub returns-in-ReclaimPool-clause-small : goal.returns-in-ReclaimPool-clause-small
 returns-in-ReclaimPool-clause-small c = c.reclaim_pool.ensures.small
@@ -134,43 +140,50 @@ pub returns-in-GuestTranslate-clause-small : goal.returns-in-GuestTranslate-clau
 returns-in-GuestTranslate-clause-small c = c.guest_translate.ensures.small
 
 pub returns-in-MarkDying-clause-decided : goal.returns-in-MarkDying-clause-decided
-returns-in-MarkDying-clause-decided c = rw c.in-MarkDying.is (c.mark_dying.ensures.decided (layout_of c.args.layout.now) c.args.cpu)
+returns-in-MarkDying-clause-decided c =
+    rw c.in-MarkDying.is (c.mark_dying.ensures.decided (layout_of c.args.layout.now) c.args.cpu)
 
 pub returns-in-MarkDying-clause-small : goal.returns-in-MarkDying-clause-small
 returns-in-MarkDying-clause-small c = c.mark_dying.ensures.small
 
 pub returns-in-VmReserve-clause-decided : goal.returns-in-VmReserve-clause-decided
-returns-in-VmReserve-clause-decided c = rw c.in-VmReserve.is (c.vm_reserve.ensures.decided (layout_of c.args.layout.now) c.args.cpu c.args.slot)
+returns-in-VmReserve-clause-decided c =
+    rw c.in-VmReserve.is (c.vm_reserve.ensures.decided (layout_of c.args.layout.now) c.args.cpu c.args.slot)
 
 pub returns-in-VmReserve-clause-small : goal.returns-in-VmReserve-clause-small
 returns-in-VmReserve-clause-small c = c.vm_reserve.ensures.small
 
 pub returns-in-VmOpen-clause-decided : goal.returns-in-VmOpen-clause-decided
-returns-in-VmOpen-clause-decided c = rw c.in-VmOpen.is (c.vm_open.ensures.decided (layout_of c.args.layout.now) c.args.cpu c.args.slot)
+returns-in-VmOpen-clause-decided c =
+    rw c.in-VmOpen.is (c.vm_open.ensures.decided (layout_of c.args.layout.now) c.args.cpu c.args.slot)
 
 pub returns-in-VmOpen-clause-small : goal.returns-in-VmOpen-clause-small
 returns-in-VmOpen-clause-small c = c.vm_open.ensures.small
 
 pub returns-in-VcpuLoad-clause-decided : goal.returns-in-VcpuLoad-clause-decided
-returns-in-VcpuLoad-clause-decided c = rw c.in-VcpuLoad.is (c.vcpu_load.ensures.decided (layout_of c.args.layout.now) c.args.slot)
+returns-in-VcpuLoad-clause-decided c =
+    rw c.in-VcpuLoad.is (c.vcpu_load.ensures.decided (layout_of c.args.layout.now) c.args.slot)
 
 pub returns-in-VcpuLoad-clause-small : goal.returns-in-VcpuLoad-clause-small
 returns-in-VcpuLoad-clause-small c = c.vcpu_load.ensures.small
 
 pub returns-in-VcpuPut-clause-decided : goal.returns-in-VcpuPut-clause-decided
-returns-in-VcpuPut-clause-decided c = rw c.in-VcpuPut.is (c.vcpu_put.ensures.decided (layout_of c.args.layout.now) c.args.cpu c.args.slot)
+returns-in-VcpuPut-clause-decided c =
+    rw c.in-VcpuPut.is (c.vcpu_put.ensures.decided (layout_of c.args.layout.now) c.args.cpu c.args.slot)
 
 pub returns-in-VcpuPut-clause-small : goal.returns-in-VcpuPut-clause-small
 returns-in-VcpuPut-clause-small c = c.vcpu_put.ensures.small
 
 pub returns-in-Teardown-clause-decided : goal.returns-in-Teardown-clause-decided
-returns-in-Teardown-clause-decided c = rw c.in-Teardown.is (c.teardown.ensures.decided (layout_of c.args.layout.now) c.args.cpu c.args.slot)
+returns-in-Teardown-clause-decided c =
+    rw c.in-Teardown.is (c.teardown.ensures.decided (layout_of c.args.layout.now) c.args.cpu c.args.slot)
 
 pub returns-in-Teardown-clause-small : goal.returns-in-Teardown-clause-small
 returns-in-Teardown-clause-small c = c.teardown.ensures.small
 
 pub returns-in-VmRelease-clause-decided : goal.returns-in-VmRelease-clause-decided
-returns-in-VmRelease-clause-decided c = rw c.in-VmRelease.is (c.vm_release.ensures.decided (layout_of c.args.layout.now) c.args.cpu c.args.slot)
+returns-in-VmRelease-clause-decided c =
+    rw c.in-VmRelease.is (c.vm_release.ensures.decided (layout_of c.args.layout.now) c.args.cpu c.args.slot)
 
 pub returns-in-VmRelease-clause-small : goal.returns-in-VmRelease-clause-small
 returns-in-VmRelease-clause-small c = c.vm_release.ensures.small

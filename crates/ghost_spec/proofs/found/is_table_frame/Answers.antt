@@ -5,4 +5,7 @@ use Rattle.ghost_spec.proofs.FoundTables.{any-is}
 use Rattle.ghost_spec.proofs.found.is_table_frame.Goals as goal
 
 pub returns : goal.returns
-returns c = (rw c.as_slice.ensures.value at c.has_table.ensures) ∙ any-is (layout_of c.args.layout.now) (tree_in_lists c.args.tree.now) c.args.tree.now.tables.items c.args.frame refl
+returns c =
+    (rw c.as_slice.ensures.value at c.has_table.ensures)
+    ∙ any-is (layout_of c.args.layout.now)
+    (tree_in_lists c.args.tree.now) c.args.tree.now.tables.items c.args.frame refl

@@ -5,10 +5,20 @@ use Rattle.ghost_trees.proofs.Searches.{all_below_true, all_below_false}
 use Rattle.ghost_spec.proofs.guest_rules.may_give.Goals as goal
 
 pub returns-then-not-may_give_frame : goal.returns-then-not-may_give_frame
-returns-then-not-may_give_frame c = sym (all_below_false c.args.n c.loop-i.i (λ i. is_free_page (map_of c.args.shared.now.host.runs.items (c.args.pfn + i)) && is_unmapped (map_of c.args.guest.now.tree.runs.items (c.args.gfn + i))) c.loop-i-test.true (sym c.may_give_frame.ensures ∙ c.if-not-may_give_frame.true))
+returns-then-not-may_give_frame c =
+    sym
+    (all_below_false c.args.n c.loop-i.i
+    (λ i. is_free_page (map_of c.args.shared.now.host.runs.items (c.args.pfn + i))
+    && is_unmapped (map_of c.args.guest.now.tree.runs.items (c.args.gfn + i))) c.loop-i-test.true
+    (sym c.may_give_frame.ensures ∙ c.if-not-may_give_frame.true))
 
 pub loop-i-preserved : goal.loop-i-preserved
 loop-i-preserved c = below_more _ _ c.loop-i.invariant (sym c.may_give_frame.ensures ∙ c.if-not-may_give_frame.false)
 
 pub returns : goal.returns
-returns c = sym (all_below_true c.args.n (λ i. is_free_page (map_of c.args.shared.now.host.runs.items (c.args.pfn + i)) && is_unmapped (map_of c.args.guest.now.tree.runs.items (c.args.gfn + i))) (λ i less. c.loop-i.invariant i (omega (arith, c.loop-i-test.false))))
+returns c =
+    sym
+    (all_below_true c.args.n
+    (λ i. is_free_page (map_of c.args.shared.now.host.runs.items (c.args.pfn + i))
+    && is_unmapped (map_of c.args.guest.now.tree.runs.items (c.args.gfn + i)))
+    (λ i less. c.loop-i.invariant i (omega (arith, c.loop-i-test.false))))

@@ -5,6 +5,7 @@ use Rattle.ghost_spec.proofs.guest_rules.table_count.Given as goal
 
 abbrev pub invariant-loop-i : goal.invariant-loop-i
 invariant-loop-i l = record {
-  counted : l.count + standing (layout_of l.layout).depth (drop l.i l.tables) ≡ standing (layout_of l.layout).depth l.tables;
+  counted : l.count + standing (layout_of l.layout).depth (drop l.i l.tables)
+      ≡ standing (layout_of l.layout).depth l.tables;
   few : l.count ≤ l.i;
 }

@@ -8,7 +8,14 @@ use Rattle.ghost_spec.proofs.parts.empty_guests.Goals as goal
 
 pub loop-preserved : goal.loop-preserved
 loop-preserved c = record {
-  count = count_pushed c.loop.guests.items c.push.new.self.items c.none.result c.loop.counter c.in_ok-push.ensures.items c.loop.invariant.count;
-  empty = all_pushed (λ (g : GhostGuest). guest_in g ≡ no_guest) c.loop.guests.items c.push.new.self.items c.none.result c.in_ok-push.ensures.items c.loop.invariant.empty c.none.ensures.none;
-  kept = all_pushed IsKeptGuest c.loop.guests.items c.push.new.self.items c.none.result c.in_ok-push.ensures.items c.loop.invariant.kept c.none.ensures.kept;
+  count =
+      count_pushed c.loop.guests.items c.push.new.self.items c.none.result c.loop.counter
+      c.in_ok-push.ensures.items c.loop.invariant.count;
+  empty =
+      all_pushed
+      (λ (g : GhostGuest). guest_in g ≡ no_guest) c.loop.guests.items c.push.new.self.items c.none.result
+      c.in_ok-push.ensures.items c.loop.invariant.empty c.none.ensures.none;
+  kept =
+      all_pushed IsKeptGuest c.loop.guests.items c.push.new.self.items c.none.result c.in_ok-push.ensures.items
+      c.loop.invariant.kept c.none.ensures.kept;
 }

@@ -17,17 +17,35 @@ use Rattle.ghost_spec.proofs.Starts.{region-of-memory}
 use Rattle.ghost_spec.proofs.rows.find_all.Goals as goal
 
 -- the row doesn't hang on rows
-same-row : (l : Layout) (s t : SharedOfLists) (f : ℕ) → s.host ≡ t.host → s.hyp ≡ t.hyp → s.free ≡ t.free → row_found l (shared_in_lists s) None no_guest f 0 no_cpu ≡ row_found l (shared_in_lists t) None no_guest f 0 no_cpu
+same-row : (l : Layout) (s t : SharedOfLists) (f : ℕ)
+    → s.host ≡ t.host
+    → s.hyp ≡ t.hyp
+    → s.free ≡ t.free
+    → row_found l (shared_in_lists s) None no_guest f 0 no_cpu
+    ≡ row_found l (shared_in_lists t) None no_guest f 0 no_cpu
 same-row l s t f host hyp free = rw (host, hyp, free) refl
 
 -- one region more
-found-more : (l : Layout) (rs : List Region) (i : ℕ) (r : PageRange) (after before told found : ℕ → Row) → ((k : ℕ) (d : Region) → k ≡ i → (get_or rs k d).pages ≡ r) → ((f : ℕ) → after f ≡ elim (is_memory l f && is_in_range r f) [ true ↦ told f | false ↦ before f ]) → ((f : ℕ) → told f ≡ found f)
-    → ((f k : ℕ) (d : Region) → k < i → is_in_range (get_or rs k d).pages f ≡ true → is_memory l f ≡ true → before f ≡ found f)
-    → (f k : ℕ) (d : Region) → k < i + 1 → is_in_range (get_or rs k d).pages f ≡ true → is_memory l f ≡ true → after f ≡ found f
+found-more : (l : Layout) (rs : List Region) (i : ℕ) (r : PageRange) (after before told found : ℕ → Row)
+    → ((k : ℕ) (d : Region) → k ≡ i → (get_or rs k d).pages ≡ r)
+    → ((f : ℕ) → after f ≡ elim (is_memory l f && is_in_range r f) [ true ↦ told f | false ↦ before f ])
+    → ((f : ℕ) → told f ≡ found f)
+    → ((f k : ℕ) (d : Region)
+    → k < i
+    → is_in_range (get_or rs k d).pages f ≡ true
+    → is_memory l f ≡ true
+    → before f ≡ found f)
+    → (f k : ℕ) (d : Region)
+    → k < i + 1
+    → is_in_range (get_or rs k d).pages f ≡ true
+    → is_memory l f ≡ true
+    → after f ≡ found f
 found-more l rs i r after before told found range rows same front f k d less holds memory = by_test (is_in_range r f)
     (λ t. rows f ∙ rw (memory, t) (same f))
     (λ t. rows f ∙ rw (memory, t) (by_lt k i (λ x. front f k d x holds memory)
-    (λ x. let differs : true ≡ false = sym holds ∙ ap (λ (p : PageRange). is_in_range p f) (range k d (omega (arith, less, x))) ∙ t in cc)))
+    (λ x. let differs : true ≡ false =
+    sym holds ∙ ap (λ (p : PageRange). is_in_range p f) (range k d (omega (arith, less, x))) ∙ t in
+    cc)))
 
 pub returns-clause-rows : goal.returns-clause-rows
 returns-clause-rows c = λ f. by_test (is_memory (layout_of c.args.layout.now) f)
@@ -92,6 +110,17 @@ loop-i-preserved c = record {
   free = c.find_first.ensures.free ∙ c.loop-i.invariant.free;
   reach = c.find_first.ensures.kept.rows;
   same = λ f e. c.in_ok-find_first.ensures.rows f ∙ rw e (c.loop-i.invariant.same f e);
-  found = found-more (layout_of c.args.layout.now) c.args.layout.now.map.regions c.loop-i.i _ (λ f. row_in c.find_first.new.shared.rows.runs f) (λ f. row_in c.loop-i.shared.rows.runs f) (λ f. row_found (layout_of c.args.layout.now) (shared_in_lists c.loop-i.shared) None no_guest f 0 no_cpu) (λ f. row_found (layout_of c.args.layout.now) (shared_in_lists c.args.shared.now) None no_guest f 0 no_cpu) (λ k d e. rw (e, sym c.regions-regions.ensures.value) (ap (λ (x : Region). x.pages) (get_or_default c.regions-regions.result.now c.loop-i.i d _ c.loop-i-test.true))) (λ f. c.in_ok-find_first.ensures.rows f)
-      (λ f. same-row (layout_of c.args.layout.now) c.loop-i.shared c.args.shared.now f c.loop-i.invariant.host c.loop-i.invariant.hyp c.loop-i.invariant.free) c.loop-i.invariant.found;
+  found =
+      found-more (layout_of c.args.layout.now) c.args.layout.now.map.regions c.loop-i.i _
+      (λ f. row_in c.find_first.new.shared.rows.runs f) (λ f. row_in c.loop-i.shared.rows.runs f)
+      (λ f. row_found (layout_of c.args.layout.now) (shared_in_lists c.loop-i.shared) None no_guest f 0 no_cpu)
+      (λ f. row_found (layout_of c.args.layout.now)
+      (shared_in_lists c.args.shared.now) None no_guest f 0 no_cpu)
+      (λ k d e. rw (e, sym c.regions-regions.ensures.value)
+      (ap (λ (x : Region). x.pages)
+      (get_or_default c.regions-regions.result.now c.loop-i.i d _ c.loop-i-test.true)))
+      (λ f. c.in_ok-find_first.ensures.rows f)
+      (λ f. same-row
+      (layout_of c.args.layout.now) c.loop-i.shared c.args.shared.now f c.loop-i.invariant.host
+      c.loop-i.invariant.hyp c.loop-i.invariant.free) c.loop-i.invariant.found;
 }

@@ -16,6 +16,13 @@ invariant-loop-i l = record {
   hyp : l.shared.hyp ≡ l.fn.shared.hyp;
   free : l.shared.free ≡ l.fn.shared.free;
   reach : AreInReach HasPageBelow l.shared.rows.runs;
-  same : (f : ℕ) → is_memory (layout_of l.layout) f ≡ false → row_in l.shared.rows.runs f ≡ row_in l.fn.shared.rows.runs f;
-  found : (f k : ℕ) (d : Region) → k < l.i → is_in_range (get_or l.layout.map.regions k d).pages f ≡ true → is_memory (layout_of l.layout) f ≡ true → row_in l.shared.rows.runs f ≡ row_found (layout_of l.layout) (shared_in_lists l.fn.shared) None no_guest f 0 no_cpu;
+  same : (f : ℕ)
+      → is_memory (layout_of l.layout) f ≡ false
+      → row_in l.shared.rows.runs f ≡ row_in l.fn.shared.rows.runs f;
+  found : (f k : ℕ) (d : Region)
+      → k < l.i
+      → is_in_range (get_or l.layout.map.regions k d).pages f ≡ true
+      → is_memory (layout_of l.layout) f ≡ true
+      → row_in l.shared.rows.runs f
+      ≡ row_found (layout_of l.layout) (shared_in_lists l.fn.shared) None no_guest f 0 no_cpu;
 }

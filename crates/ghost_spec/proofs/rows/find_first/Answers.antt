@@ -10,4 +10,8 @@ use Rattle.ghost_spec.proofs.rows.find_first.Goals as goal
 pub returns-clause-rows : goal.returns-clause-rows
 returns-clause-rows c = λ f.
     c.in_ok-find_range.ensures.rows f
-    ∙ ap (λ (g : Guest). elim (is_memory (layout_of c.args.layout.now) f && is_in_range c.args.range f) [ true ↦ row_found (layout_of c.args.layout.now) (shared_in_lists c.args.shared.now) None g f 0 no_cpu | false ↦ row_in c.args.shared.now.rows.runs f ]) c.none-none.ensures.none
+    ∙ ap
+    (λ (g : Guest). elim (is_memory (layout_of c.args.layout.now) f && is_in_range c.args.range f) [
+      | true ↦ row_found (layout_of c.args.layout.now) (shared_in_lists c.args.shared.now) None g f 0 no_cpu
+      | false ↦ row_in c.args.shared.now.rows.runs f
+    ]) c.none-none.ensures.none

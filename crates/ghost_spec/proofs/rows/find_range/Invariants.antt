@@ -15,5 +15,11 @@ invariant-loop-i l = record {
   hyp : l.shared.hyp ≡ l.fn.shared.hyp;
   free : l.shared.free ≡ l.fn.shared.free;
   reach : AreInReach HasPageBelow l.shared.rows.runs;
-  rows : (f : ℕ) → row_in l.shared.rows.runs f ≡ elim (is_memory (layout_of l.layout) f && is_within l.range.first.0 l.i f) [ true ↦ row_found (layout_of l.layout) (shared_in_lists l.fn.shared) l.slot (guest_in l.guest) f l.cpu (cpu_in l.own) | false ↦ row_in l.fn.shared.rows.runs f ];
+  rows : (f : ℕ)
+      → row_in l.shared.rows.runs f
+      ≡ elim (is_memory (layout_of l.layout) f && is_within l.range.first.0 l.i f) [
+        | true ↦ row_found (layout_of l.layout) (shared_in_lists l.fn.shared) l.slot (guest_in l.guest) f l.cpu
+            (cpu_in l.own)
+        | false ↦ row_in l.fn.shared.rows.runs f
+      ];
 }

@@ -8,8 +8,12 @@ use Rattle.ghost_spec.proofs.start.shared_at_boot.Goals as goal
 
 pub returns-clause-shared : goal.returns-clause-shared
 returns-clause-shared c =
-    let e : shared_in_lists c.in-Some.shared ≡ boot_shared (layout_of c.args.layout.now) = rw (c.in-Some.is, c.depth.ensures.value) at c.in_ok-shared.ensures.shared in
-    shared-booted (layout_of c.args.layout.now) c.requires c.in-Some.shared c.find_all.new.shared e c.find_all.ensures.host c.find_all.ensures.hyp c.find_all.ensures.free (IfOk-at_ok _ c.in-Ok.is c.find_all.ensures.rows)
+    let e : shared_in_lists c.in-Some.shared ≡ boot_shared (layout_of c.args.layout.now) =
+    rw (c.in-Some.is, c.depth.ensures.value) at c.in_ok-shared.ensures.shared in
+    shared-booted
+    (layout_of c.args.layout.now) c.requires c.in-Some.shared c.find_all.new.shared e c.find_all.ensures.host
+    c.find_all.ensures.hyp c.find_all.ensures.free
+    (IfOk-at_ok _ c.in-Ok.is c.find_all.ensures.rows)
 
 pub returns-in_default-clause-shared : goal.returns-in_default-clause-shared
 returns-in_default-clause-shared c = tt

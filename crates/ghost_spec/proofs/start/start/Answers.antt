@@ -17,9 +17,19 @@ returns-clause-state c =
     let vms = IfOk-at_ok _ maps c.both-2.ensures.first in
     let guests = IfOk-at_ok _ maps c.both-2.ensures.second in
     rw c.of_kept.ensures (state-booted (layout_of c.args.layout) c.requires
-    (record { layout = c.in_ok-rooms.layout; vms = c.in_ok-rooms.vms; shared = c.in_ok-rooms.shared; guests = c.in_ok-rooms.guests; cpus = c.in_ok-rooms.cpus; rooms = c.in_ok-rooms.rooms })
-    (ap (λ l. l.config.log) layout) (IfOk-at_ok _ vms c.empty_slots-vms.ensures.empty) (rw shared (rw c.in-Some.is at c.in_ok-shared.ensures.shared)) (IfOk-at_ok _ guests c.empty_guests-guests.ensures.empty) (IfOk-at_ok _ cpus c.idle_cpus-cpus.ensures.idle)
-    (IfOk-at_ok _ rooms c.unused_rooms-rooms.ensures.vms) (IfOk-at_ok _ rooms c.unused_rooms-rooms.ensures.shared) (IfOk-at_ok _ rooms c.unused_rooms-rooms.ensures.guests) (IfOk-at_ok _ rooms c.unused_rooms-rooms.ensures.cpus))
+    (record {
+      layout = c.in_ok-rooms.layout;
+      vms = c.in_ok-rooms.vms;
+      shared = c.in_ok-rooms.shared;
+      guests = c.in_ok-rooms.guests;
+      cpus = c.in_ok-rooms.cpus;
+      rooms = c.in_ok-rooms.rooms;
+    })
+    (ap (λ l. l.config.log) layout) (IfOk-at_ok _ vms c.empty_slots-vms.ensures.empty)
+    (rw shared (rw c.in-Some.is at c.in_ok-shared.ensures.shared))
+    (IfOk-at_ok _ guests c.empty_guests-guests.ensures.empty) (IfOk-at_ok _ cpus c.idle_cpus-cpus.ensures.idle)
+    (IfOk-at_ok _ rooms c.unused_rooms-rooms.ensures.vms) (IfOk-at_ok _ rooms c.unused_rooms-rooms.ensures.shared)
+    (IfOk-at_ok _ rooms c.unused_rooms-rooms.ensures.guests) (IfOk-at_ok _ rooms c.unused_rooms-rooms.ensures.cpus))
 
 pub returns-in_default-clause-state : goal.returns-in_default-clause-state
 returns-in_default-clause-state c = tt
@@ -28,7 +38,10 @@ pub returns-in_default-clause-layout : goal.returns-in_default-clause-layout
 returns-in_default-clause-layout c = tt
 
 pub returns-clause-layout : goal.returns-clause-layout
-returns-clause-layout c = rw c.of_kept.ensures (IfOk-at_ok (λ l. l ≡ c.args.layout) (IfOk-at_ok _ c.in_ok-rooms.ensures.first c.both-small.ensures.second) refl)
+returns-clause-layout c =
+    rw c.of_kept.ensures
+    (IfOk-at_ok (λ l. l ≡ c.args.layout)
+    (IfOk-at_ok _ c.in_ok-rooms.ensures.first c.both-small.ensures.second) refl)
 
 pub returns-in_err-shared-clause-enough : goal.returns-in_err-shared-clause-enough
 returns-in_err-shared-clause-enough c = IfOk-from_err _ _ c.from_residual.ensures.0

@@ -10,13 +10,16 @@ use Rattle.ghost_spec.proofs.used.put_guest.Goals as goal
 pub returns-in-Some-clause-guests : goal.returns-in-Some-clause-guests
 returns-in-Some-clause-guests c =
     let low : c.in-Some.v < 64 = rw c.in-Some.is at c.requires.slot in
-    rw c.in-Some.is (put-list guest_in no_guest c.args.guests.now.items c.in-Some.v c.args.new (omega (arith, low, c.requires.count)))
+    rw c.in-Some.is
+    (put-list guest_in no_guest c.args.guests.now.items c.in-Some.v c.args.new
+    (omega (arith, low, c.requires.count)))
 
 pub returns-in-Some-clause-count : goal.returns-in-Some-clause-count
 returns-in-Some-clause-count c = length-set c.args.guests.now.items c.in-Some.v c.args.new ∙ c.requires.count
 
 pub returns-in-Some-clause-kept : goal.returns-in-Some-clause-kept
-returns-in-Some-clause-kept c = All-set IsKeptGuest c.args.guests.now.items c.in-Some.v c.args.new c.requires.new c.requires.kept
+returns-in-Some-clause-kept c =
+    All-set IsKeptGuest c.args.guests.now.items c.in-Some.v c.args.new c.requires.new c.requires.kept
 
 pub returns-in_default-clause-count : goal.returns-in_default-clause-count
 returns-in_default-clause-count c = c.requires.count

@@ -10,4 +10,7 @@ vms-of xs = record { slot = λ v. get_or xs v (no_slot 1) }
 
 pub returns-then-uses_vms-clause-vms : goal.returns-then-uses_vms-clause-vms
 unfolding vms-of
-returns-then-uses_vms-clause-vms c = rw (sym c.uses_vms.ensures ∙ c.if-uses_vms.true) (IfOk-weaker c.copied_slots.result (λ v. map slot_in v.items ≡ map slot_in c.args.vms.now) (λ v. vms_in v.items ≡ vms_in c.args.vms.now) (λ v e. ap vms-of e) c.copied_slots.ensures)
+returns-then-uses_vms-clause-vms c =
+    rw (sym c.uses_vms.ensures ∙ c.if-uses_vms.true)
+    (IfOk-weaker c.copied_slots.result (λ v. map slot_in v.items ≡ map slot_in c.args.vms.now)
+    (λ v. vms_in v.items ≡ vms_in c.args.vms.now) (λ v e. ap vms-of e) c.copied_slots.ensures)

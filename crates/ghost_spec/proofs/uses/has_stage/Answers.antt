@@ -5,4 +5,6 @@ use Rattle.ghost_spec.proofs.Tickets.{stage-some}
 use Rattle.ghost_spec.proofs.uses.has_stage.Goals as goal
 
 pub returns-in-Some : goal.returns-in-Some
-returns-in-Some c = c.eq.ensures ∙ stages_test c.in-Some.ticket.stage c.args.stage ∙ sym (stage-some c.args.stage (cpu_in c.args.own.now) c.in-Some.ticket c.in-Some.is)
+returns-in-Some c =
+    c.eq.ensures ∙ stages_test c.in-Some.ticket.stage c.args.stage
+    ∙ sym (stage-some c.args.stage (cpu_in c.args.own.now) c.in-Some.ticket c.in-Some.is)

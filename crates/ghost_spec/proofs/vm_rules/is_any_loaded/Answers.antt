@@ -9,10 +9,21 @@ none-is (Some x) b h = ap not h
 none-is None b h = ap not h
 
 pub returns-then-is_loaded : goal.returns-then-is_loaded
-returns-then-is_loaded c = ap not (sym (all_below_false 8 c.loop-vcpu.vcpu (λ i. is_none ((slot_in c.args.slot.now).loaded i)) (omega (arith, c.loop-vcpu-test.true)) (none-is ((slot_in c.args.slot.now).loaded c.loop-vcpu.vcpu) true (sym c.is_loaded.ensures ∙ c.if-is_loaded.true))))
+returns-then-is_loaded c =
+    ap not
+    (sym
+    (all_below_false 8 c.loop-vcpu.vcpu (λ i. is_none ((slot_in c.args.slot.now).loaded i))
+    (omega (arith, c.loop-vcpu-test.true))
+    (none-is ((slot_in c.args.slot.now).loaded c.loop-vcpu.vcpu) true
+    (sym c.is_loaded.ensures ∙ c.if-is_loaded.true))))
 
 pub loop-vcpu-preserved : goal.loop-vcpu-preserved
 loop-vcpu-preserved c = below_more _ _ c.loop-vcpu.invariant (sym c.is_loaded.ensures ∙ c.if-is_loaded.false)
 
 pub returns : goal.returns
-returns c = ap not (sym (all_below_true 8 (λ i. is_none ((slot_in c.args.slot.now).loaded i)) (λ j h. none-is ((slot_in c.args.slot.now).loaded j) false (c.loop-vcpu.invariant j (omega (arith, h, c.loop-vcpu-test.false))))))
+returns c =
+    ap not
+    (sym
+    (all_below_true 8 (λ i. is_none ((slot_in c.args.slot.now).loaded i))
+    (λ j h. none-is ((slot_in c.args.slot.now).loaded j) false
+    (c.loop-vcpu.invariant j (omega (arith, h, c.loop-vcpu-test.false))))))

@@ -3,4 +3,5 @@ use Rattle.page_state.specs.Runs.{map_of}
 use Rattle.ghost_trees.proofs.blocks.has_no_entry.Given as goal
 
 abbrev pub invariant-loop-run : goal.invariant-loop-run
-invariant-loop-run l = (k : ℕ) → k < l.count → map_of (drop l.run-index l.runs) (l.first + k) ≡ map_of l.runs (l.first + k)
+invariant-loop-run l =
+    (k : ℕ) → k < l.count → map_of (drop l.run-index l.runs) (l.first + k) ≡ map_of l.runs (l.first + k)

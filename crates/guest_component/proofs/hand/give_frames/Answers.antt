@@ -12,7 +12,9 @@ give-requires-clause-new c =
     let r = c.args.frames in
     let i = c.loop-i.i in
     let f = r.first.0 + (i - 1) in
-    not_there count_contains f c.loop-i.pool.frames (ap (frame_count f) c.loop-i.invariant.frames ∙ not_given r i c.args.pool.now.frames c.loop-i-test.true c.loop-i.auto.i c.requires.apart)
+    not_there count_contains f c.loop-i.pool.frames
+    (ap (frame_count f) c.loop-i.invariant.frames
+    ∙ not_given r i c.args.pool.now.frames c.loop-i-test.true c.loop-i.auto.i c.requires.apart)
 
 pub give-requires-clause-room : goal.give-requires-clause-room
 give-requires-clause-room c =
@@ -20,4 +22,12 @@ give-requires-clause-room c =
     let i = c.loop-i.i in
     let fs = frames_from (r.first.0 + i) (r.count - i) in
     let a = ap length c.loop-i.invariant.frames ∙ all_given_length fs c.args.pool.now.frames in
-    omega (arith, a, length-frames_from (r.first.0 + i) (r.count - i), c.loop-i.invariant.room, c.requires.covered, c.loop-i.auto.i, c.loop-i-test.true)
+    omega (
+      arith,
+      a,
+      length-frames_from (r.first.0 + i) (r.count - i),
+      c.loop-i.invariant.room,
+      c.requires.covered,
+      c.loop-i.auto.i,
+      c.loop-i-test.true,
+    )

@@ -10,4 +10,8 @@ returns-clause-map c =
     let r = c.args.pages in
     let m : Map = map_of c.args.runs.now in
     let e = rw c.as_slice.ensures.value at c.in_ok-part.ensures.map in
-    e ∙ ap (λ (n : Map). update n (r.first.0 + r.count) (2 ^ 63 - (r.first.0 + r.count)) Unmapped) c.in_ok-rest.ensures.map ∙ parted m r (2 ^ 63) c.requires.pages (nothing-past c.args.runs.now c.requires.runs)
+    e
+    ∙ ap
+    (λ (n : Map). update n (r.first.0 + r.count)
+    (2 ^ 63 - (r.first.0 + r.count)) Unmapped) c.in_ok-rest.ensures.map
+    ∙ parted m r (2 ^ 63) c.requires.pages (nothing-past c.args.runs.now c.requires.runs)

@@ -5,7 +5,8 @@ use Rattle.hyp_pool.proofs.Pool.take.Goals as goal
 pub invariant_of-self : goal.invariant_of-self
 invariant_of-self c =
     rw c.pop.ensures.rest (
-      pool_take (vec_len c.self.inside.frames - 1) c.self.inside.room c.self.inside.frames.items (omega (arith, c.self.inside.frames.ok)) c.self.invariant.0,
+      pool_take (vec_len c.self.inside.frames - 1) c.self.inside.room c.self.inside.frames.items
+          (omega (arith, c.self.inside.frames.ok)) c.self.invariant.0,
       omega (arith, c.self.invariant.1, c.pop.ensures.capacity),
     )
 
@@ -13,4 +14,6 @@ pub returns-clause-pool : goal.returns-clause-pool
 returns-clause-pool c = (invariant_of-self c).0
 
 pub returns-clause-least : goal.returns-clause-least
-returns-clause-least c = least_popped c.pop.result c.self.inside.frames.items c.pop.new.self.items c.pop.ensures.items c.self.invariant.0.rising
+returns-clause-least c =
+    least_popped c.pop.result c.self.inside.frames.items c.pop.new.self.items c.pop.ensures.items
+    c.self.invariant.0.rising

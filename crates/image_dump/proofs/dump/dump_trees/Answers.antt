@@ -36,7 +36,8 @@ returns-in-Ok-clause-dumped g c =
     (λ ls. Appends (g.W.Write.contents c.args.writer.now) (g.W.Write.contents c.write_lines.new.writer)
     (text_of_lines ls)) c.as_slice-4.ensures.value c.in-Ok.ensures in
     all_dumped (g.I.ImageBytes.bytes c.args.image.now)
-    (g.I.ImageBytes.may_fail c.args.image.now) c.args.segments.now c.args.roots.now c.args.vmemmap c.in_ok-records.records c.args.skips.now
+    (g.I.ImageBytes.may_fail c.args.image.now) c.args.segments.now c.args.roots.now c.args.vmemmap
+    c.in_ok-records.records c.args.skips.now
     (g.W.Write.contents c.args.writer.now) (g.W.Write.contents c.write_lines.new.writer)
     (record {
       lines = c.new.result;
@@ -46,6 +47,9 @@ returns-in-Ok-clause-dumped g c =
           c.new-4.result;
     }) all c.in_ok-unwalked.unwalked states found.items c.add_findings.new.lines.items c.add_line.new.lines.items
     (length c.args.roots.now) (c.in_ok-unwalked.unwalked + c.len.result) c.outcome.result
-    c.in_ok-records.ensures.records c.in_ok-unwalked.ensures.collected c.new.ensures.items c.new-2.ensures.items c.new-3.ensures.items c.new-4.ensures.items (c.all_say_states-states.ensures ∙ ap (λ (b : Bool). list_all (says_states b) c.args.roots.now) c.is_some.ensures) words first
+    c.in_ok-records.ensures.records c.in_ok-unwalked.ensures.collected c.new.ensures.items c.new-2.ensures.items
+    c.new-3.ensures.items c.new-4.ensures.items
+    (c.all_say_states-states.ensures
+    ∙ ap (λ (b : Bool). list_all (says_states b) c.args.roots.now) c.is_some.ensures) words first
     (ap (λ k. c.in_ok-unwalked.unwalked + k)
     (c.len.ensures ∙ found.ok.0)) refl c.in_ok-add_line.ensures written c.outcome.ensures

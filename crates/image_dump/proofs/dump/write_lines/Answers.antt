@@ -10,7 +10,8 @@ loop-i-init g c = none_written (g.W.Write.contents c.args.writer.now) c.args.lin
 pub loop-i-preserved : goal.loop-i-preserved
 loop-i-preserved g c =
     more_written (g.W.Write.contents c.args.writer.now) (g.W.Write.contents c.loop-i.writer)
-    (g.W.Write.contents c.write_line.new.writer) c.args.lines.now c.loop-i.i _ c.loop-i-test.true c.loop-i.invariant c.in_ok-write_line.ensures
+    (g.W.Write.contents c.write_line.new.writer) c.args.lines.now c.loop-i.i _ c.loop-i-test.true c.loop-i.invariant
+    c.in_ok-write_line.ensures
 
 pub returns : goal.returns
 returns g c =

@@ -8,7 +8,14 @@ pub loop-i-init : goal.loop-i-init
 loop-i-init c = none_given (clash_of c.args.claim.now) c.args.earlier.now c.args.found.now.items
 
 pub loop-i-preserved : goal.loop-i-preserved
-loop-i-preserved c = more_given (clash_of c.args.claim.now) c.args.earlier.now c.loop-i.i _ c.args.found.now.items c.loop-i.found.items c.add.new.found.items c.loop-i-test.true c.loop-i.invariant (c.in_ok-add.ensures ∙ ap (λ o. c.loop-i.found.items ++ option_to_list o) c.clash.ensures)
+loop-i-preserved c =
+    more_given
+    (clash_of c.args.claim.now) c.args.earlier.now c.loop-i.i _ c.args.found.now.items c.loop-i.found.items
+    c.add.new.found.items c.loop-i-test.true c.loop-i.invariant
+    (c.in_ok-add.ensures ∙ ap (λ o. c.loop-i.found.items ++ option_to_list o) c.clash.ensures)
 
 pub returns : goal.returns
-returns c = all_given (clash_of c.args.claim.now) c.args.earlier.now c.loop-i.i c.args.found.now.items c.loop-i.found.items c.loop-i-test.false c.loop-i.invariant
+returns c =
+    all_given
+    (clash_of c.args.claim.now) c.args.earlier.now c.loop-i.i c.args.found.now.items c.loop-i.found.items
+    c.loop-i-test.false c.loop-i.invariant

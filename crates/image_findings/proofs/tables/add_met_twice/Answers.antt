@@ -7,9 +7,12 @@ pub loop-i-init : goal.loop-i-init
 loop-i-init c = no_met c.args.tables.now c.args.found.now.items
 
 pub loop-i-preserved : goal.loop-i-preserved
-loop-i-preserved c = more_met c.args.tables.now c.loop-i.i _ c.args.found.now.items c.loop-i.found.items c.add_met_with.new.found.items c.loop-i-test.true c.loop-i.invariant c.in_ok-add_met_with.ensures
+loop-i-preserved c =
+    more_met c.args.tables.now c.loop-i.i _ c.args.found.now.items c.loop-i.found.items c.add_met_with.new.found.items
+    c.loop-i-test.true c.loop-i.invariant c.in_ok-add_met_with.ensures
 
 pub returns : goal.returns
 returns c =
     let end : c.loop-i.i ≡ length c.args.tables.now = omega (arith, c.loop-i.auto.i-end, c.loop-i-test.false) in
-    subst (λ (k : ℕ). c.loop-i.found.items ≡ c.args.found.now.items ++ met_in c.args.tables.now k) end c.loop-i.invariant
+    subst
+    (λ (k : ℕ). c.loop-i.found.items ≡ c.args.found.now.items ++ met_in c.args.tables.now k) end c.loop-i.invariant

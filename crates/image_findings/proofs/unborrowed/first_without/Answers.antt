@@ -10,8 +10,11 @@ loop-i-init c = first_frame c.args.claims.now c.args.frame c.args.count
 pub loop-i-preserved : goal.loop-i-preserved
 loop-i-preserved c =
     let at = c.in-Some.ensures.1 in
-    let some = subst (λ f. list_any (borrows_frame f) c.args.claims.now ≡ true) at (sym c.has_borrower.ensures ∙ c.if-not-has_borrower.false) in
-    next_frame c.args.claims.now c.args.frame c.args.count c.loop-i.i _ c.loop-i-test.true c.in-Some.ensures.0 some c.loop-i.invariant
+    let some =
+    subst (λ f. list_any (borrows_frame f) c.args.claims.now ≡ true) at
+    (sym c.has_borrower.ensures ∙ c.if-not-has_borrower.false) in
+    next_frame c.args.claims.now c.args.frame c.args.count c.loop-i.i _ c.loop-i-test.true c.in-Some.ensures.0 some
+    c.loop-i.invariant
 
 pub returns-in-None : goal.returns-in-None
 returns-in-None c =
@@ -21,8 +24,13 @@ returns-in-None c =
 pub returns-then-not-has_borrower : goal.returns-then-not-has_borrower
 returns-then-not-has_borrower c =
     let at = c.in-Some.ensures.1 in
-    let none = subst (λ f. list_any (borrows_frame f) c.args.claims.now ≡ false) at (sym c.has_borrower.ensures ∙ c.if-not-has_borrower.true) in
-    ap (λ f. Some f) at ∙ found_frame c.args.claims.now c.args.frame c.args.count c.loop-i.i _ c.loop-i-test.true c.in-Some.ensures.0 none c.loop-i.invariant
+    let none =
+    subst (λ f. list_any (borrows_frame f) c.args.claims.now ≡ false) at
+    (sym c.has_borrower.ensures ∙ c.if-not-has_borrower.true) in
+    ap (λ f. Some f) at
+    ∙ found_frame c.args.claims.now c.args.frame c.args.count c.loop-i.i _ c.loop-i-test.true c.in-Some.ensures.0
+    none c.loop-i.invariant
 
 pub returns : goal.returns
-returns c = no_more_frames c.args.claims.now c.args.frame c.args.count c.loop-i.i _ c.loop-i-test.false c.loop-i.invariant
+returns c =
+    no_more_frames c.args.claims.now c.args.frame c.args.count c.loop-i.i _ c.loop-i-test.false c.loop-i.invariant

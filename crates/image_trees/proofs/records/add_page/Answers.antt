@@ -33,15 +33,18 @@ ends_two page rs h = ends_later (page + 1 + 1) (page + 2) rs (omega arith) h
 pub returns-clause-map : goal.returns-clause-map
 unfolding page_range
 returns-clause-map c =
-    (put_page c.args.page c.args.value _ _ c.requires.page c.requires.reach c.requires.kept c.requires.behind c.in_ok-push_run.ensures.ok).map
+    (put_page c.args.page c.args.value _ _ c.requires.page c.requires.reach c.requires.kept c.requires.behind
+    c.in_ok-push_run.ensures.ok).map
 
 pub returns-clause-kept : goal.returns-clause-kept
 unfolding page_range
 returns-clause-kept c =
-    (put_page c.args.page c.args.value _ _ c.requires.page c.requires.reach c.requires.kept c.requires.behind c.in_ok-push_run.ensures.ok).kept
+    (put_page c.args.page c.args.value _ _ c.requires.page c.requires.reach c.requires.kept c.requires.behind
+    c.in_ok-push_run.ensures.ok).kept
 
 pub returns-clause-behind : goal.returns-clause-behind
 unfolding page_range
 returns-clause-behind c =
     ends_two c.args.page _
-    (put_page c.args.page c.args.value _ _ c.requires.page c.requires.reach c.requires.kept c.requires.behind c.in_ok-push_run.ensures.ok).behind
+    (put_page c.args.page c.args.value _ _ c.requires.page c.requires.reach c.requires.kept c.requires.behind
+    c.in_ok-push_run.ensures.ok).behind

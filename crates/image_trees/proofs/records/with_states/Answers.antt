@@ -19,5 +19,6 @@ loop-i-preserved g c = record {
       (c.loop-i.invariant.map all e) (c.in_ok-add_run.ensures.map all e);
   kept = c.in_ok-add_run.ensures.kept;
   behind =
-      λ d less. behind-next c.args.runs.now c.loop-i.i _ d c.add_run.new.out.items c.requires.coarsest less c.in_ok-add_run.ensures.behind;
+      λ d less. behind-next c.args.runs.now c.loop-i.i _ d c.add_run.new.out.items c.requires.coarsest
+      less c.in_ok-add_run.ensures.behind;
 }

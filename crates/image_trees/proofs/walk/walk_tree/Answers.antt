@@ -29,7 +29,8 @@ returns-then-len-before-clause-tree g c = λ all e.
     (c.loop-bytes.invariant.read all e)
     (subst
     (λ ks. IsWalkedBy c.args.root.now
-    (map kept_told ks) c.in_ok-tree.tree.tables.items c.in_ok-tree.tree.runs.items) c.as_slice.ensures.value c.in_ok-tree.ensures.walked) more count
+    (map kept_told ks) c.in_ok-tree.tree.tables.items c.in_ok-tree.tree.runs.items) c.as_slice.ensures.value
+    c.in_ok-tree.ensures.walked) more count
 
 pub loop-bytes-preserved : goal.loop-bytes-preserved
 loop-bytes-preserved g c = record {

@@ -5,7 +5,9 @@ use Rattle.maplets.proofs.TargetRuns.{reach_targets}
 use Rattle.maplets.proofs.Maplets.iter.Goals as goal
 
 pub returns-clause-reach : goal.returns-clause-reach
-returns-clause-reach c = subst (λ (m : KeptMaplets). All IsInReach m.runs) c.self.view_is (reach_targets c.self.inside.list.runs c.runs.ensures.reach)
+returns-clause-reach c =
+    subst (λ (m : KeptMaplets). All IsInReach m.runs) c.self.view_is
+    (reach_targets c.self.inside.list.runs c.runs.ensures.reach)
 
 pub returns-clause-runs : goal.returns-clause-runs
 returns-clause-runs c = search rules

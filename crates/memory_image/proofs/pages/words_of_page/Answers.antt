@@ -9,7 +9,10 @@ loop-i-init c = c.new-words.ensures.items ∙ sym (no_word c.args.page.now)
 pub loop-i-preserved : goal.loop-i-preserved
 loop-i-preserved c =
     let page = c.args.page.now in
-    c.in_ok-push.ensures.items ∙ (ap (λ ws. ws ++ c.number64_at.result ∷ []) c.loop-i.invariant ∙ (ap (λ n. words_in page c.loop-i.i ++ n ∷ []) c.number64_at.ensures ∙ sym (one_more_word page c.loop-i.i)))
+    c.in_ok-push.ensures.items
+    ∙ (ap (λ ws. ws ++ c.number64_at.result ∷ []) c.loop-i.invariant
+    ∙ (ap (λ n. words_in page c.loop-i.i ++ n ∷ []) c.number64_at.ensures
+    ∙ sym (one_more_word page c.loop-i.i)))
 
 pub returns-clause-whole : goal.returns-clause-whole
 returns-clause-whole c =

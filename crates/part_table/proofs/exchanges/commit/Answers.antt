@@ -7,7 +7,10 @@ use Rattle.part_table.proofs.exchanges.commit.Goals.{After-put}
 
 -- the part is in its slot, the only one in hand
 in_slot : (g : _) (c : After-put g) → c.put.new.seat.me ≡ (c.args.seat.now.me.0, (c.args.k, Some c.args.part) ∷ [])
-in_slot g c = c.put.ensures.in_slot ∙ ap (λ (l : Hands g.row.A.Denot). (c.args.seat.now.me.0, (c.args.k, Some c.args.part) ∷ tail l)) c.requires.hand
+in_slot g c =
+    c.put.ensures.in_slot
+    ∙ ap
+    (λ (l : Hands g.row.A.Denot). (c.args.seat.now.me.0, (c.args.k, Some c.args.part) ∷ tail l)) c.requires.hand
 
 pub store-requires-clause-in_slot : goal.store-requires-clause-in_slot
 store-requires-clause-in_slot g c = (c.args.part, by_front (ap (λ m. m.1) c.put.ensures.in_slot))
@@ -39,4 +42,6 @@ pub returns-clause-history : goal.returns-clause-history
 returns-clause-history g c = c.store.ensures.history
 
 pub store-requires-clause-call : goal.store-requires-clause-call
-store-requires-clause-call g c = subst (λ (m : Seated g.row.A.Denot). CanStore c.args.call.now c.args.own.now m.0 m.1) (sym (in_slot g (goal.at.store-requires-clause-call g c).After-put)) c.requires.call
+store-requires-clause-call g c =
+    subst (λ (m : Seated g.row.A.Denot). CanStore c.args.call.now c.args.own.now m.0 m.1)
+    (sym (in_slot g (goal.at.store-requires-clause-call g c).After-put)) c.requires.call

@@ -8,16 +8,26 @@ use Rattle.part_table.proofs.exchanges.commit_first.Goals as goal
 use Rattle.part_table.proofs.exchanges.commit_first.Goals.{After-turn, After-turn-2}
 
 -- a part is put over the slot taken last, and turned behind the other
-turned_in_slot : {A : Type 0} (k : ℕ) (x : Slot A) (m n r s : Seated A) → m ≡ s → n ≡ (m.0, (k, Some x) ∷ tail m.1) → r ≡ (n.0, turned n.1) → r ≡ (s.0, turned ((k, Some x) ∷ tail s.1))
-turned_in_slot {A = A} k x m n r s e in_slot over = over ∙ ap (λ (z : Seated A). (z.0, turned z.1)) (in_slot ∙ ap (λ (z : Seated A). (z.0, (k, Some x) ∷ tail z.1)) e)
+turned_in_slot : {A : Type 0} (k : ℕ) (x : Slot A) (m n r s : Seated A)
+    → m ≡ s
+    → n ≡ (m.0, (k, Some x) ∷ tail m.1)
+    → r ≡ (n.0, turned n.1)
+    → r ≡ (s.0, turned ((k, Some x) ∷ tail s.1))
+turned_in_slot {A = A} k x m n r s e in_slot over =
+    over ∙ ap (λ (z : Seated A). (z.0, turned z.1)) (in_slot ∙ ap (λ (z : Seated A). (z.0, (k, Some x) ∷ tail z.1)) e)
 
 -- the guest is in its slot
-one_in_slot : (g : _) (c : After-turn g) → c.turn.new.self.me ≡ (c.args.seat.now.me.0, (1, None) ∷ (c.args.guest, Some c.args.part) ∷ [])
+one_in_slot : (g : _) (c : After-turn g)
+    → c.turn.new.self.me ≡ (c.args.seat.now.me.0, (1, None) ∷ (c.args.guest, Some c.args.part) ∷ [])
 one_in_slot g c =
-    turned_in_slot c.args.guest c.args.part _ _ _ _ (ap (λ (h : Hands g.row.A.Denot). (c.args.seat.now.me.0, h)) c.requires.hand) c.put.ensures.in_slot c.turn.ensures.2
+    turned_in_slot c.args.guest c.args.part _ _ _ _
+    (ap (λ (h : Hands g.row.A.Denot). (c.args.seat.now.me.0, h)) c.requires.hand) c.put.ensures.in_slot
+    c.turn.ensures.2
 
 -- both parts are in their slots, the guest in front
-both_in_slot : (g : _) (c : After-turn-2 g) → c.turn.new.self.me ≡ (c.args.seat.now.me.0, (1, None) ∷ (c.args.guest, Some c.args.part) ∷ []) → c.turn-2.new.self.me ≡ (c.args.seat.now.me.0, (c.args.guest, Some c.args.part) ∷ (1, Some c.args.shared) ∷ [])
+both_in_slot : (g : _) (c : After-turn-2 g)
+    → c.turn.new.self.me ≡ (c.args.seat.now.me.0, (1, None) ∷ (c.args.guest, Some c.args.part) ∷ [])
+    → c.turn-2.new.self.me ≡ (c.args.seat.now.me.0, (c.args.guest, Some c.args.part) ∷ (1, Some c.args.shared) ∷ [])
 both_in_slot g c e = turned_in_slot 1 c.args.shared _ _ _ _ e c.put-2.ensures.in_slot c.turn-2.ensures.2
 
 -- the seat stays one of the table
@@ -28,7 +38,8 @@ same_table-2 : (g : _) (c : After-turn-2 g) → c.turn-2.new.self.table_id ≡ c
 same_table-2 g c = c.turn-2.ensures.0 ∙ c.put-2.ensures.table
 
 pub put-requires-2-clause-hand : goal.put-requires-2-clause-hand
-put-requires-2-clause-hand g c = by_front (ap (λ m. m.1) (one_in_slot g (goal.at.put-requires-2-clause-hand g c).After-turn))
+put-requires-2-clause-hand g c =
+    by_front (ap (λ m. m.1) (one_in_slot g (goal.at.put-requires-2-clause-hand g c).After-turn))
 
 pub store-requires-clause-in_slot : goal.store-requires-clause-in_slot
 store-requires-clause-in_slot g c =
@@ -74,4 +85,5 @@ returns-clause-history g c = c.store.ensures.history
 pub store-requires-clause-call : goal.store-requires-clause-call
 store-requires-clause-call g c =
     let at = goal.at.store-requires-clause-call g c in
-    subst (λ (m : Seated g.row.A.Denot). CanStore c.args.call.now c.args.own.now m.0 m.1) (sym (both_in_slot g at.After-turn-2 (one_in_slot g at.After-turn))) c.requires.call
+    subst (λ (m : Seated g.row.A.Denot). CanStore c.args.call.now c.args.own.now m.0 m.1)
+    (sym (both_in_slot g at.After-turn-2 (one_in_slot g at.After-turn))) c.requires.call

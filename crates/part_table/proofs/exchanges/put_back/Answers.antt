@@ -9,4 +9,5 @@ release-requires-clause-held g c =
     (c.args.part, by_front (ap (λ m. m.1) n), ap (λ m. held_at m.0.held c.args.k) n ∙ c.requires.held)
 
 pub returns-clause-home : goal.returns-clause-home
-returns-clause-home g c = c.release.ensures.home ∙ ap (λ (m : Seated g.row.A.Denot). (releasing m.0 c.args.k, tail m.1)) c.put.ensures.in_slot
+returns-clause-home g c =
+    c.release.ensures.home ∙ ap (λ (m : Seated g.row.A.Denot). (releasing m.0 c.args.k, tail m.1)) c.put.ensures.in_slot

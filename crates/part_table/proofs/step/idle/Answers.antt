@@ -15,13 +15,22 @@ pub step_alone-requires-clause-uses : goal.step_alone-requires-clause-uses
 step_alone-requires-clause-uses g c = none_used (uses_of (cpu_of c.args.cpu.now) c.args.step) c.requires.can.uses
 
 pub step_alone-requires-clause-own : goal.step_alone-requires-clause-own
-step_alone-requires-clause-own g c = (asks_suits (none_as (layout_of c.args.layout.now) c.args.step c.args.cpu.now (none_used (uses_of (cpu_of c.args.cpu.now) c.args.step) c.requires.can.uses) c.requires.can.left)).cpu
+step_alone-requires-clause-own g c =
+    (asks_suits
+    (none_as (layout_of c.args.layout.now) c.args.step c.args.cpu.now
+    (none_used (uses_of (cpu_of c.args.cpu.now) c.args.step) c.requires.can.uses) c.requires.can.left)).cpu
 
 pub returns-clause-does : goal.returns-clause-does
 returns-clause-does g c =
     let l = layout_of c.args.layout.now in
     let k = c.args.cpu.now in
     let new = c.step_alone.new.cpu in
-    gives (none_as l c.args.step k (none_used (uses_of (cpu_of k) c.args.step) c.requires.can.uses) c.requires.can.left) c.step_alone.result (lent_alone new)
-    (none_full (logs_in (lent_alone {A = Unit {0}} k)) (not_full k.log.room c.requires.can.own_room) refl refl refl) (alone_anywhere l c.args.step k new c.step_alone.result c.step_alone.ensures.step)
-    c.unwrap.result c.unwrap.ensures none_at (record { vms = tt; shared = tt; guest = tt; cpu = c.step_alone.ensures.own }) (none_is (guest_slot (cpu_of k) c.args.step) new)
+    gives
+    (none_as l c.args.step k
+    (none_used (uses_of (cpu_of k) c.args.step) c.requires.can.uses) c.requires.can.left) c.step_alone.result
+    (lent_alone new)
+    (none_full (logs_in (lent_alone {A = Unit {0}} k)) (not_full k.log.room c.requires.can.own_room) refl refl refl)
+    (alone_anywhere l c.args.step k new c.step_alone.result c.step_alone.ensures.step)
+    c.unwrap.result c.unwrap.ensures none_at
+    (record { vms = tt; shared = tt; guest = tt; cpu = c.step_alone.ensures.own })
+    (none_is (guest_slot (cpu_of k) c.args.step) new)

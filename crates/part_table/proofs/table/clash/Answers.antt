@@ -19,7 +19,8 @@ join_seat-requires g c =
       ap (λ (z : Pass). z.table) c.other.view_is ∙ c.requires.table.1,
       q.0,
       subst (λ (m : ℕ). 0 < m) (sym c.requires.table.2) (omega arith),
-      clashes g.row.A.Denot key c.one.inside.seat.id c.other.inside.seat.id v w p.2 q.2 (p.3 ∙ (c.if-one-other.false ∙ sym q.3)),
+      clashes g.row.A.Denot key c.one.inside.seat.id c.other.inside.seat.id v w p.2 q.2
+          (p.3 ∙ (c.if-one-other.false ∙ sym q.3)),
     )
 
 pub load-requires : goal.load-requires
@@ -30,6 +31,9 @@ load-requires g c =
     let id : ℕ = c.join_seat.new.seat.id in (
       e.0 ∙ (ap (λ (z : Pass). z.table) c.one.view_is ∙ c.requires.table.0),
       subst (λ (m : ℕ). 0 < m) (sym c.requires.table.2) (omega arith),
-      subst (λ (m : Seated g.row.A.Denot). Allows (IsLawful key) slots id m 0 (λ n. n) (never (step slots 0 0 0 none) m)) (sym e.2)
-          (never_steps g.row.A.Denot key slots id 0 c.one.inside.seat.me.1 (λ n. n) (never (step slots 0 0 0 none) (nowhere, c.one.inside.seat.me.1))),
+      subst
+          (λ (m : Seated g.row.A.Denot). Allows (IsLawful key) slots id m 0 (λ n. n) (never (step slots 0 0 0 none) m))
+          (sym e.2)
+          (never_steps g.row.A.Denot key slots id 0 c.one.inside.seat.me.1 (λ n. n)
+          (never (step slots 0 0 0 none) (nowhere, c.one.inside.seat.me.1))),
     )

@@ -39,7 +39,9 @@ unwrap-part-requires g c =
     let k : ℕ = c.loop-k.k in
     let i = c.loop-k.invariant in
     let h = c.requires.home k c.loop-k-test.true in
-    let e : c.take.result ≡ Some h.0 = some-injective c.take.result (Some h.0) (sym c.take.ensures.value ∙ (ap (λ (l : List (Option (Slot g.row.A.Denot))). get_elem? l k) i.0 ∙ h.1)) in
+    let e : c.take.result ≡ Some h.0 =
+    some-injective c.take.result (Some h.0)
+    (sym c.take.ensures.value ∙ (ap (λ (l : List (Option (Slot g.row.A.Denot))). get_elem? l k) i.0 ∙ h.1)) in
     subst IsSome (sym e) refl
 
 pub loop-k-preserved : goal.loop-k-preserved
@@ -54,14 +56,20 @@ loop-k-preserved g c =
     let long : length xs ≡ k = i.4.0 in (
       o.0 ∙ i.0,
       o.2 ∙ i.1,
-      (λ j le lt. ap (λ (l : List Bool). slice_index_or l j false) o.1 ∙ (get_or-set_other fs k j false false (above_ne k j le) ∙ i.2 j (above k j le) lt)),
+      (λ j le lt. ap (λ (l : List Bool). slice_index_or l j false) o.1
+          ∙ (get_or-set_other fs k j false false (above_ne k j le) ∙ i.2 j (above k j le) lt)),
       (λ j lt. ap (λ (l : List Bool). slice_index_or l j false) o.1 ∙ dite (ℕ_discrete j k)
           (λ e. ap (λ n. slice_index_or (slice_set fs k false) n false) e ∙ set_false fs k)
           (λ ne. get_or-set_other fs k j false false ne ∙ i.3 j (below k j lt ne))),
       (
         ap (λ (l : List (Slot g.row.A.Denot)). length l) items ∙ (length-append xs (y ∷ []) ∙ ap (λ n. n + 1) long),
         λ j x lt e. ap (λ (l : List (Slot g.row.A.Denot)). slice_get l j) items ∙ dite (ℕ_discrete j k)
-            (λ is. let same : Some y ≡ Some x = some-injective (Some y) (Some x) (ap some (sym c.unwrap-part.ensures) ∙ (sym c.take.ensures.value ∙ (ap (λ (l : List (Option (Slot g.row.A.Denot))). get_elem? l k) i.0 ∙ (ap (get_elem? (slots_items c.args.closed.now.slots)) (sym is) ∙ e)))) in
+            (λ is. let same : Some y ≡ Some x =
+            some-injective (Some y) (Some x)
+            (ap some (sym c.unwrap-part.ensures)
+            ∙ (sym c.take.ensures.value
+            ∙ (ap (λ (l : List (Option (Slot g.row.A.Denot))). get_elem? l k) i.0
+            ∙ (ap (get_elem? (slots_items c.args.closed.now.slots)) (sym is) ∙ e)))) in
             get_last xs y j (is ∙ sym long) ∙ same)
             (λ ne. get_front xs (y ∷ []) x j (i.4.1 j x (below k j lt ne) e)),
       ),
@@ -77,8 +85,10 @@ returns-clause-gives g c =
 
 pub loop-k-init : goal.loop-k-init
 loop-k-init g c =
-    let full : Filled (slots_filled c.args.closed.now.slots) 0 parts = subst (λ (n : ℕ). Filled (slots_filled c.args.closed.now.slots) 0 n) c.requires.full.1 c.requires.full.0 in
-    let none : vec_len c.args.found ≡ 0 = c.args.found.ok.0 ∙ ap (λ (l : List (Slot g.row.A.Denot)). length l) c.requires.room.0 in (
+    let full : Filled (slots_filled c.args.closed.now.slots) 0 parts =
+    subst (λ (n : ℕ). Filled (slots_filled c.args.closed.now.slots) 0 n) c.requires.full.1 c.requires.full.0 in
+    let none : vec_len c.args.found ≡ 0 =
+    c.args.found.ok.0 ∙ ap (λ (l : List (Slot g.row.A.Denot)). length l) c.requires.room.0 in (
       refl,
       c.requires.full.1,
       full,

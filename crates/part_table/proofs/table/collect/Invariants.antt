@@ -8,5 +8,10 @@ use Rattle.part_table.proofs.table.collect.Given as goal
 
 abbrev pub invariant-loop-k : goal.invariant-loop-k
 invariant-loop-k g l =
-    (slots_items l.closed.slots ≡ slots_items l.initial.closed.slots) × (slots_len l.closed.slots ≡ parts) × Filled (slots_filled l.closed.slots) l.k parts
-    × emptied_to l.k (slots_filled l.closed.slots) × Gives l.k (slots_items l.initial.closed.slots) l.found.items × (vec_len l.found ≡ l.k) × (parts ≤ vec_capacity l.found)
+    (slots_items l.closed.slots ≡ slots_items l.initial.closed.slots)
+    × (slots_len l.closed.slots ≡ parts)
+    × Filled (slots_filled l.closed.slots) l.k parts
+    × emptied_to l.k (slots_filled l.closed.slots)
+    × Gives l.k (slots_items l.initial.closed.slots) l.found.items
+    × (vec_len l.found ≡ l.k)
+    × (parts ≤ vec_capacity l.found)

@@ -33,7 +33,8 @@ take-requires g c =
 
 pub loop-k-init : goal.loop-k-init
 loop-k-init g c =
-    let full : Filled (slots_filled c.args.closed.now.slots) 0 parts = subst (λ (n : ℕ). Filled (slots_filled c.args.closed.now.slots) 0 n) c.requires.1 c.requires.0 in
+    let full : Filled (slots_filled c.args.closed.now.slots) 0 parts =
+    subst (λ (n : ℕ). Filled (slots_filled c.args.closed.now.slots) 0 n) c.requires.1 c.requires.0 in
     (c.requires.1, full, λ j lt. absurd (none_below j lt))
 
 pub loop-k-preserved : goal.loop-k-preserved
@@ -43,7 +44,8 @@ loop-k-preserved g c =
     let o = c.take.ensures.others in
     let fs : List Bool = slots_filled c.loop-k.closed.slots in (
       o.2 ∙ i.0,
-      (λ j le lt. ap (λ (l : List Bool). slice_index_or l j false) o.1 ∙ (get_or-set_other fs k j false false (above_ne k j le) ∙ i.1 j (above k j le) lt)),
+      (λ j le lt. ap (λ (l : List Bool). slice_index_or l j false) o.1
+          ∙ (get_or-set_other fs k j false false (above_ne k j le) ∙ i.1 j (above k j le) lt)),
       (λ j lt. ap (λ (l : List Bool). slice_index_or l j false) o.1 ∙ dite (ℕ_discrete j k)
           (λ e. ap (λ n. slice_index_or (slice_set fs k false) n false) e ∙ set_false fs k)
           (λ ne. get_or-set_other fs k j false false ne ∙ i.2 j (below k j lt ne))),

@@ -6,4 +6,7 @@ use Rattle.part_table.specs.Endings.{emptied_to}
 use Rattle.part_table.proofs.table.empty.Given as goal
 
 abbrev pub invariant-loop-k : goal.invariant-loop-k
-invariant-loop-k g l = (slots_len l.closed.slots ≡ parts) × Filled (slots_filled l.closed.slots) l.k parts × emptied_to l.k (slots_filled l.closed.slots)
+invariant-loop-k g l =
+    (slots_len l.closed.slots ≡ parts)
+    × Filled (slots_filled l.closed.slots) l.k parts
+    × emptied_to l.k (slots_filled l.closed.slots)

@@ -7,16 +7,24 @@ use Rattle.part_table.proofs.table.end.Goals as goal
 pub collect-found-requires-clause-home : goal.collect-found-requires-clause-home
 collect-found-requires-clause-home g c =
     let j = c.join_all-cpus.ensures in
-    let f = ended_with g.row.A.Denot c.args.table.shared.key.layout c.args.root.me.0.begun _ c.args.root.me.0.made _ _ _ j.root.4 j.root.1 j.root.2 j.ended.0 j.root.3 c.close_with-closed.ensures.values.2 in
+    let f =
+    ended_with g.row.A.Denot c.args.table.shared.key.layout c.args.root.me.0.begun _ c.args.root.me.0.made _ _ _
+    j.root.4 j.root.1 j.root.2 j.ended.0 j.root.3 c.close_with-closed.ensures.values.2 in
     λ k lt. let h = f.each_part k lt in (h.0, h.1)
 
 pub returns : goal.returns
 returns g c =
     let j = c.join_all-cpus.ensures in
     let made = c.requires.root.3 in
-    let f = ended_with g.row.A.Denot c.args.table.shared.key.layout c.args.root.me.0.begun _ c.args.root.me.0.made _ _ _ j.root.4 j.root.1 j.root.2 j.ended.0 j.root.3 c.close_with-closed.ensures.values.2 in
+    let f =
+    ended_with g.row.A.Denot c.args.table.shared.key.layout c.args.root.me.0.begun _ c.args.root.me.0.made _ _ _
+    j.root.4 j.root.1 j.root.2 j.ended.0 j.root.3 c.close_with-closed.ensures.values.2 in
     let home = subst (λ n. AreHomeFrom c.args.root.table_id n 0 c.args.passes.items) (sym made) c.requires.home in
-    end_for (opened_as c.args.root.table_id c.args.table.shared.key.layout c.args.root.me.0.begun) c.args.root.me.0.made _ _ c.args.passes.items c.join_all-cpus.result.items c.collect-found.result.items f j.ended c.collect-found.ensures.gives home (made ∙ c.requires.all) (sym c.args.passes.ok.0 ∙ sym made)
+    end_for
+    (opened_as c.args.root.table_id c.args.table.shared.key.layout c.args.root.me.0.begun) c.args.root.me.0.made _
+    _ c.args.passes.items c.join_all-cpus.result.items c.collect-found.result.items f j.ended
+    c.collect-found.ensures.gives home
+    (made ∙ c.requires.all) (sym c.args.passes.ok.0 ∙ sym made)
 
 pub join_all-cpus-requires-clause-table : goal.join_all-cpus-requires-clause-table
 join_all-cpus-requires-clause-table g c = (c.requires.table.0, c.requires.table.1)
@@ -34,7 +42,8 @@ pub close_with-closed-requires : goal.close_with-closed-requires
 close_with-closed-requires g c = c.join_all-cpus.ensures.root.0 ∙ c.requires.table.0
 
 pub collect-found-requires-clause-full : goal.collect-found-requires-clause-full
-collect-found-requires-clause-full g c = (c.close_with-closed.ensures.values.1, c.close_with-closed.ensures.counts.1 ∙ c.requires.table.2)
+collect-found-requires-clause-full g c =
+    (c.close_with-closed.ensures.values.1, c.close_with-closed.ensures.counts.1 ∙ c.requires.table.2)
 
 pub collect-found-requires-clause-room : goal.collect-found-requires-clause-room
 collect-found-requires-clause-room g c = (c.requires.room.2, c.requires.room.3)

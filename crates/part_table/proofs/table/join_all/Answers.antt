@@ -20,11 +20,13 @@ join_one-own-requires-clause-table g c = (c.loop-cpu.invariant.0 ∙ c.requires.
 pub join_one-own-requires-clause-root : goal.join_one-own-requires-clause-root
 join_one-own-requires-clause-root g c =
     let i = c.loop-cpu.invariant in
-    let below : c.loop-cpu.cpu < c.args.root.now.me.0.made = less_all _ _ _ c.loop-cpu-test.true (c.len-count.ensures ∙ sym c.requires.root.3) in
+    let below : c.loop-cpu.cpu < c.args.root.now.me.0.made =
+    less_all _ _ _ c.loop-cpu-test.true (c.len-count.ensures ∙ sym c.requires.root.3) in
     (i.1, i.2, i.5.0, subst (λ (m : ℕ). c.loop-cpu.cpu < m) (sym i.3) below)
 
 pub join_one-own-requires-clause-inside : goal.join_one-own-requires-clause-inside
-join_one-own-requires-clause-inside g c = subst (λ (m : ℕ). c.loop-cpu.cpu < m) (sym c.loop-cpu.invariant.8) c.loop-cpu-test.true
+join_one-own-requires-clause-inside g c =
+    subst (λ (m : ℕ). c.loop-cpu.cpu < m) (sym c.loop-cpu.invariant.8) c.loop-cpu-test.true
 
 pub join_one-own-requires-clause-there : goal.join_one-own-requires-clause-there
 join_one-own-requires-clause-there g c =
@@ -47,7 +49,8 @@ loop-cpu-preserved g c =
       e.root.3 ∙ i.3,
       e.hand ∙ i.4,
       subst (λ (z : List Ended × List CpuState). HaveEnded (n + 1) ps z.0 z.1) (λ k. (sym d.0 k, sym items k))
-          (one_more_ended n ps c.loop-cpu.root.me.0.ended c.loop-cpu.cpus.items h.0 (ended_of h.0) c.join_one-own.result i.5 h.1 refl d.1),
+          (one_more_ended n ps c.loop-cpu.root.me.0.ended c.loop-cpu.cpus.items h.0
+          (ended_of h.0) c.join_one-own.result i.5 h.1 refl d.1),
       c.push_in_room.ensures.len ∙ ap (λ m. m + 1) i.6,
       le_le _ _ _ i.7 c.push_in_room.ensures.room,
       e.count ∙ i.8,
@@ -65,7 +68,11 @@ loop-cpu-init g c =
       r.1,
       refl,
       r.4,
-      (ap (λ (l : List Ended). length l) r.2, ap (λ (l : List CpuState). length l) c.requires.room.0, λ j p lt _. absurd (omega arith)),
+      (
+        ap (λ (l : List Ended). length l) r.2,
+        ap (λ (l : List CpuState). length l) c.requires.room.0,
+        λ j p lt _. absurd (omega arith),
+      ),
       none,
       subst (λ (n : ℕ). n ≤ vec_capacity c.args.cpus) count c.requires.room.1,
       count,
@@ -75,5 +82,8 @@ loop-cpu-init g c =
 
 pub returns-clause-ended : goal.returns-clause-ended
 returns-clause-ended g c =
-    let n : c.loop-cpu.cpu ≡ c.args.root.now.me.0.made = omega (arith, c.loop-cpu-test.false, c.loop-cpu.auto.cpu-end, c.len-count.ensures, c.requires.root.3) in
-    subst (λ (k : ℕ). HaveEnded k c.args.passes.items c.loop-cpu.root.me.0.ended c.loop-cpu.cpus.items) n c.loop-cpu.invariant.5
+    let n : c.loop-cpu.cpu ≡ c.args.root.now.me.0.made =
+    omega (arith, c.loop-cpu-test.false, c.loop-cpu.auto.cpu-end, c.len-count.ensures, c.requires.root.3) in
+    subst
+    (λ (k : ℕ). HaveEnded k c.args.passes.items c.loop-cpu.root.me.0.ended c.loop-cpu.cpus.items) n
+    c.loop-cpu.invariant.5

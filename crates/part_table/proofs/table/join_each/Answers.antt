@@ -16,11 +16,13 @@ join_one-requires-clause-table g c = (c.loop-cpu.invariant.0 ∙ c.requires.tabl
 pub join_one-requires-clause-root : goal.join_one-requires-clause-root
 join_one-requires-clause-root g c =
     let i = c.loop-cpu.invariant in
-    let below : c.loop-cpu.cpu < c.args.root.now.me.0.made = less_all _ _ _ c.loop-cpu-test.true (c.len-count.ensures ∙ sym c.requires.root.3) in
+    let below : c.loop-cpu.cpu < c.args.root.now.me.0.made =
+    less_all _ _ _ c.loop-cpu-test.true (c.len-count.ensures ∙ sym c.requires.root.3) in
     (i.1, i.2, i.5.0, subst (λ (m : ℕ). c.loop-cpu.cpu < m) (sym i.3) below)
 
 pub join_one-requires-clause-inside : goal.join_one-requires-clause-inside
-join_one-requires-clause-inside g c = less_all _ _ _ c.loop-cpu-test.true (c.len-count.ensures ∙ sym c.loop-cpu.invariant.6)
+join_one-requires-clause-inside g c =
+    less_all _ _ _ c.loop-cpu-test.true (c.len-count.ensures ∙ sym c.loop-cpu.invariant.6)
 
 pub join_one-requires-clause-there : goal.join_one-requires-clause-there
 join_one-requires-clause-there g c =
@@ -38,14 +40,16 @@ loop-cpu-preserved g c =
     let d = e.ended h.0 (i.7 n (le_refl n) ∙ h.1) in
     let old : List Ended = c.loop-cpu.root.me.0.ended in
     let last : Ended = ended_of h.0 in
-    let owns : owns_of (old ++ last ∷ []) ≡ owns_of old ++ h.0.knows.own ∷ [] = map-append (λ (z : Ended). z.0) old (last ∷ []) in (
+    let owns : owns_of (old ++ last ∷ []) ≡ owns_of old ++ h.0.knows.own ∷ [] =
+    map-append (λ (z : Ended). z.0) old (last ∷ []) in (
       e.root.0 ∙ i.0,
       e.root.1,
       e.root.2,
       e.root.3 ∙ i.3,
       e.hand ∙ i.4,
       subst (λ (z : List Ended). HaveEnded (n + 1) ps z (owns_of z)) (sym d.0)
-          (subst (HaveEnded (n + 1) ps (old ++ last ∷ [])) (sym owns) (one_more_ended n ps old (owns_of old) h.0 last h.0.knows.own i.5 h.1 refl refl)),
+          (subst (HaveEnded (n + 1) ps (old ++ last ∷ [])) (sym owns)
+          (one_more_ended n ps old (owns_of old) h.0 last h.0.knows.own i.5 h.1 refl refl)),
       e.count ∙ i.6,
       λ j from. e.others j (λ z. omega arith) ∙ i.7 j (omega arith),
       e.root.4 ∙ i.8,
@@ -59,7 +63,11 @@ loop-cpu-init g c =
       r.1,
       refl,
       r.4,
-      (ap (λ (l : List Ended). length l) r.2, ap (λ (l : List Ended). length (owns_of l)) r.2, λ j p lt _. absurd (omega arith)),
+      (
+        ap (λ (l : List Ended). length l) r.2,
+        ap (λ (l : List Ended). length (owns_of l)) r.2,
+        λ j p lt _. absurd (omega arith),
+      ),
       refl,
       λ j from. refl,
       refl,
@@ -67,5 +75,8 @@ loop-cpu-init g c =
 
 pub returns-clause-ended : goal.returns-clause-ended
 returns-clause-ended g c =
-    let n : c.loop-cpu.cpu ≡ c.args.root.now.me.0.made = omega (arith, c.loop-cpu-test.false, c.loop-cpu.auto.cpu-end, c.len-count.ensures, c.requires.root.3) in
-    subst (λ (k : ℕ). HaveEnded k c.args.passes.items c.loop-cpu.root.me.0.ended (owns_of c.loop-cpu.root.me.0.ended)) n c.loop-cpu.invariant.5
+    let n : c.loop-cpu.cpu ≡ c.args.root.now.me.0.made =
+    omega (arith, c.loop-cpu-test.false, c.loop-cpu.auto.cpu-end, c.len-count.ensures, c.requires.root.3) in
+    subst
+    (λ (k : ℕ). HaveEnded k c.args.passes.items c.loop-cpu.root.me.0.ended (owns_of c.loop-cpu.root.me.0.ended)) n
+    c.loop-cpu.invariant.5

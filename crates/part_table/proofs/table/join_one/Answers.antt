@@ -14,14 +14,18 @@ use Rattle.part_table.proofs.table.join_one.Goals as goal
 pub unwrap-pass-requires : goal.unwrap-pass-requires
 unwrap-pass-requires g c =
     let h = c.requires.there in
-    let is : c.index_mut.result.now ≡ Some h.0 = c.index_mut.ensures.value ∙ or_of_get c.args.passes.now.items c.args.cpu c.index_mut.result.now (Some h.0) h.1 in
+    let is : c.index_mut.result.now ≡ Some h.0 =
+    c.index_mut.ensures.value
+    ∙ or_of_get c.args.passes.now.items c.args.cpu c.index_mut.result.now (Some h.0) h.1 in
     subst IsSome (sym (c.take.ensures.value ∙ is)) refl
 
 -- the pass is the one at the place
 is : (g : _) (c : After-unwrap-pass g) → c.unwrap-pass.result ≡ c.requires.there.0
 is g c =
     let h = c.requires.there in
-    let was : c.index_mut.result.now ≡ Some h.0 = c.index_mut.ensures.value ∙ or_of_get c.args.passes.now.items c.args.cpu c.index_mut.result.now (Some h.0) h.1 in
+    let was : c.index_mut.result.now ≡ Some h.0 =
+    c.index_mut.ensures.value
+    ∙ or_of_get c.args.passes.now.items c.args.cpu c.index_mut.result.now (Some h.0) h.1 in
     ap (from c.unwrap-pass.result) (sym c.unwrap-pass.ensures ∙ (c.take.ensures.value ∙ was))
 
 pub join_seat-requires : goal.join_seat-requires
@@ -34,7 +38,8 @@ join_seat-requires g c =
     let q = c.pass.invariant in
     let see = c.pass.view_is in
     let cpu : w.cpu ≡ c.args.cpu = ap (λ (z : Pass). z.knows.cpu) see ∙ (ap (λ (z : Pass). z.knows.cpu) same ∙ h.3) in
-    let table : c.pass.inside.seat.table_id ≡ c.args.root.now.table_id = ap (λ (z : Pass). z.table) see ∙ (ap (λ (z : Pass). z.table) same ∙ h.2) in
+    let table : c.pass.inside.seat.table_id ≡ c.args.root.now.table_id =
+    ap (λ (z : Pass). z.table) see ∙ (ap (λ (z : Pass). z.table) same ∙ h.2) in
     let key : TheLayout = c.args.table.now.shared.key.layout in
     let few : length v.ended < v.made = subst (λ (m : ℕ). m < v.made) (sym r.2) r.3 in (
       c.requires.table.0,
@@ -47,8 +52,14 @@ join_seat-requires g c =
 
 pub returns-clause-root : goal.returns-clause-root
 returns-clause-root g c =
-    let e = c.join_seat.ensures in
-    (e.0, e.1 ∙ c.requires.root.0, ap (λ m. m.0.root) e.2 ∙ c.requires.root.1, ap (λ m. m.0.made) e.2, ap (λ m. m.0.begun) e.2)
+    let e = c.join_seat.ensures in (
+      e.0,
+      e.1 ∙ c.requires.root.0,
+      ap (λ m. m.0.root) e.2
+          ∙ c.requires.root.1,
+      ap (λ m. m.0.made) e.2,
+      ap (λ m. m.0.begun) e.2,
+    )
 
 pub returns-clause-hand : goal.returns-clause-hand
 returns-clause-hand g c = ap (λ m. m.1) c.join_seat.ensures.2
@@ -66,4 +77,5 @@ returns-clause-ended g c p there =
 
 pub returns-clause-others : goal.returns-clause-others
 returns-clause-others g c j ne =
-    ap (λ (o : Option Pass). slice_get (slice_set c.args.passes.now.items c.args.cpu o) j) c.take.ensures.after ∙ get_set_else c.args.passes.now.items c.args.cpu j None ne
+    ap (λ (o : Option Pass). slice_get (slice_set c.args.passes.now.items c.args.cpu o) j) c.take.ensures.after
+    ∙ get_set_else c.args.passes.now.items c.args.cpu j None ne

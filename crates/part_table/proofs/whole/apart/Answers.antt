@@ -13,10 +13,17 @@ push_guests-slots-requires g c =
 pub returns-clause-slots : goal.returns-clause-slots
 returns-clause-slots g c =
     let p = c.args.parts in
-    c.push_guests-slots.ensures ∙ row_same {A = g.row.A.Denot} p.vms p.shared p.guests.items c.push_first-slots.result.items c.push_first-slots.ensures.items
+    c.push_guests-slots.ensures
+    ∙ row_same
+    {A = g.row.A.Denot} p.vms p.shared p.guests.items c.push_first-slots.result.items
+    c.push_first-slots.ensures.items
 
 pub returns-clause-end : goal.returns-clause-end
 returns-clause-end g c = λ past.
     let p = c.args.parts in
-    let slots = c.push_guests-slots.ensures ∙ row_same {A = g.row.A.Denot} p.vms p.shared p.guests.items c.push_first-slots.result.items c.push_first-slots.ensures.items in
+    let slots =
+    c.push_guests-slots.ensures
+    ∙ row_same
+    {A = g.row.A.Denot} p.vms p.shared p.guests.items c.push_first-slots.result.items
+    c.push_first-slots.ensures.items in
     ends_in p past c.push_guests-slots.result.items p.cpus.items slots refl

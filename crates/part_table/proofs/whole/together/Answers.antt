@@ -9,10 +9,13 @@ use Rattle.part_table.proofs.PutTogether.{all_got, end_parts, guest_end, guests_
 use Rattle.part_table.proofs.whole.together.Goals as goal
 
 pub first_of-vms-requires : goal.first_of-vms-requires
-first_of-vms-requires g c = record { kinds = end_parts c.args.layout c.args.found.items c.args.cpus.items c.requires.end }
+first_of-vms-requires g c =
+    record { kinds = end_parts c.args.layout c.args.found.items c.args.cpus.items c.requires.end }
 
 pub guests_of-guests-requires-clause-kinds : goal.guests_of-guests-requires-clause-kinds
-guests_of-guests-requires-clause-kinds g c = rest_of c.args.found.items c.first_of-vms.result.2.items c.first_of-vms.result.0 c.first_of-vms.result.1 (end_parts c.args.layout c.args.found.items c.args.cpus.items c.requires.end) c.first_of-vms.ensures
+guests_of-guests-requires-clause-kinds g c =
+    rest_of c.args.found.items c.first_of-vms.result.2.items c.first_of-vms.result.0 c.first_of-vms.result.1
+    (end_parts c.args.layout c.args.found.items c.args.cpus.items c.requires.end) c.first_of-vms.ensures
 
 pub guests_of-guests-requires-clause-room : goal.guests_of-guests-requires-clause-room
 guests_of-guests-requires-clause-room g c =
@@ -28,7 +31,9 @@ invariant_of-result g c =
     let v = c.first_of-vms.result.0 in
     let s = c.first_of-vms.result.1 in
     let gs = c.guests_of-guests.result.items in
-    let is = c.first_of-vms.ensures ∙ ap (λ (xs : List (Slot g.row.A.Denot)). VmSlot v ∷ (SharedSlot s ∷ xs)) c.guests_of-guests.ensures in
+    let is =
+    c.first_of-vms.ensures
+    ∙ ap (λ (xs : List (Slot g.row.A.Denot)). VmSlot v ∷ (SharedSlot s ∷ xs)) c.guests_of-guests.ensures in
     let count = end.count in
     let many = guests_count l c.args.found.items c.args.cpus.items end v s gs is in
     let sv = (vms_end l c.args.found.items c.args.cpus.items end v s gs is).0 in
@@ -40,14 +45,30 @@ invariant_of-result g c =
       shared_log = ss.suits.log;
       depth = ss.suits.depth;
       rows = ss.suits.rows;
-      guest_depth = all_got (λ (w : GuestPart g.row.A.Denot). levels_below w.guest.geometry ≡ levels_below l.geometry) gs (λ j w e. (guest_end l c.args.found.items c.args.cpus.items end v s gs is j w e).0.suits.depth);
-      guest_logs = all_got (λ (w : GuestPart g.row.A.Denot). IsOfSize l.config.log w.log) gs (λ j w e. (guest_end l c.args.found.items c.args.cpus.items end v s gs is j w e).0.suits.log);
+      guest_depth =
+          all_got (λ (w : GuestPart g.row.A.Denot). levels_below w.guest.geometry ≡ levels_below l.geometry) gs
+          (λ j w e. (guest_end l c.args.found.items c.args.cpus.items end v s gs is j w e).0.suits.depth);
+      guest_logs =
+          all_got (λ (w : GuestPart g.row.A.Denot). IsOfSize l.config.log w.log) gs
+          (λ j w e. (guest_end l c.args.found.items c.args.cpus.items end v s gs is j w e).0.suits.log);
       numbers = numbers l c.args.found.items c.args.cpus.items end;
-      own_logs = all_got (λ (k : CpuState). IsOfSize l.config.log k.log) c.args.cpus.items (λ j k e. (end.left.cpus j k e).1.size);
+      own_logs =
+          all_got (λ (k : CpuState). IsOfSize l.config.log k.log) c.args.cpus.items
+          (λ j k e. (end.left.cpus j k e).1.size);
     }
 
 pub returns-clause-parts : goal.returns-clause-parts
-returns-clause-parts g c = sym (c.first_of-vms.ensures ∙ ap (λ (xs : List (Slot g.row.A.Denot)). VmSlot c.first_of-vms.result.0 ∷ (SharedSlot c.first_of-vms.result.1 ∷ xs)) c.guests_of-guests.ensures)
+returns-clause-parts g c =
+    sym
+    (c.first_of-vms.ensures
+    ∙ ap
+    (λ (xs : List (Slot g.row.A.Denot)). VmSlot c.first_of-vms.result.0
+    ∷ (SharedSlot c.first_of-vms.result.1 ∷ xs)) c.guests_of-guests.ensures)
 
 pub returns-clause-history : goal.returns-clause-history
-returns-clause-history g c = ∣ has_history _ c.args.found.items c.requires.end (c.first_of-vms.ensures ∙ ap (λ (xs : List (Slot g.row.A.Denot)). VmSlot c.first_of-vms.result.0 ∷ (SharedSlot c.first_of-vms.result.1 ∷ xs)) c.guests_of-guests.ensures) ∣₁
+returns-clause-history g c =
+    ∣ has_history _ c.args.found.items c.requires.end
+    (c.first_of-vms.ensures
+    ∙ ap
+    (λ (xs : List (Slot g.row.A.Denot)). VmSlot c.first_of-vms.result.0
+    ∷ (SharedSlot c.first_of-vms.result.1 ∷ xs)) c.guests_of-guests.ensures) ∣₁

@@ -14,11 +14,28 @@ use Rattle.pkvm_oracle.proofs.audited.checked_with.Goals as goal
 
 pub returns-in-Ok-found-clause-checked : goal.returns-in-Ok-found-clause-checked
 returns-in-Ok-found-clause-checked c =
-    let are : AreTrees c.args.kept.now.layout.geometry c.args.pages.now c.args.roots.now (λ k. get_or (map tree_in_lists c.in-Ok.trees.items) k no_tree) = subst (λ (k : GhostLists). AreTrees k.layout.geometry c.args.pages.now c.args.roots.now (λ k. get_or (map tree_in_lists c.in-Ok.trees.items) k no_tree)) c.lists.ensures.value c.in-Ok.ensures.trees in
-    let same : trees_in c.as_slice.result.now ≡ trees_said c.args.kept.now.layout.geometry c.args.pages.now c.args.roots.now = ap trees_in c.as_slice.ensures.value ∙ same_trees c.args.kept.now.layout.geometry c.args.pages.now c.args.roots.now c.in-Ok.trees.items c.in-Ok.ensures.count are in
+    let are : AreTrees c.args.kept.now.layout.geometry c.args.pages.now c.args.roots.now (λ k. get_or (map tree_in_lists c.in-Ok.trees.items) k no_tree) =
+    subst
+    (λ (k : GhostLists). AreTrees k.layout.geometry c.args.pages.now c.args.roots.now
+    (λ k. get_or (map tree_in_lists c.in-Ok.trees.items) k no_tree)) c.lists.ensures.value
+    c.in-Ok.ensures.trees in
+    let same : trees_in c.as_slice.result.now ≡ trees_said c.args.kept.now.layout.geometry c.args.pages.now c.args.roots.now =
+    ap trees_in c.as_slice.ensures.value
+    ∙ same_trees c.args.kept.now.layout.geometry c.args.pages.now c.args.roots.now c.in-Ok.trees.items
+    c.in-Ok.ensures.count are in
     record {
       given = are.given;
       once = are.once;
-      none = subst (λ (t : ℕ → Tree). (c.in-Ok-found.found ≡ None) ↔ IsWell (layout_of c.args.kept.now.layout) (contents_in c.args.kept.now) (found (layout_of c.args.kept.now.layout) (contents_in c.args.kept.now) t)) same c.in-Ok-found.ensures.none;
-      first = subst (λ (t : ℕ → Tree). IfSome c.in-Ok-found.found (IsFirstFinding (layout_of c.args.kept.now.layout) (contents_in c.args.kept.now) (found (layout_of c.args.kept.now.layout) (contents_in c.args.kept.now) t))) same c.in-Ok-found.ensures.first;
+      none =
+          subst
+          (λ (t : ℕ → Tree). (c.in-Ok-found.found ≡ None)
+          ↔ IsWell (layout_of c.args.kept.now.layout) (contents_in c.args.kept.now)
+          (found (layout_of c.args.kept.now.layout)
+          (contents_in c.args.kept.now) t)) same c.in-Ok-found.ensures.none;
+      first =
+          subst
+          (λ (t : ℕ → Tree). IfSome c.in-Ok-found.found
+          (IsFirstFinding (layout_of c.args.kept.now.layout) (contents_in c.args.kept.now)
+          (found (layout_of c.args.kept.now.layout)
+          (contents_in c.args.kept.now) t))) same c.in-Ok-found.ensures.first;
     }

@@ -10,7 +10,9 @@ returns-in-Err-write_found c =
     let l = c.args.layout.now in
     inr (inr (inr (record {
       why = Call unjudged.NoMemory;
-      unjudged = no-memory l l.regions.now (lists_told c.args.before.now) c.args.call.now (lists_told c.args.after.now) c.in-Ok-Some.field-0 c.in-Ok-Some.ensures.found;
+      unjudged =
+          no-memory l l.regions.now (lists_told c.args.before.now) c.args.call.now
+          (lists_told c.args.after.now) c.in-Ok-Some.field-0 c.in-Ok-Some.ensures.found;
       status_is = refl;
       count_is = refl;
       refused_is = refl;

@@ -5,8 +5,13 @@ use Rattle.pkvm_oracle.proofs.legal.tested.Goals as goal
 
 pub returns-in-Ok-clause-tested : goal.returns-in-Ok-clause-tested
 returns-in-Ok-clause-tested c =
-    tested_said c.args.layout.now c.args.layout.now.regions.now (lists_told c.args.state.now) c.args.flags c.in-Some.trees c.in-Ok.state c.tested_with-found.result (search rules)
-    c.in-Ok.ensures.ready c.in-Ok.ensures.taken c.in-Ok.ensures.layout c.in-Ok.ensures.state c.tested_with-found.ensures.tested
+    tested_said c.args.layout.now c.args.layout.now.regions.now
+    (lists_told c.args.state.now) c.args.flags c.in-Some.trees c.in-Ok.state c.tested_with-found.result
+    (search rules)
+    c.in-Ok.ensures.ready c.in-Ok.ensures.taken c.in-Ok.ensures.layout c.in-Ok.ensures.state
+    c.tested_with-found.ensures.tested
 
 pub returns-in-Ok-clause-untested : goal.returns-in-Ok-clause-untested
-returns-in-Ok-clause-untested c = untested_said c.args.layout.now c.args.layout.now.regions.now (lists_told c.args.state.now) c.args.flags c.tested_with-found.result c.tested_with-found.ensures.untested
+returns-in-Ok-clause-untested c =
+    untested_said c.args.layout.now c.args.layout.now.regions.now
+    (lists_told c.args.state.now) c.args.flags c.tested_with-found.result c.tested_with-found.ensures.untested

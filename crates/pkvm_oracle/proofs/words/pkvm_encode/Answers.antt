@@ -9,4 +9,5 @@ returns-in-Some-encode c =
     let is_level : Some c.in-Some.level ≡ level_said c.args.level = search rules in
     let is_desc : Some c.in-Some-desc_of.desc ≡ desc_said c.args.says.now = search rules in
     let small : c.in-Some-encode.word < 2 ^ 64 = search rules in
-    encoded c.args.level c.args.says.now c.args.out.now c.in-Some-encode.word c.in-Some.level c.in-Some-desc_of.desc is_level is_desc small c.in-Some-encode.ensures.exact
+    encoded c.args.level c.args.says.now c.args.out.now c.in-Some-encode.word c.in-Some.level c.in-Some-desc_of.desc
+    is_level is_desc small c.in-Some-encode.ensures.exact

@@ -10,5 +10,6 @@ loop-i-preserved c =
     let m = c.index-nodes-i.result in
     let new = c.add_outcome.new.found.items in
     let front = take c.loop-i.i nodes in
-    subst (λ ns. AreOutcomes ns new) (ap (λ x. front ++ x ∷ []) c.index-nodes-i.is ∙ sym (take_more nodes c.loop-i.i m c.loop-i-test.true))
+    subst (λ ns. AreOutcomes ns new)
+    (ap (λ x. front ++ x ∷ []) c.index-nodes-i.is ∙ sym (take_more nodes c.loop-i.i m c.loop-i-test.true))
     (outcomes_more m front c.loop-i.found.items new c.loop-i.invariant c.in_ok-add_outcome.ensures)

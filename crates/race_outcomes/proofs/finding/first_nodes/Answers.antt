@@ -12,5 +12,6 @@ returns c wanted =
     let s = ghost_state c.args.state.now in
     let n = c.in_ok-first.first in
     let is = c.in_ok-first.ensures in
-    let alone : c.push.new.self.items ≡ n ∷ [] = c.in_ok-push.ensures.items ∙ ap (λ ns. ns ++ n ∷ []) c.new-nodes.ensures.items in
+    let alone : c.push.new.self.items ≡ n ∷ [] =
+    c.in_ok-push.ensures.items ∙ ap (λ ns. ns ++ n ∷ []) c.new-nodes.ensures.items in
     subst (IsLayer turns wanted l s 0) (sym alone) (layer_first turns wanted l s n is.layout is.state is.told is.order)

@@ -4,4 +4,5 @@ use Rattle.race_outcomes.specs.Layers.{IsLayer}
 use Rattle.race_outcomes.proofs.finding.last_layer.Given as goal
 
 abbrev pub invariant-loop-made : goal.invariant-loop-made
-invariant-loop-made g l = IsLayer l.turns l.wanted (layout_of l.fn.state.layout) (ghost_state l.fn.state) l.made l.nodes.items
+invariant-loop-made g l =
+    IsLayer l.turns l.wanted (layout_of l.fn.state.layout) (ghost_state l.fn.state) l.made l.nodes.items

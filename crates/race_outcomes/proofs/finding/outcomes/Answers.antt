@@ -10,4 +10,5 @@ returns-in-Ok-clause-all g c =
     let ns = c.in_ok-nodes.nodes.items in
     let os = c.in-Ok.found.items in
     let found : AreOutcomes ns os = subst (λ xs. AreOutcomes xs os) c.as_slice.ensures.value c.in-Ok.ensures in
-    all_outcomes (layout_of c.args.state.now.layout) (ghost_state c.args.state.now) c.args.turns.now c.args.wanted.now ns os c.in_ok-nodes.ensures.layer found
+    all_outcomes (layout_of c.args.state.now.layout)
+    (ghost_state c.args.state.now) c.args.turns.now c.args.wanted.now ns os c.in_ok-nodes.ensures.layer found

@@ -17,10 +17,15 @@ returns-clause-known c =
     let new : Known = record { state = k.state; made = c.push.new.self } in
     let m = c.in-Ok-again.again in
     let Told : Result Made OutcomesFault → Type 0 = λ r. OnOk r (IsKnown l turns new) in
-    let leads = leads_shared k.state c.get.result.now c.in_ok-reply.after c.in-Ok.state c.args.turn c.in_ok-reply.reply c.get.ensures c.in_ok-reply.ensures.told c.in_ok-reply.ensures.layout c.in-Ok.ensures.state c.in-Ok.ensures.layout in
+    let leads =
+    leads_shared k.state c.get.result.now c.in_ok-reply.after c.in-Ok.state c.args.turn c.in_ok-reply.reply
+    c.get.ensures c.in_ok-reply.ensures.told c.in_ok-reply.ensures.layout c.in-Ok.ensures.state
+    c.in-Ok.ensures.layout in
     elim c.match-push.branch [
       | in-Ok-push w ↦
           subst Told (sym w.result-is)
-          (known_made l turns k new c.args.turn m c.args.place c.in_ok-reply.reply c.in-Ok.state c.requires.known c.requires.at leads c.in-Ok-again.ensures.place c.in-Ok-again.ensures.reply c.in-Ok-again.ensures.state refl w.in-Ok-push.ensures.items)
+          (known_made l turns k new c.args.turn m c.args.place c.in_ok-reply.reply c.in-Ok.state c.requires.known
+          c.requires.at leads c.in-Ok-again.ensures.place c.in-Ok-again.ensures.reply c.in-Ok-again.ensures.state
+          refl w.in-Ok-push.ensures.items)
       | in-Err w ↦ subst Told (sym w.result-is) tt
     ]

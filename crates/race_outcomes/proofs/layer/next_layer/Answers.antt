@@ -13,7 +13,8 @@ pub spread_known-requires-clause-known : goal.spread_known-requires-clause-known
 spread_known-requires-clause-known g c =
     let nodes = c.args.nodes.now in
     let m = c.index-nodes-i.result in
-    c.loop-i.invariant.known m (subst (Contains nodes) (sym c.index-nodes-i.is) (Contains-get_or nodes c.loop-i.i m c.loop-i-test.true))
+    c.loop-i.invariant.known m
+    (subst (Contains nodes) (sym c.index-nodes-i.is) (Contains-get_or nodes c.loop-i.i m c.loop-i-test.true))
 
 pub loop-i-preserved : goal.loop-i-preserved
 loop-i-preserved g c =
@@ -24,12 +25,17 @@ loop-i-preserved g c =
     let new = c.spread_known.new.layer.nodes.items in
     let front = take c.loop-i.i nodes in
     let more = c.in_ok-spread_known.ensures in
-    let there = subst (Contains nodes) (sym c.index-nodes-i.is) (Contains-get_or nodes c.loop-i.i m c.loop-i-test.true) in
+    let there =
+    subst (Contains nodes) (sym c.index-nodes-i.is) (Contains-get_or nodes c.loop-i.i m c.loop-i-test.true) in
     record {
-      next = subst (λ ns. AreNext turns wanted ns new) (ap (λ x. front ++ x ∷ []) c.index-nodes-i.is ∙ sym (take_more nodes c.loop-i.i m c.loop-i-test.true))
+      next =
+          subst (λ ns. AreNext turns wanted ns new)
+          (ap (λ x. front ++ x ∷ []) c.index-nodes-i.is ∙ sym (take_more nodes c.loop-i.i m c.loop-i-test.true))
           (next_more turns wanted m front c.loop-i.layer.nodes.items new c.loop-i.invariant.next more.spread more.has);
       indexed = more.indexed;
-      known = λ n here. known_of_each turns nodes m n c.spread_known.new.known.items c.spread_known.new.layer.states c.requires.layouts there here more.known;
+      known =
+          λ n here. known_of_each turns nodes m n c.spread_known.new.known.items c.spread_known.new.layer.states
+          c.requires.layouts there here more.known;
     }
 
 pub returns-in_err-spread_known-clause-fault : goal.returns-in_err-spread_known-clause-fault
@@ -38,6 +44,8 @@ returns-in_err-spread_known-clause-fault g c =
     let wanted = c.args.wanted.now in
     let nodes = c.args.nodes.now in
     let m = c.index-nodes-i.result in
-    let there = subst (Contains nodes) (sym c.index-nodes-i.is) (Contains-get_or nodes c.loop-i.i m c.loop-i-test.true) in
+    let there =
+    subst (Contains nodes) (sym c.index-nodes-i.is) (Contains-get_or nodes c.loop-i.i m c.loop-i-test.true) in
     passed (IsLayerFault turns wanted c.args.limit nodes) c.from_residual.result _ c.from_residual.ensures.1
-    (layer_fault turns wanted c.args.limit nodes (take c.loop-i.i nodes) m c.loop-i.layer.nodes.items _ (within_all nodes c.loop-i.i) there c.loop-i.invariant.next c.in_err-spread_known.ensures.fault)
+    (layer_fault turns wanted c.args.limit nodes (take c.loop-i.i nodes) m c.loop-i.layer.nodes.items _
+    (within_all nodes c.loop-i.i) there c.loop-i.invariant.next c.in_err-spread_known.ensures.fault)

@@ -11,11 +11,14 @@ spread-requires-clause-at_hand c =
     let turns = c.args.turns.now in
     let a = c.args.layer.now.states in
     subst (λ (k : Known). IsAtHand g turns k a) (sym c.index_mut.ensures.value)
-    (hand_at g turns c.known_at.new.known.items c.in-Ok.at _ a c.in-Ok.ensures.inside c.in-Ok.ensures.same (c.in-Ok.ensures.known turns c.requires.known.known) c.requires.known.layouts)
+    (hand_at g turns c.known_at.new.known.items c.in-Ok.at _ a c.in-Ok.ensures.inside c.in-Ok.ensures.same
+    (c.in-Ok.ensures.known turns c.requires.known.known) c.requires.known.layouts)
 
 pub returns-clause-known : goal.returns-clause-known
 returns-clause-known c =
     let g = c.args.node.now.state in
     let turns = c.args.turns.now in
     let ks = c.known_at.new.known.items in
-    on_ok_weaker c.spread.result (λ h. known_again g turns ks c.in-Ok.at c.spread.new.known c.spread.new.layer.states (c.in-Ok.ensures.known turns c.requires.known.known) h) c.spread.ensures.at_hand
+    on_ok_weaker c.spread.result
+    (λ h. known_again g turns ks c.in-Ok.at c.spread.new.known c.spread.new.layer.states
+    (c.in-Ok.ensures.known turns c.requires.known.known) h) c.spread.ensures.at_hand

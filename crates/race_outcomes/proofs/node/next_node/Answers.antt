@@ -19,10 +19,18 @@ pub returns-in-Ok-false-clause-none : goal.returns-in-Ok-false-clause-none
 returns-in-Ok-false-clause-none c e new q makes are =
     let n = c.args.node.now in
     let r = c.in_ok-made.made.reply in
-    let to = leads_from n.state c.args.turns.now c.args.known.now c.args.states.now c.requires.at_hand _ r c.in_ok-made.made.state c.in_ok-made.ensures.leads in
-    let w = step_wanted (layout_of n.state.layout) c.args.turns.now (point_of n) c.args.place _ r (ghost_state c.in_ok-made.made.state) to.told
-    c.args.wanted.now q c.index-wanted-place.result (omega (arith, c.requires.inside, c.requires.ready.wanted_count)) c.requires.ready.wanted_count c.requires.ready.count makes are in
-    let told = c.in-Ok-false.ensures.1 (subst (λ (x : Option (Vec ℕ Global)). IsWanted x (Some r)) (sym c.index-wanted-place.is) w) in
+    let to =
+    leads_from n.state c.args.turns.now c.args.known.now c.args.states.now c.requires.at_hand _ r
+    c.in_ok-made.made.state c.in_ok-made.ensures.leads in
+    let w =
+    step_wanted (layout_of n.state.layout) c.args.turns.now (point_of n) c.args.place _ r
+    (ghost_state c.in_ok-made.made.state) to.told
+    c.args.wanted.now q c.index-wanted-place.result
+    (omega (arith, c.requires.inside, c.requires.ready.wanted_count)) c.requires.ready.wanted_count
+    c.requires.ready.count makes are in
+    let told =
+    c.in-Ok-false.ensures.1
+    (subst (λ (x : Option (Vec ℕ Global)). IsWanted x (Some r)) (sym c.index-wanted-place.is) w) in
     let tested = c.in-Ok-false.field-0-test in
     absurd (cc)
 
@@ -33,17 +41,28 @@ returns-in-Ok-clause-some c =
     let next = c.in-Ok.next in
     let l = layout_of n.state.layout in
     let state : next.state ≡ c.in_ok-made.made.state = c.in-Ok.ensures.state in
-    let leads = leads_moved n.state c.args.turns.now c.args.known.now c.args.states.now c.requires.at_hand _ r c.in_ok-made.made.state next.state state c.in_ok-made.ensures.leads in
-    let w = subst (λ (x : Option (Vec ℕ Global)). IsWanted x (Some r)) c.index-wanted-place.is (c.in-Ok-true.ensures.0 c.in-Ok-true.field-0-test) in
+    let leads =
+    leads_moved n.state c.args.turns.now c.args.known.now c.args.states.now c.requires.at_hand _ r
+    c.in_ok-made.made.state next.state state c.in_ok-made.ensures.leads in
+    let w =
+    subst (λ (x : Option (Vec ℕ Global)). IsWanted x (Some r)) c.index-wanted-place.is
+    (c.in-Ok-true.ensures.0 c.in-Ok-true.field-0-test) in
     record {
       layout = leads.layout;
-      makes = step_makes l c.args.turns.now (point_of n) c.args.place _ r (ghost_state next.state) leads.told next.told.items c.requires.next c.in-Ok.ensures.told;
+      makes =
+          step_makes l c.args.turns.now (point_of n) c.args.place _ r
+          (ghost_state next.state) leads.told next.told.items c.requires.next c.in-Ok.ensures.told;
       order = c.in-Ok.ensures.order;
-      are_wanted = subst (AreWanted c.args.wanted.now) (sym c.in-Ok.ensures.told) (wanted_more c.args.wanted.now n.told.items c.args.place _ r (omega (arith, c.requires.inside, c.requires.ready.wanted_count)) c.requires.ready.are_wanted w);
+      are_wanted =
+          subst (AreWanted c.args.wanted.now) (sym c.in-Ok.ensures.told)
+          (wanted_more c.args.wanted.now n.told.items c.args.place _ r
+          (omega (arith, c.requires.inside, c.requires.ready.wanted_count)) c.requires.ready.are_wanted w);
     }
 
 pub returns-in_err-made-clause-fault : goal.returns-in_err-made-clause-fault
 returns-in_err-made-clause-fault c =
     let turns = c.args.turns.now in
     let n = c.args.node.now in
-    passed (IsPlaceFault turns n c.args.place) c.from_residual.result _ c.from_residual.ensures.1 (hand_fault turns n c.args.place _ c.args.known.now c.args.states.now _ c.requires.at_hand c.requires.next c.in_err-made.ensures.fault)
+    passed (IsPlaceFault turns n c.args.place) c.from_residual.result _ c.from_residual.ensures.1
+    (hand_fault turns n c.args.place _ c.args.known.now c.args.states.now _ c.requires.at_hand c.requires.next
+    c.in_err-made.ensures.fault)

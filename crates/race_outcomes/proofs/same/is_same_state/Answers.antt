@@ -9,7 +9,10 @@ returns-then-not-has_same_rooms-clause-apart c e layouts same =
     let a = c.args.a.now in
     let b = c.args.b.now in
     let differ : AreSameRooms a.rooms b.rooms → ⊥ = λ h.
-    let told = c.has_same_rooms.ensures.1 (subst (λ (x : GhostLists). AreSameRooms x.rooms c.lists-4.result.now.rooms) (sym c.lists-3.ensures.value) (subst (λ (y : GhostLists). AreSameRooms a.rooms y.rooms) (sym c.lists-4.ensures.value) h)) in
+    let told =
+    c.has_same_rooms.ensures.1
+    (subst (λ (x : GhostLists). AreSameRooms x.rooms c.lists-4.result.now.rooms) (sym c.lists-3.ensures.value)
+    (subst (λ (y : GhostLists). AreSameRooms a.rooms y.rooms) (sym c.lists-4.ensures.value) h)) in
     let tested = c.if-not-has_same_rooms.true in
     absurd (cc) in
     rooms_apart a b c.lists-3.ensures.kept c.lists-4.ensures.kept layouts differ same

@@ -11,8 +11,12 @@ by_too a b p h t = grind (arith, nat_tests)
 pub returns : goal.returns
 returns g c =
     let split =
-    IsPartitionPoint-from_clause (λ (r : Run g.row.V.Denot). nat_le r.pages.first.0 c.args.page) c.args.runs.now c.partition_point.result c.partition_point.ensures.partitioned
-    (λ i j d h k t. by_too (get_or c.args.runs.now i d).pages.first.0 (get_or c.args.runs.now j d).pages.first.0 c.args.page (begins_grow g.V.Advance.advance i j c.args.runs.now d c.requires h k) t)
+    IsPartitionPoint-from_clause
+    (λ (r : Run g.row.V.Denot). nat_le r.pages.first.0 c.args.page) c.args.runs.now c.partition_point.result
+    c.partition_point.ensures.partitioned
+    (λ i j d h k t. by_too (get_or c.args.runs.now i d).pages.first.0
+    (get_or c.args.runs.now j d).pages.first.0 c.args.page
+    (begins_grow g.V.Advance.advance i j c.args.runs.now d c.requires h k) t)
     (λ a r q k. search rules)
     in
     record {

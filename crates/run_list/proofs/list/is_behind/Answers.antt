@@ -15,7 +15,8 @@ returns-else-last-eq0 g c =
     let some : length rs ≡ suc last = omega (arith, c.args.runs.now.ok.0, c.len-last.ensures) in
     record {
       behind = λ t. let ends : run_end run < page = is_below (run_end run) page (sym c.ends_before.ensures ∙ t) in
-          ends_all g.V.Advance.advance page rs last run c.requires.coarsest some (subst (λ r. run_end r < page) c.index.ensures ends);
+          ends_all g.V.Advance.advance page rs last run c.requires.coarsest some
+          (subst (λ r. run_end r < page) c.index.ensures ends);
       all = λ e. let whole = subst (EndBefore page) (sym (take_all (length rs) rs (omega arith))) e in
           let ends = before_at page (length rs) last rs run whole (omega (arith, some)) (omega arith) in
           let told : c.ends_before.result ≡ nat_lt (run_end run) page = c.ends_before.ensures in

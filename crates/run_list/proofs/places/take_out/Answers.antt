@@ -9,8 +9,14 @@ loop-i-preserved g c =
     let old = c.args.runs.now.ok.0 in
     record {
       moved = omega (arith, h.moved);
-      front = moved_front c.args.runs.now.items c.loop-i.runs.items c.args.at c.args.to c.loop-i.end c.loop-i.i c.index.result.now h.moved c.requires.order c.loop-i.auto.i (omega arith) h.front h.back (omega (arith, long, old, h.len)) c.index.ensures;
-      back = moved_back c.args.runs.now.items c.loop-i.runs.items c.args.at c.args.to c.loop-i.end c.loop-i.i c.index.result.now h.moved c.requires.order c.loop-i.auto.i (omega arith) h.front h.back (omega (arith, long, old, h.len)) c.index.ensures;
+      front =
+          moved_front c.args.runs.now.items c.loop-i.runs.items c.args.at c.args.to c.loop-i.end c.loop-i.i
+          c.index.result.now h.moved c.requires.order c.loop-i.auto.i
+          (omega arith) h.front h.back (omega (arith, long, old, h.len)) c.index.ensures;
+      back =
+          moved_back c.args.runs.now.items c.loop-i.runs.items c.args.at c.args.to c.loop-i.end c.loop-i.i
+          c.index.result.now h.moved c.requires.order c.loop-i.auto.i
+          (omega arith) h.front h.back (omega (arith, long, old, h.len)) c.index.ensures;
       len = h.len;
       capacity = h.capacity;
     }

@@ -12,6 +12,12 @@ returns c =
     let old = c.args.text.now.items in
     let new = c.add_slot_head.new.text.items in
     let head =
-    subst (λ (x : SlotHead). Adds (TellsValue (slot_name c.args.slot) text_of_slot_head x (slot_head (slot_in c.args.after.now))) old new) c.slot_head_of.ensures
-    (subst (λ (y : SlotHead). Adds (TellsValue (slot_name c.args.slot) text_of_slot_head (slot_told c.slot_head_of.result) y) old new) c.slot_head_of-2.ensures c.in_ok-add_slot_head.ensures) in
+    subst
+    (λ (x : SlotHead). Adds
+    (TellsValue (slot_name c.args.slot) text_of_slot_head x (slot_head (slot_in c.args.after.now))) old
+    new) c.slot_head_of.ensures
+    (subst
+    (λ (y : SlotHead). Adds
+    (TellsValue (slot_name c.args.slot) text_of_slot_head (slot_told c.slot_head_of.result) y) old
+    new) c.slot_head_of-2.ensures c.in_ok-add_slot_head.ensures) in
     adds_then _ _ _ _ _ head c.in_ok-add_vcpus.ensures

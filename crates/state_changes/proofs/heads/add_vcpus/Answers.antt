@@ -11,14 +11,28 @@ loop-vcpu-preserved c =
     let old = c.loop-vcpu.text.items in
     let new = c.add_holder.new.text.items in
     let next =
-    subst (λ (x : Option ℕ). Adds (TellsValue (vcpu_name c.args.slot c.loop-vcpu.vcpu) text_of_holder x ((slot_in c.args.after.now).loaded c.loop-vcpu.vcpu)) old new) c.holder_of-was.ensures
-    (subst (λ (y : Option ℕ). Adds (TellsValue (vcpu_name c.args.slot c.loop-vcpu.vcpu) text_of_holder c.holder_of-was.result y) old new) c.holder_of-is.ensures c.in_ok-add_holder.ensures) in
+    subst
+    (λ (x : Option ℕ). Adds
+    (TellsValue (vcpu_name c.args.slot c.loop-vcpu.vcpu) text_of_holder x
+    ((slot_in c.args.after.now).loaded c.loop-vcpu.vcpu)) old new) c.holder_of-was.ensures
+    (subst
+    (λ (y : Option ℕ). Adds
+    (TellsValue (vcpu_name c.args.slot c.loop-vcpu.vcpu) text_of_holder c.holder_of-was.result y) old
+    new) c.holder_of-is.ensures c.in_ok-add_holder.ensures) in
     record {
       within = omega (arith, c.loop-vcpu-test.true);
-      told = adds_more (TellsVcpu (slot_in c.args.before.now) (slot_in c.args.after.now) c.args.slot) c.loop-vcpu.vcpu c.args.text.now.items c.loop-vcpu.text.items c.add_holder.new.text.items c.loop-vcpu.invariant.told next;
+      told =
+          adds_more
+          (TellsVcpu (slot_in c.args.before.now) (slot_in c.args.after.now) c.args.slot) c.loop-vcpu.vcpu
+          c.args.text.now.items c.loop-vcpu.text.items c.add_holder.new.text.items
+          c.loop-vcpu.invariant.told next;
     }
 
 pub returns : goal.returns
 returns c =
     let end : c.loop-vcpu.vcpu ≡ 8 = omega (arith, c.loop-vcpu.invariant.within, c.loop-vcpu-test.false) in
-    subst (λ n. Adds (Each n (TellsVcpu (slot_in c.args.before.now) (slot_in c.args.after.now) c.args.slot)) c.args.text.now.items c.loop-vcpu.text.items) end c.loop-vcpu.invariant.told
+    subst
+    (λ n. Adds
+    (Each n
+    (TellsVcpu (slot_in c.args.before.now) (slot_in c.args.after.now) c.args.slot)) c.args.text.now.items
+    c.loop-vcpu.text.items) end c.loop-vcpu.invariant.told

@@ -15,8 +15,13 @@ returns c =
       record {
         runs = c.in_ok-found.found.runs;
         coarsest = c.runs.ensures.coarsest;
-        changes = λ p. entry_changes b a c.in_ok-old.old.runs c.in_ok-new.new.runs _ p c.in_ok-old.ensures c.in_ok-new.ensures (c.in_ok-found.ensures p);
+        changes =
+            λ p. entry_changes b a c.in_ok-old.old.runs c.in_ok-new.new.runs _ p c.in_ok-old.ensures c.in_ok-new.ensures
+            (c.in_ok-found.ensures p);
         lines = refl;
       },
-      c.in_ok-add_entry_runs.ensures ∙ ap (λ (rs : List (Run (Change Target))). c.args.text.now.items ++ run_lines text_of_target (text_of_label c.args.label) rs) c.runs.ensures.runs,
+      c.in_ok-add_entry_runs.ensures
+          ∙ ap
+          (λ (rs : List (Run (Change Target))). c.args.text.now.items
+          ++ run_lines text_of_target (text_of_label c.args.label) rs) c.runs.ensures.runs,
     )

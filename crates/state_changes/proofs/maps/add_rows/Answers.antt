@@ -18,5 +18,8 @@ returns c = (
     changes = λ p. row_changes _ _ _ (c.requires.frames p) (c.in_ok-found.ensures p);
     lines = refl;
   },
-  c.in_ok-add_row_runs.ensures ∙ ap (λ (rs : List (Run (Change Row))). c.args.text.now.items ++ run_lines text_of_some_row (codes "owner") rs) c.runs.ensures.runs,
+  c.in_ok-add_row_runs.ensures
+      ∙ ap
+      (λ (rs : List (Run (Change Row))). c.args.text.now.items
+      ++ run_lines text_of_some_row (codes "owner") rs) c.runs.ensures.runs,
 )

@@ -10,6 +10,11 @@ pub returns : goal.returns
 returns c =
     let old = c.args.text.now.items in
     let new = c.add_rest.new.text.items in
-    subst (λ (x : GhostLists). Adds (TellsAll (contents_in x) (contents_in c.args.after.now) c.args.cpu) old new) c.lists-old.ensures.value
-    (subst (λ (y : GhostLists). Adds (TellsAll (contents_in c.lists-old.result.now) (contents_in y) c.args.cpu) old new) c.lists-new.ensures.value
+    subst
+    (λ (x : GhostLists). Adds
+    (TellsAll (contents_in x) (contents_in c.args.after.now) c.args.cpu) old new) c.lists-old.ensures.value
+    (subst
+    (λ (y : GhostLists). Adds
+    (TellsAll (contents_in c.lists-old.result.now) (contents_in y) c.args.cpu) old
+    new) c.lists-new.ensures.value
     (adds_then _ _ _ _ _ c.in_ok-add_maps.ensures c.in_ok-add_rest.ensures))

@@ -8,5 +8,8 @@ use Rattle.state_changes.proofs.told.add_guest_maps.Given as goal
 abbrev pub invariant-loop-slot : goal.invariant-loop-slot
 invariant-loop-slot l = record {
   within : l.slot ≤ 64;
-  told : Adds (Each l.slot (λ v. TellsEntries (guest_name v) (get_or (map guest_in l.before.items) v no_guest).tree.map (get_or (map guest_in l.after.items) v no_guest).tree.map)) l.fn.text.items l.text.items;
+  told : Adds
+      (Each l.slot
+      (λ v. TellsEntries (guest_name v) (get_or (map guest_in l.before.items) v no_guest).tree.map
+      (get_or (map guest_in l.after.items) v no_guest).tree.map)) l.fn.text.items l.text.items;
 }

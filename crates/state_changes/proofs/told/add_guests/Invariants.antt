@@ -8,5 +8,8 @@ use Rattle.state_changes.proofs.told.add_guests.Given as goal
 abbrev pub invariant-loop-slot : goal.invariant-loop-slot
 invariant-loop-slot l = record {
   within : l.slot ≤ 64;
-  told : Adds (Each l.slot (λ v. TellsGuest (get_or (map guest_in l.before.items) v no_guest) (get_or (map guest_in l.after.items) v no_guest) v)) l.fn.text.items l.text.items;
+  told : Adds
+      (Each l.slot
+      (λ v. TellsGuest (get_or (map guest_in l.before.items) v no_guest)
+      (get_or (map guest_in l.after.items) v no_guest) v)) l.fn.text.items l.text.items;
 }

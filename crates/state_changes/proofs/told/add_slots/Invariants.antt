@@ -8,5 +8,8 @@ use Rattle.state_changes.proofs.told.add_slots.Given as goal
 abbrev pub invariant-loop-slot : goal.invariant-loop-slot
 invariant-loop-slot l = record {
   within : l.slot ≤ 64;
-  told : Adds (Each l.slot (λ v. TellsSlot (get_or (map slot_in l.before.items) v (no_slot 1)) (get_or (map slot_in l.after.items) v (no_slot 1)) v)) l.fn.text.items l.text.items;
+  told : Adds
+      (Each l.slot
+      (λ v. TellsSlot (get_or (map slot_in l.before.items) v (no_slot 1))
+      (get_or (map slot_in l.after.items) v (no_slot 1)) v)) l.fn.text.items l.text.items;
 }

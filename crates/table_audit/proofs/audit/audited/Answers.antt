@@ -9,10 +9,26 @@ use Rattle.table_audit.proofs.audit.audited.Goals as goal
 
 pub returns-clause-none : goal.returns-clause-none
 returns-clause-none c =
-    subst (λ (s : Contents). IfOk c.compared-found.result (λ o. (o ≡ None) ↔ IsWell (layout_of c.args.kept.now.layout) (contents_in c.args.kept.now) s)) c.in_ok-walked.ensures.contents
-    (subst (λ (g : GhostLists). IfOk c.compared-found.result (λ o. (o ≡ None) ↔ IsWell (layout_of g.layout) (contents_in g) (contents_in c.in_ok-walked.walked))) c.lists.ensures.value c.compared-found.ensures.none)
+    subst
+    (λ (s : Contents). IfOk c.compared-found.result
+    (λ o. (o ≡ None)
+    ↔ IsWell (layout_of c.args.kept.now.layout)
+    (contents_in c.args.kept.now) s)) c.in_ok-walked.ensures.contents
+    (subst
+    (λ (g : GhostLists). IfOk c.compared-found.result
+    (λ o. (o ≡ None)
+    ↔ IsWell (layout_of g.layout) (contents_in g)
+    (contents_in c.in_ok-walked.walked))) c.lists.ensures.value c.compared-found.ensures.none)
 
 pub returns-clause-first : goal.returns-clause-first
 returns-clause-first c =
-    subst (λ (s : Contents). IfOk c.compared-found.result (λ o. IfSome o (IsFirstFinding (layout_of c.args.kept.now.layout) (contents_in c.args.kept.now) s))) c.in_ok-walked.ensures.contents
-    (subst (λ (g : GhostLists). IfOk c.compared-found.result (λ o. IfSome o (IsFirstFinding (layout_of g.layout) (contents_in g) (contents_in c.in_ok-walked.walked)))) c.lists.ensures.value c.compared-found.ensures.first)
+    subst
+    (λ (s : Contents). IfOk c.compared-found.result
+    (λ o. IfSome o
+    (IsFirstFinding (layout_of c.args.kept.now.layout)
+    (contents_in c.args.kept.now) s))) c.in_ok-walked.ensures.contents
+    (subst
+    (λ (g : GhostLists). IfOk c.compared-found.result
+    (λ o. IfSome o
+    (IsFirstFinding (layout_of g.layout) (contents_in g)
+    (contents_in c.in_ok-walked.walked)))) c.lists.ensures.value c.compared-found.ensures.first)

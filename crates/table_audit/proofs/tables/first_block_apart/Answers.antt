@@ -9,9 +9,14 @@ use Rattle.table_audit.specs.Tables.{IsTableApart}
 use Rattle.table_audit.proofs.Firsts.{none_of}
 use Rattle.table_audit.proofs.tables.first_block_apart.Goals as goal
 
-both : (a b : List Table) (o : Option Block) → All (HasSameFrame a b) a → MatchOption o (All (HasSameFrame a b) b) (IsTableApart a b) → MatchOption o (table_of a ≡ table_of b) (IsTableApart a b)
+both : (a b : List Table) (o : Option Block)
+    → All (HasSameFrame a b) a
+    → MatchOption o (All (HasSameFrame a b) b) (IsTableApart a b)
+    → MatchOption o (table_of a ≡ table_of b) (IsTableApart a b)
 both a b None h k = alike a b h k
 both a b (Some block) h k = k
 
 pub returns-in-None : goal.returns-in-None
-returns-in-None c = both c.args.kept.now c.args.walked.now c.apart_among-in-None.result (none_of _ _ c.apart_among.result c.in-None.is c.apart_among.ensures) c.apart_among-in-None.ensures
+returns-in-None c =
+    both c.args.kept.now c.args.walked.now c.apart_among-in-None.result
+    (none_of _ _ c.apart_among.result c.in-None.is c.apart_among.ensures) c.apart_among-in-None.ensures

@@ -13,7 +13,11 @@ read-requires-clause-wide g t c = shaped_wide c.args.depth c.args.table.now c.re
 
 pub count_in-count-requires : goal.count_in-count-requires
 count_in-count-requires g t c κs within =
-    let h = slot_child_is c.args.depth c.in-Child.child c.read.result.now (rw c.read.ensures (shaped_slot c.args.depth c.args.table.now c.loop-i.i c.requires.shape c.loop-i-test.true)) c.in-Child.is in
+    let h =
+    slot_child_is c.args.depth c.in-Child.child c.read.result.now
+    (rw c.read.ensures
+    (shaped_slot c.args.depth c.args.table.now c.loop-i.i c.requires.shape
+    c.loop-i-test.true)) c.in-Child.is in
     let le : 1 ≤ c.args.depth = h.0 in
     (omega (arith, c.decreases), (within, (omega (arith, c.requires.depth_in), rw c.deref.ensures h.1)))
 
@@ -29,20 +33,39 @@ loop-i-preserved g t c =
     let wide = shaped_wide c.args.depth c.args.table.now c.requires.shape in
     elim c.match-read.branch [
       | in-Child w ↦ record {
-        counted = omega (arith, w.count-is, rw w.deref.ensures at w.count_in-count.ensures.value, c.loop-i.invariant.counted, tables_more_child c.args.depth c.loop-i.i c.args.table.now w.in-Child.child c.read.result.now k wide c.loop-i-test.true c.read.ensures w.in-Child.is);
+        counted =
+            omega (
+              arith,
+              w.count-is,
+              rw w.deref.ensures at w.count_in-count.ensures.value,
+              c.loop-i.invariant.counted,
+              tables_more_child c.args.depth c.loop-i.i c.args.table.now w.in-Child.child c.read.result.now k
+                  wide c.loop-i-test.true c.read.ensures w.in-Child.is,
+            );
         small = omega (arith, w.count-is, w.count_in-count.ensures.small, c.loop-i.invariant.small);
       }
       | in_default w ↦ record {
-        counted = omega (arith, w.count-is, c.loop-i.invariant.counted, tables_more_word c.args.depth c.loop-i.i w.in_default.field-0 c.args.table.now c.read.result.now wide c.loop-i-test.true c.read.ensures w.in_default.is);
+        counted =
+            omega (
+              arith,
+              w.count-is,
+              c.loop-i.invariant.counted,
+              tables_more_word c.args.depth c.loop-i.i w.in_default.field-0 c.args.table.now c.read.result.now
+                  wide c.loop-i-test.true c.read.ensures w.in_default.is,
+            );
         small = omega (arith, w.count-is, c.loop-i.invariant.small);
       }
     ]
 
 pub returns-clause-value : goal.returns-clause-value
-returns-clause-value g t c = c.loop-i.invariant.counted ∙ tables_all c.args.depth c.loop-i.i c.args.table.now (shaped_wide c.args.depth c.args.table.now c.requires.shape) c.loop-i-test.false
+returns-clause-value g t c =
+    c.loop-i.invariant.counted
+    ∙ tables_all c.args.depth c.loop-i.i c.args.table.now
+    (shaped_wide c.args.depth c.args.table.now c.requires.shape) c.loop-i-test.false
 
 pub returns-clause-small : goal.returns-clause-small
 returns-clause-small g t c =
     let p = powers c.args.depth (omega (arith, c.if-depth-eq0.false)) c.requires.depth_in in
-    let m : c.loop-i.i * 1024 ^ (c.args.depth - 1) ≤ 512 * 1024 ^ (c.args.depth - 1) = mul-le-mul_right (1024 ^ (c.args.depth - 1)) c.loop-i.auto.i-end in
+    let m : c.loop-i.i * 1024 ^ (c.args.depth - 1) ≤ 512 * 1024 ^ (c.args.depth - 1) =
+    mul-le-mul_right (1024 ^ (c.args.depth - 1)) c.loop-i.auto.i-end in
     omega (arith, p.0, p.1.0, m, c.loop-i.invariant.small)

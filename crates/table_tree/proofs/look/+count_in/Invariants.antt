@@ -7,4 +7,9 @@ abbrev pub decreases-count_in : goal.decreases-count_in
 decreases-count_in g l = l.depth
 
 abbrev pub invariant-loop-i : goal.invariant-loop-i
-invariant-loop-i g l = record { counted : l.count ≡ 1 + sum_by (slot_tables l.depth) (take l.i (slots_of l.table)); small : l.count ≤ 1 + l.i * 1024 ^ (l.depth - 1) }
+invariant-loop-i g l =
+    record {
+      counted : l.count
+          ≡ 1 + sum_by (slot_tables l.depth) (take l.i (slots_of l.table));
+      small : l.count ≤ 1 + l.i * 1024 ^ (l.depth - 1);
+    }

@@ -23,8 +23,10 @@ returns-then-depth-eq0-clause-len g t c =
 
 pub returns-then-depth-eq0-clause-frames : goal.returns-then-depth-eq0-clause-frames
 returns-then-depth-eq0-clause-frames g t c =
-    pushed c.args.frames.now.items c.push.new.self.items c.frame.result (frame_of c.args.table.now) c.in_ok-push.ensures.items c.frame.ensures
-    ∙ ap (λ xs. map (λ (f : Frame). f.0) c.args.frames.now.items ++ xs) (sym (frames_last c.args.depth c.args.table.now c.if-depth-eq0.true))
+    pushed c.args.frames.now.items c.push.new.self.items c.frame.result
+    (frame_of c.args.table.now) c.in_ok-push.ensures.items c.frame.ensures
+    ∙ ap (λ xs. map (λ (f : Frame). f.0) c.args.frames.now.items ++ xs)
+    (sym (frames_last c.args.depth c.args.table.now c.if-depth-eq0.true))
 
 pub read-requires-clause-wide : goal.read-requires-clause-wide
 read-requires-clause-wide g t c = shaped_wide c.args.depth c.args.table.now c.requires.shape
@@ -36,13 +38,22 @@ loop-i-init g t c = record {
       let z : is_one c.frame.result.0 f ≡ is_one (frame_of c.args.table.now) f = ap (λ n. is_one n f) c.frame.ensures in
       let y = uses_start c.args.depth f c.args.table.now in
       omega (arith, x, y, z);
-  frames = pushed c.args.frames.now.items c.push.new.self.items c.frame.result (frame_of c.args.table.now) c.in_ok-push.ensures.items c.frame.ensures ∙ ap (λ xs. map (λ (f : Frame). f.0) c.args.frames.now.items ++ (frame_of c.args.table.now ∷ xs)) (sym (frames_start c.args.depth c.args.table.now));
-  len = let x = ap length c.in_ok-push.ensures.items in omega (arith, x, length-append c.args.frames.now.items (c.frame.result ∷ []));
+  frames =
+      pushed c.args.frames.now.items c.push.new.self.items c.frame.result
+      (frame_of c.args.table.now) c.in_ok-push.ensures.items c.frame.ensures
+      ∙ ap (λ xs. map (λ (f : Frame). f.0) c.args.frames.now.items ++ (frame_of c.args.table.now ∷ xs))
+      (sym (frames_start c.args.depth c.args.table.now));
+  len = let x = ap length c.in_ok-push.ensures.items in
+      omega (arith, x, length-append c.args.frames.now.items (c.frame.result ∷ []));
 }
 
 pub frames_in-requires : goal.frames_in-requires
 frames_in-requires g t c κs within =
-    let h = slot_child_is c.args.depth c.in-Child.child c.read.result.now (rw c.read.ensures (shaped_slot c.args.depth c.args.table.now c.loop-i.i c.requires.shape c.loop-i-test.true)) c.in-Child.is in
+    let h =
+    slot_child_is c.args.depth c.in-Child.child c.read.result.now
+    (rw c.read.ensures
+    (shaped_slot c.args.depth c.args.table.now c.loop-i.i c.requires.shape
+    c.loop-i-test.true)) c.in-Child.is in
     let le : 1 ≤ c.args.depth = h.0 in
     (omega (arith, c.decreases), (within, (omega (arith, c.requires.depth_in), rw c.deref.ensures h.1)))
 
@@ -54,29 +65,48 @@ loop-i-preserved g t c =
       | in-Child+in_ok-frames_in w ↦ record {
         frames =
             let x = rw w.deref.ensures at w.in_ok-frames_in.ensures.frames in
-            let y = frames_more_child c.args.depth c.loop-i.i c.args.table.now w.in-Child.child c.read.result.now k c.read.ensures w.in-Child.is in
-            rw w.frames-is (x ∙ joined_on (map (λ (f : Frame). f.0) c.args.frames.now.items) _ _ _ (map (λ (f : Frame). f.0) c.loop-i.frames.items) (frame_of c.args.table.now) c.loop-i.invariant.frames y);
+            let y =
+            frames_more_child c.args.depth c.loop-i.i c.args.table.now w.in-Child.child c.read.result.now k
+            c.read.ensures w.in-Child.is in
+            rw w.frames-is
+            (x
+            ∙ joined_on (map (λ (f : Frame). f.0) c.args.frames.now.items) _ _ _
+            (map (λ (f : Frame). f.0) c.loop-i.frames.items)
+            (frame_of c.args.table.now) c.loop-i.invariant.frames y);
         count = λ f.
             let x = rw w.deref.ensures at (w.in_ok-frames_in.ensures.count f) in
-            let y = uses_more_child c.args.depth c.loop-i.i f c.args.table.now w.in-Child.child c.read.result.now k wide c.loop-i-test.true c.read.ensures w.in-Child.is in
+            let y =
+            uses_more_child c.args.depth c.loop-i.i f c.args.table.now w.in-Child.child c.read.result.now k wide
+            c.loop-i-test.true c.read.ensures w.in-Child.is in
             let z = c.loop-i.invariant.count f in
             rw w.frames-is (omega (arith, x, y, z));
         len =
             let x = rw w.deref.ensures at w.in_ok-frames_in.ensures.len in
-            let y = tables_more_child c.args.depth c.loop-i.i c.args.table.now w.in-Child.child c.read.result.now k wide c.loop-i-test.true c.read.ensures w.in-Child.is in
+            let y =
+            tables_more_child c.args.depth c.loop-i.i c.args.table.now w.in-Child.child c.read.result.now k wide
+            c.loop-i-test.true c.read.ensures w.in-Child.is in
             let z = c.loop-i.invariant.len in
             rw w.frames-is (omega (arith, x, y, z));
       }
       | in_default w ↦ record {
         frames =
-            let y = frames_more_word c.args.depth c.loop-i.i w.in_default.field-0 c.args.table.now c.read.result.now c.read.ensures w.in_default.is in
-            rw w.frames-is (c.loop-i.invariant.frames ∙ ap (λ xs. map (λ (f : Frame). f.0) c.args.frames.now.items ++ (frame_of c.args.table.now ∷ xs)) (sym y));
+            let y =
+            frames_more_word c.args.depth c.loop-i.i w.in_default.field-0 c.args.table.now c.read.result.now
+            c.read.ensures w.in_default.is in
+            rw w.frames-is
+            (c.loop-i.invariant.frames
+            ∙ ap (λ xs. map (λ (f : Frame). f.0) c.args.frames.now.items ++ (frame_of c.args.table.now ∷ xs))
+            (sym y));
         count = λ f.
-            let y = uses_more_word c.args.depth c.loop-i.i f w.in_default.field-0 c.args.table.now c.read.result.now wide c.loop-i-test.true c.read.ensures w.in_default.is in
+            let y =
+            uses_more_word c.args.depth c.loop-i.i f w.in_default.field-0 c.args.table.now c.read.result.now wide
+            c.loop-i-test.true c.read.ensures w.in_default.is in
             let z = c.loop-i.invariant.count f in
             rw w.frames-is (omega (arith, y, z));
         len =
-            let y = tables_more_word c.args.depth c.loop-i.i w.in_default.field-0 c.args.table.now c.read.result.now wide c.loop-i-test.true c.read.ensures w.in_default.is in
+            let y =
+            tables_more_word c.args.depth c.loop-i.i w.in_default.field-0 c.args.table.now c.read.result.now wide
+            c.loop-i-test.true c.read.ensures w.in_default.is in
             let z = c.loop-i.invariant.len in
             rw w.frames-is (omega (arith, y, z));
       }
@@ -85,13 +115,20 @@ loop-i-preserved g t c =
 pub returns-clause-count : goal.returns-clause-count
 returns-clause-count g t c f =
     let x = c.loop-i.invariant.count f in
-    let y = uses_all c.args.depth c.loop-i.i f c.args.table.now (shaped_wide c.args.depth c.args.table.now c.requires.shape) c.loop-i-test.false in
+    let y =
+    uses_all c.args.depth c.loop-i.i f c.args.table.now
+    (shaped_wide c.args.depth c.args.table.now c.requires.shape) c.loop-i-test.false in
     omega (arith, x, y)
 
 pub returns-clause-len : goal.returns-clause-len
 returns-clause-len g t c =
-    let y = tables_all c.args.depth c.loop-i.i c.args.table.now (shaped_wide c.args.depth c.args.table.now c.requires.shape) c.loop-i-test.false in
+    let y =
+    tables_all c.args.depth c.loop-i.i c.args.table.now
+    (shaped_wide c.args.depth c.args.table.now c.requires.shape) c.loop-i-test.false in
     omega (arith, c.loop-i.invariant.len, y)
 
 pub returns-clause-frames : goal.returns-clause-frames
-returns-clause-frames g t c = c.loop-i.invariant.frames ∙ ap (λ xs. map (λ (f : Frame). f.0) c.args.frames.now.items ++ xs) (frames_all c.args.depth c.loop-i.i c.args.table.now c.loop-i.auto.i-end c.loop-i-test.false)
+returns-clause-frames g t c =
+    c.loop-i.invariant.frames
+    ∙ ap (λ xs. map (λ (f : Frame). f.0) c.args.frames.now.items ++ xs)
+    (frames_all c.args.depth c.loop-i.i c.args.table.now c.loop-i.auto.i-end c.loop-i-test.false)

@@ -13,7 +13,11 @@ decreases-frames_in g l = l.depth
 
 abbrev pub invariant-loop-i : goal.invariant-loop-i
 invariant-loop-i g l = record {
-  count : (f : ℕ) → frame_times f l.frames.items ≡ frame_times f l.fn.frames.items + is_one (frame_of l.table) f + uses_before l.depth f l.table l.i;
-  frames : map (λ (f : Frame). f.0) l.frames.items ≡ map (λ (f : Frame). f.0) l.fn.frames.items ++ (frame_of l.table ∷ frames_before l.depth l.table l.i);
-  len : length l.frames.items ≡ length l.fn.frames.items + 1 + sum_by (slot_tables l.depth) (take l.i (slots_of l.table));
+  count : (f : ℕ)
+      → frame_times f l.frames.items
+      ≡ frame_times f l.fn.frames.items + is_one (frame_of l.table) f + uses_before l.depth f l.table l.i;
+  frames : map (λ (f : Frame). f.0) l.frames.items
+      ≡ map (λ (f : Frame). f.0) l.fn.frames.items ++ (frame_of l.table ∷ frames_before l.depth l.table l.i);
+  len : length l.frames.items
+      ≡ length l.fn.frames.items + 1 + sum_by (slot_tables l.depth) (take l.i (slots_of l.table));
 }

@@ -10,4 +10,5 @@ below (suc (suc (suc zero))) q h = omega arith
 below (suc (suc (suc (suc d)))) q h = absurd (omega arith)
 
 pub advance-requires : goal.advance-requires
-advance-requires c = let x = below c.args.depth c.args.page c.requires in can_advance c.entry_of.result _ c.entry_of.ensures.small (omega (arith, x))
+advance-requires c = let x = below c.args.depth c.args.page c.requires in
+    can_advance c.entry_of.result _ c.entry_of.ensures.small (omega (arith, x))

@@ -8,12 +8,19 @@ use Rattle.trace_audit.proofs.auditing.tell_found.Goals as goal
 
 pub returns-in_err-tell_audited-clause-front : goal.returns-in_err-tell_audited-clause-front
 returns-in_err-tell_audited-clause-front g c =
-    on_err _ (front_first _ _ (audited_lines c.args.found) (report.End c.args.steps (length (audited_lines c.args.found)) ∷ []) c.in_err-tell_audited.ensures.front)
+    on_err _
+    (front_first _ _ (audited_lines c.args.found)
+    (report.End c.args.steps (length (audited_lines c.args.found)) ∷ []) c.in_err-tell_audited.ensures.front)
 
 pub returns-clause-front : goal.returns-clause-front
 returns-clause-front g c =
     let count : c.from.result ≡ length (audited_lines c.args.found) = search rules in
-    let told = subst (λ n. OnErr c.tell_end.result (WritesFront (report.End c.args.steps n ∷ []) (g.K.Sink.contents c.tell_audited.new.sink) (g.K.Sink.contents c.tell_end.new.sink))) count c.tell_end.ensures.front in
+    let told =
+    subst
+    (λ n. OnErr c.tell_end.result
+    (WritesFront (report.End c.args.steps n ∷ []) (g.K.Sink.contents c.tell_audited.new.sink)
+    (g.K.Sink.contents c.tell_end.new.sink))) count c.tell_end.ensures.front in
     when_err c.tell_end.result _ _
-    (λ front. front_behind _ (g.K.Sink.contents c.tell_audited.new.sink) _ (audited_lines c.args.found) (report.End c.args.steps (length (audited_lines c.args.found)) ∷ []) c.in_ok-tell_audited.ensures.ok front)
+    (λ front. front_behind _ (g.K.Sink.contents c.tell_audited.new.sink) _ (audited_lines c.args.found)
+    (report.End c.args.steps (length (audited_lines c.args.found)) ∷ []) c.in_ok-tell_audited.ensures.ok front)
     told

@@ -17,14 +17,25 @@ returns-clause-told g c =
       own = told_in c.in_ok-carried.carried.told.items;
       found = found;
       runs = c.in_ok-carried.ensures;
-      told_is = told ∙ ap (λ n. behind 0 n (audited_lines found) (told_in c.as_slice.result.now)) c.last_said.ensures ∙ ap (λ ts. behind 0 (last_said lines) (audited_lines found) (told_in ts)) c.as_slice.ensures.value;
+      told_is =
+          told ∙ ap (λ n. behind 0 n (audited_lines found) (told_in c.as_slice.result.now)) c.last_said.ensures
+          ∙ ap (λ ts. behind 0 (last_said lines) (audited_lines found) (told_in ts)) c.as_slice.ensures.value;
     })
     c.with_found.ensures.told
 
 pub returns-clause-few : goal.returns-clause-few
 returns-clause-few g c =
     let lines = map (λ line. line.now) c.args.lines.now in
-    let few = runs_few 1 nothing_audited lines (told_in c.in_ok-carried.carried.told.items) c.in_ok-carried.carried.found c.in_ok-carried.ensures in
+    let few =
+    runs_few 1 nothing_audited lines
+    (told_in c.in_ok-carried.carried.told.items) c.in_ok-carried.carried.found c.in_ok-carried.ensures in
     mapped c.with_found.result _ _
-    (λ all same. omega (arith, same, few, length-map c.args.lines.now (λ line. line.now), length-map c.in_ok-carried.carried.told.items (λ reported. reported.items), ap length c.as_slice.ensures.value))
+    (λ all same. omega (
+      arith,
+      same,
+      few,
+      length-map c.args.lines.now (λ line. line.now),
+      length-map c.in_ok-carried.carried.told.items (λ reported. reported.items),
+      ap length c.as_slice.ensures.value,
+    ))
     c.with_found.ensures.few

@@ -7,7 +7,8 @@ use Rattle.trace_cases.proofs.audited.carry_to_end.Given as goal
 
 abbrev pub invariant-loop-place : goal.invariant-loop-place
 invariant-loop-place g l = record {
-  goes : Goes (map (λ line. line.now) l.lines) (l.place + 1) (audited_of l.audit) (map (λ line. line.now) (drop l.place l.lines)) (told_in l.told.items);
+  goes : Goes (map (λ line. line.now) l.lines) (l.place + 1) (audited_of l.audit)
+      (map (λ line. line.now) (drop l.place l.lines)) (told_in l.told.items);
   ready : IsReady l.audit.session;
   few : (audited_of l.audit).session.steps ≤ l.place;
 }

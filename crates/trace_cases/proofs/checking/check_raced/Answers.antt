@@ -12,7 +12,11 @@ returns g c =
     mapped c.check_told_raced.result _ _
     (λ checked checks. record {
       raced = raced;
-      is = subst (λ ls. RacedOf ls (c.args.start + 1) (course_of 1 nothing_asked (lines_of c.args.trace.now)) raced) c.requires.lines c.in_ok-raced.ensures.raced;
+      is =
+          subst
+          (λ ls. RacedOf ls (c.args.start + 1)
+          (course_of 1 nothing_asked
+          (lines_of c.args.trace.now)) raced) c.requires.lines c.in_ok-raced.ensures.raced;
       checks = subst (λ ls. ChecksRaced c.args.name.now ls raced checked) c.requires.lines checks;
     })
     c.check_told_raced.ensures

@@ -11,7 +11,11 @@ returns g c =
     mapped c.record_told_raced.result _ _
     (λ text is. record {
       raced = raced;
-      is = subst (λ ls. RacedOf ls (c.args.start + 1) (course_of 1 nothing_asked (lines_of c.args.trace.now)) raced) c.requires.lines c.in_ok-raced.ensures.raced;
+      is =
+          subst
+          (λ ls. RacedOf ls (c.args.start + 1)
+          (course_of 1 nothing_asked
+          (lines_of c.args.trace.now)) raced) c.requires.lines c.in_ok-raced.ensures.raced;
       text_is = is;
     })
     c.record_told_raced.ensures

@@ -6,6 +6,7 @@ use Rattle.trace_cases.proofs.found.with_found.Given as goal
 
 abbrev pub invariant-loop-place : goal.invariant-loop-place
 invariant-loop-place l = record {
-  told : told_in l.all.items ++ behind l.place l.last (audited_lines l.found) (told_in (drop l.place l.told)) ≡ behind 0 l.last (audited_lines l.found) (told_in l.told);
+  told : told_in l.all.items ++ behind l.place l.last (audited_lines l.found) (told_in (drop l.place l.told))
+      ≡ behind 0 l.last (audited_lines l.found) (told_in l.told);
   few : length l.all.items ≡ l.place;
 }

@@ -7,5 +7,6 @@ abbrev pub invariant-loop-outcome : goal.invariant-loop-outcome
 invariant-loop-outcome l = record {
   missed : misses_in l.missed.items ≡ misses_in l.fn.missed.items;
   left :
-      other_missed l.steps l.number l.text (map (λ v. v.items) l.wanted) l.place (drop l.outcome-index l.found) ≡ other_missed l.steps l.number l.text (map (λ v. v.items) l.wanted) l.place l.found;
+      other_missed l.steps l.number l.text (map (λ v. v.items) l.wanted) l.place (drop l.outcome-index l.found)
+      ≡ other_missed l.steps l.number l.text (map (λ v. v.items) l.wanted) l.place l.found;
 }

@@ -9,6 +9,8 @@ pub returns-clause-told : goal.returns-clause-told
 returns-clause-told c =
     let lines = c.args.lines.now in
     let count = c.args.count in
-    padded_whole (λ line. line.now) lines count (told_in c.args.told.items) _ (omega (arith, c.if-len-count.false, c.len.ensures, length-map c.args.told.items (λ reported. reported.items)))
+    padded_whole (λ line. line.now) lines count (told_in c.args.told.items) _
+    (omega (arith, c.if-len-count.false, c.len.ensures, length-map c.args.told.items (λ reported. reported.items)))
     (c.in_ok-add_silences.ensures.told
-    ∙ ap (λ ls. told_in c.args.told.items ++ silences (map (λ line. line.now) ls)) (take_all (length lines - count) (drop count lines) (omega (arith, length-drop count lines))))
+    ∙ ap (λ ls. told_in c.args.told.items ++ silences (map (λ line. line.now) ls))
+    (take_all (length lines - count) (drop count lines) (omega (arith, length-drop count lines))))

@@ -7,7 +7,8 @@ use Rattle.trace_check.proofs.carrying.told_of_lines.Given as goal
 
 abbrev pub invariant-loop-place : goal.invariant-loop-place
 invariant-loop-place g l = record {
-  goes : Goes (map (λ line. line.now) l.lines) (l.place + 1) (standing_of l.session) (map (λ line. line.now) (drop l.place l.lines)) (told_in l.told.items);
+  goes : Goes (map (λ line. line.now) l.lines) (l.place + 1) (standing_of l.session)
+      (map (λ line. line.now) (drop l.place l.lines)) (told_in l.told.items);
   ready : IsReady l.session;
   few : (standing_of l.session).steps ≤ l.place;
 }

@@ -6,4 +6,7 @@ use Rattle.trace_check.proofs.checking.check_told.Goals as goal
 
 pub returns : goal.returns
 returns c =
-    subst (λ m. IfOk c.check_missed.result (ChecksMissed c.args.name.now (map (λ line. line.now) c.args.lines.now) (told_in c.args.told.now) m)) (ap misses_in c.as_slice.ensures.value ∙ c.in_ok-missed.ensures) c.check_missed.ensures
+    subst
+    (λ m. IfOk c.check_missed.result
+    (ChecksMissed c.args.name.now (map (λ line. line.now) c.args.lines.now) (told_in c.args.told.now) m))
+    (ap misses_in c.as_slice.ensures.value ∙ c.in_ok-missed.ensures) c.check_missed.ensures

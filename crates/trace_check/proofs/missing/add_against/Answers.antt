@@ -12,4 +12,5 @@ returns c =
     c.in_ok-add_past.ensures
     ∙ ap (λ l. l ++ extra c.args.number (drop (length c.args.texts.now) got)) c.in_ok-add_unmet.ensures
     ∙ append_assoc (misses_in c.args.found.now.items) own (extra c.args.number (drop (length c.args.texts.now) got))
-    ∙ ap (λ n. misses_in c.args.found.now.items ++ (own ++ extra c.args.number (drop n got))) (sym (length-map c.args.texts.now (λ text. text.now)))
+    ∙ ap (λ n. misses_in c.args.found.now.items ++ (own ++ extra c.args.number (drop n got)))
+    (sym (length-map c.args.texts.now (λ text. text.now)))

@@ -7,5 +7,15 @@ use Rattle.trace_check.proofs.recording.record.Goals as goal
 
 pub record_told-requires-clause-few : goal.record_told-requires-clause-few
 record_told-requires-clause-few g c =
-    let few = runs_few 1 at_start (map (λ line. line.now) c.as_slice.result.now) (told_in c.in_ok-carried.carried.told.items) c.in_ok-carried.ensures.told in
-    omega (arith, few, length-map c.as_slice.result.now (λ line. line.now), length-map c.in_ok-carried.carried.told.items (λ reported. reported.items), ap length c.as_slice.ensures.value, ap length c.as_slice-2.ensures.value, ap length c.as_slice-3.ensures.value)
+    let few =
+    runs_few 1 at_start (map (λ line. line.now) c.as_slice.result.now)
+    (told_in c.in_ok-carried.carried.told.items) c.in_ok-carried.ensures.told in
+    omega (
+      arith,
+      few,
+      length-map c.as_slice.result.now (λ line. line.now),
+      length-map c.in_ok-carried.carried.told.items (λ reported. reported.items),
+      ap length c.as_slice.ensures.value,
+      ap length c.as_slice-2.ensures.value,
+      ap length c.as_slice-3.ensures.value,
+    )

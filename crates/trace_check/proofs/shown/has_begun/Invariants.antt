@@ -5,4 +5,6 @@ use Rattle.trace_check.specs.Shown.{is_boot_or_fault}
 use Rattle.trace_check.proofs.shown.has_begun.Given as goal
 
 abbrev pub invariant-loop-reported : goal.invariant-loop-reported
-invariant-loop-reported l = list_any (list_any is_boot_or_fault) (told_in (drop l.reported-index l.told)) ≡ list_any (list_any is_boot_or_fault) (told_in l.told)
+invariant-loop-reported l =
+    list_any (list_any is_boot_or_fault) (told_in (drop l.reported-index l.told))
+    ≡ list_any (list_any is_boot_or_fault) (told_in l.told)

@@ -3,4 +3,8 @@ use Rattle.trace_cli.proofs.Together.{IsAhead}
 use Rattle.trace_cli.proofs.covering.covered.Given as goal
 
 abbrev pub invariant-loop-path : goal.invariant-loop-path
-invariant-loop-path g l = record { ahead : IsAhead g.F.Read.remaining (g.O.Opens.opens l.files) (map (λ path. path.now) l.paths) l.path-index l.seen.items l.faulty }
+invariant-loop-path g l =
+    record {
+      ahead : IsAhead g.F.Read.remaining (g.O.Opens.opens l.files)
+          (map (λ path. path.now) l.paths) l.path-index l.seen.items l.faulty;
+    }

@@ -12,7 +12,8 @@ returns c =
     let has : App → App = λ a. record a { top = record a.top { has_version = true } } in
     let plain = ap app_of_fields c.about.ensures ∙ ap app_of_fields c.in_ok-named.ensures.0 ∙ c.new.ensures.app in
     let versioned = ap app_of_fields c.version.ensures ∙ ap has plain in
-    let needed = ap app_of_fields c.subcommand_required.ensures ∙ ap needs (ap app_of_fields c.after_help.ensures ∙ versioned) in
+    let needed =
+    ap app_of_fields c.subcommand_required.ensures ∙ ap needs (ap app_of_fields c.after_help.ensures ∙ versioned) in
     let start = ap app_of_fields c.arg_required_else_help-form.ensures ∙ ap helps needed in
     let one = c.in_ok-form.ensures.app ∙ ap₂ with_subcommand start (ap top_of c.in_ok-replay.ensures.app) in
     let two = c.in_ok-form-2.ensures.app ∙ ap₂ with_subcommand one (ap top_of c.in_ok-race.ensures.app) in
@@ -23,4 +24,5 @@ returns c =
     let seven = c.in_ok-form-7.ensures.app ∙ ap₂ with_subcommand six (ap top_of c.in_ok-explain.ensures.app) in
     let eight = c.in_ok-form-8.ensures.app ∙ ap₂ with_subcommand seven (ap top_of c.in_ok-generate.ensures.app) in
     let nine = c.in_ok-form-9.ensures.app ∙ ap₂ with_subcommand eight (ap top_of c.in_ok-draw.ensures.app) in
-    IfOk-weaker c.with_form-10.result _ _ (λ r h. h ∙ ap₂ with_subcommand nine (ap top_of c.in_ok-dump.ensures.app)) c.with_form-10.ensures.app
+    IfOk-weaker c.with_form-10.result _ _
+    (λ r h. h ∙ ap₂ with_subcommand nine (ap top_of c.in_ok-dump.ensures.app)) c.with_form-10.ensures.app

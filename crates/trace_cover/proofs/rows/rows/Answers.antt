@@ -6,4 +6,6 @@ use Rattle.trace_cover.proofs.rows.rows.Goals as goal
 
 pub returns : goal.returns
 unfolding rows
-returns c = c.in_ok-add_rows.ensures ∙ ap₂ (λ (a : List Row) (b : List CallName). a ++ rows_in b) c.new-rows.ensures.items c.all.ensures
+returns c =
+    c.in_ok-add_rows.ensures
+    ∙ ap₂ (λ (a : List Row) (b : List CallName). a ++ rows_in b) c.new-rows.ensures.items c.all.ensures

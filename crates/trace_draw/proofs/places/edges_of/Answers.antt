@@ -8,7 +8,8 @@ loop-column-preserved c =
     let before = c.loop-column.invariant in
     let more = c.in_ok-push.ensures.items in
     record {
-      count = omega (arith, before.count, ap length more, length-append c.loop-column.edges.items (c.loop-column.at ∷ []));
+      count =
+          omega (arith, before.count, ap length more, length-append c.loop-column.edges.items (c.loop-column.at ∷ []));
       order = order_more _ _ _ before.order before.before more;
       before = before_more _ _ _ _ more (right_of _ _ _ c.width_of.ensures c.saturating_add-at.ensures);
     }
@@ -16,4 +17,5 @@ loop-column-preserved c =
 pub returns : goal.returns
 returns c =
     let before = c.loop-column.invariant in
-    whole_edges _ _ _ _ (omega (arith, before.count, c.loop-column-test.false)) before.order before.before c.in_ok-push-2.ensures.items
+    whole_edges _ _ _ _
+    (omega (arith, before.count, c.loop-column-test.false)) before.order before.before c.in_ok-push-2.ensures.items

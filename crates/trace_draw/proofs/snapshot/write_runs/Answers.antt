@@ -9,12 +9,20 @@ use Rattle.trace_draw.proofs.Pictures.{text_more}
 use Rattle.trace_draw.proofs.snapshot.write_runs.Goals as goal
 
 abbrev blank : Run Row
-blank = record { pages = record { first = record { 0 = 0 }; count = 0 }; value = record { owner = record { 0 = 0 }; lent = None; usage = Plain } }
+blank =
+    record {
+      pages = record { first = record { 0 = 0 }; count = 0 };
+      value = record { owner = record { 0 = 0 }; lent = None; usage = Plain };
+    }
 
 pub loop-run-preserved : goal.loop-run-preserved
 loop-run-preserved c =
     let run = get_or c.args.runs.now c.loop-run.run-index blank in
     record {
-      written = text_more line_of_run c.args.runs.now c.loop-run.run-index run (string_bytes c.args.text.now) (string_bytes c.loop-run.text) (string_bytes c.write_run.new.text)
-          c.loop-run-test.true (get_or_default c.args.runs.now c.loop-run.run-index blank run c.loop-run-test.true) c.loop-run.invariant.written c.in_ok-write_run.ensures;
+      written =
+          text_more line_of_run c.args.runs.now c.loop-run.run-index run (string_bytes c.args.text.now)
+          (string_bytes c.loop-run.text) (string_bytes c.write_run.new.text)
+          c.loop-run-test.true
+          (get_or_default c.args.runs.now c.loop-run.run-index blank run
+          c.loop-run-test.true) c.loop-run.invariant.written c.in_ok-write_run.ensures;
     }

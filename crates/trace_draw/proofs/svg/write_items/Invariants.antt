@@ -4,4 +4,8 @@ use Rattle.trace_draw.specs.Items.{text_of_item}
 use Rattle.trace_draw.proofs.svg.write_items.Given as goal
 
 abbrev pub invariant-loop-item : goal.invariant-loop-item
-invariant-loop-item l = record { written : string_bytes l.svg ≡ string_bytes l.initial.svg ++ flat_map text_of_item (take l.item-index l.items) }
+invariant-loop-item l =
+    record {
+      written : string_bytes l.svg
+          ≡ string_bytes l.initial.svg ++ flat_map text_of_item (take l.item-index l.items);
+    }

@@ -7,5 +7,9 @@ use Rattle.trace_explain.proofs.explaining.add_changed_to.Goals as goal
 
 pub returns : goal.returns
 returns g c =
-    subst (λ (x : Contents). OnOk c.add_changes-told.result (Adds (TellsAll (contents_in c.args.before.now) x c.args.cpu) c.args.text.now.items c.add_changes-told.new.text.items))
+    subst
+    (λ (x : Contents). OnOk c.add_changes-told.result
+    (Adds
+    (TellsAll (contents_in c.args.before.now) x c.args.cpu) c.args.text.now.items
+    c.add_changes-told.new.text.items))
     (ap (λ (s : Reference). s.contents) c.in_ok-after.ensures.state) c.add_changes-told.ensures

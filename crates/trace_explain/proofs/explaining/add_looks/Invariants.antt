@@ -6,4 +6,5 @@ use Rattle.trace_explain.proofs.explaining.add_looks.Given as goal
 
 abbrev pub invariant-loop-look : goal.invariant-loop-look
 invariant-loop-look g l =
-    l.text.items ++ look_lines (machine_of l.world) l.cpu (looks_in (drop l.look-index l.looks)) ≡ l.fn.text.items ++ look_lines (machine_of l.world) l.cpu (looks_in l.looks)
+    l.text.items ++ look_lines (machine_of l.world) l.cpu (looks_in (drop l.look-index l.looks))
+    ≡ l.fn.text.items ++ look_lines (machine_of l.world) l.cpu (looks_in l.looks)

@@ -9,13 +9,21 @@ use Rattle.trace_text.specs.View.{standing_of}
 
 pub returns : goal.returns
 returns g c =
-    ends_clean c.args.only c.args.name.now (lines_in c.args.lines.now) c.loop-place.place (standing_of c.loop-place.session) c.loop-place.text.items
-    (omega (arith, length-map c.args.lines.now (λ line. line.now), c.loop-place-test.false)) c.loop-place.invariant.ahead
+    ends_clean c.args.only c.args.name.now (lines_in c.args.lines.now) c.loop-place.place
+    (standing_of c.loop-place.session) c.loop-place.text.items
+    (omega
+    (arith, length-map c.args.lines.now (λ line. line.now), c.loop-place-test.false)) c.loop-place.invariant.ahead
 
 pub returns-in-Some : goal.returns-in-Some
 returns-in-Some g c =
     let carried =
-    subst (λ (f : Option Fault). IsCarriedAt (is_shown c.args.only (c.loop-place.place + 1)) c.args.lines.now c.loop-place.place c.loop-place.session c.loop-place.text.items c.carry_line.new.session c.carry_line.new.text.items f)
+    subst
+    (λ (f : Option Fault). IsCarriedAt
+    (is_shown c.args.only (c.loop-place.place + 1)) c.args.lines.now c.loop-place.place c.loop-place.session
+    c.loop-place.text.items c.carry_line.new.session c.carry_line.new.text.items f)
     c.in-Some.is c.in_ok-stopped.ensures.done in
-    ends_at_fault c.args.only c.args.name.now (lines_in c.args.lines.now) c.loop-place.place (standing_of c.loop-place.session) (standing_of c.carry_line.new.session) c.loop-place.text.items
-    (omega (arith, length-map c.args.lines.now (λ line. line.now), c.loop-place-test.true)) c.loop-place.invariant.ahead c.carry_line.new.text.items c.add_fault.new.text.items c.in-Some.fault carried c.in_ok-add_fault.ensures
+    ends_at_fault c.args.only c.args.name.now (lines_in c.args.lines.now) c.loop-place.place
+    (standing_of c.loop-place.session) (standing_of c.carry_line.new.session) c.loop-place.text.items
+    (omega
+    (arith, length-map c.args.lines.now (λ line. line.now), c.loop-place-test.true)) c.loop-place.invariant.ahead
+    c.carry_line.new.text.items c.add_fault.new.text.items c.in-Some.fault carried c.in_ok-add_fault.ensures

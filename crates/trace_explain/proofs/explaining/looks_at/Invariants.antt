@@ -5,4 +5,6 @@ use Rattle.trace_text.specs.View.{machine_of}
 use Rattle.trace_explain.proofs.explaining.looks_at.Given as goal
 
 abbrev pub invariant-loop-place : goal.invariant-loop-place
-invariant-loop-place g l = looks_in l.looks.items ≡ map (λ place. (place, told_at (machine_of l.world) l.cpu place)) (take l.place-index l.places)
+invariant-loop-place g l =
+    looks_in l.looks.items
+    ≡ map (λ place. (place, told_at (machine_of l.world) l.cpu place)) (take l.place-index l.places)

@@ -14,5 +14,7 @@ returns g c =
     let part = c.in_ok-part.part.now in
     let inside : c.args.slot < length c.deref.result.now = c.in_ok-part.ensures.lookup.3.0 in
     let at : part ≡ get_or c.deref.result.now c.args.slot part = c.in_ok-part.ensures.lookup.1 in
-    let is = held_at c.args.world.now c.args.slot part (subst (λ xs. c.args.slot < length xs) all inside) (subst (λ xs. part ≡ get_or xs c.args.slot part) all at) in
+    let is =
+    held_at c.args.world.now c.args.slot part (subst (λ xs. c.args.slot < length xs) all inside)
+    (subst (λ xs. part ≡ get_or xs c.args.slot part) all at) in
     subst (λ o. MatchOption c.body.result (o ≡ None) (λ b. o ≡ Some b.now)) (sym is) c.body.ensures

@@ -7,4 +7,5 @@ use Rattle.vm_table.specs.View.{vms_of}
 pub returns : goal.returns
 returns g c =
     in_table c.told_vcpu.result string_bytes c.args.slot _ _ (omega (arith, c.if-slot-ge-SLOTS.false))
-    (subst (λ s. IfOk c.told_vcpu.result (λ text. string_bytes text ≡ text_of_vcpu s c.args.vcpu)) (c.slot.ensures ∙ ap (λ p. (vms_of p.vms.table).slot c.args.slot) c.parts.ensures) c.told_vcpu.ensures)
+    (subst (λ s. IfOk c.told_vcpu.result (λ text. string_bytes text ≡ text_of_vcpu s c.args.vcpu))
+    (c.slot.ensures ∙ ap (λ p. (vms_of p.vms.table).slot c.args.slot) c.parts.ensures) c.told_vcpu.ensures)

@@ -9,4 +9,6 @@ first (byte ∷ bytes) = refl
 pub returns-then-left-eq0 : goal.returns-then-left-eq0
 returns-then-left-eq0 c =
     let rest = drop c.loop-index.index c.args.line.now in
-    sym (c.loop-index.invariant ∙ ap (λ n. c.loop-index.index + n) (ap (word_column rest) c.if-left-eq0.true ∙ first rest))
+    sym
+    (c.loop-index.invariant
+    ∙ ap (λ n. c.loop-index.index + n) (ap (word_column rest) c.if-left-eq0.true ∙ first rest))

@@ -13,9 +13,13 @@ loop-number-preserved g c =
     let s = ghost_state c.loop-number.state in
     let call = subst (λ m. IsCallOf m c.is_hostile-hostile.result s c.in_ok-call.call) kept c.in_ok-call.ensures.call in
     let wanted = subst (λ h. IsCallOf l h s c.in_ok-call.call) c.is_hostile-hostile.ensures call in
-    let next = subst (λ m. ghost_state c.next_call.new.state ≡ after m s c.in_ok-call.call) kept c.in_ok-call.ensures.state in
+    let next =
+    subst (λ m. ghost_state c.next_call.new.state ≡ after m s c.in_ok-call.call) kept c.in_ok-call.ensures.state in
     record {
       layout = c.in_ok-call.ensures.layout ∙ kept;
-      made = one_more l c.args.options.hostile (ghost_state c.args.state.now) (string_bytes c.args.text.now) c.loop-number.number s (string_bytes c.loop-number.text)
-          c.in_ok-call.call (ghost_state c.next_call.new.state) (string_bytes c.write_call.new.text) c.loop-number.invariant.made wanted next c.in_ok-write_call.ensures;
+      made =
+          one_more l c.args.options.hostile (ghost_state c.args.state.now)
+          (string_bytes c.args.text.now) c.loop-number.number s (string_bytes c.loop-number.text)
+          c.in_ok-call.call (ghost_state c.next_call.new.state)
+          (string_bytes c.write_call.new.text) c.loop-number.invariant.made wanted next c.in_ok-write_call.ensures;
     }

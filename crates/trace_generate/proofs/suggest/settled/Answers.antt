@@ -12,5 +12,9 @@ returns c =
     let accepted = subst (λ g. IsAccepted g.layout.map) c.lists.ensures.value c.regions.ensures.accepted in
     let cpu = subst (λ g. c.below-cpu.result < g.layout.config.cpus) c.lists.ensures.value c.below-cpu.ensures.below in
     let carve = c.carve.ensures.value ∙ ap (λ g. g.layout.map.carve) c.lists.ensures.value in
-    let step = c.settled_step-step.ensures ∙ ap (λ p. if c.args.hostile then ShareHyp 0xffff_ffff_ffff_ffff else OwnerOf p.first.0) carve in
-    settled_call (layout_of c.args.state.now.layout) (ghost_state c.args.state.now) c.below-cpu.result c.args.hostile c.settled_step-step.result accepted c.requires.rooms cpu step
+    let step =
+    c.settled_step-step.ensures
+    ∙ ap (λ p. if c.args.hostile then ShareHyp 0xffff_ffff_ffff_ffff else OwnerOf p.first.0) carve in
+    settled_call (layout_of c.args.state.now.layout)
+    (ghost_state c.args.state.now) c.below-cpu.result c.args.hostile c.settled_step-step.result accepted
+    c.requires.rooms cpu step

@@ -13,13 +13,26 @@ taken P o x e h = subst (λ p. IfSome p P) e h
 
 pub returns-in-Ok-None-clause-fault : goal.returns-in-Ok-None-clause-fault
 returns-in-Ok-None-clause-fault c =
-    let depth = ap (λ k. k.geometry) c.config.ensures ∙ width_is c.args.options.geometry c.in-Some.geometry (sym c.of_bits.ensures ∙ c.in-Some.is) in (
+    let depth =
+    ap (λ k. k.geometry) c.config.ensures
+    ∙ width_is c.args.options.geometry c.in-Some.geometry (sym c.of_bits.ensures ∙ c.in-Some.is) in (
       c.requires,
-      inr
-          (record { memory = c.in-Ok.map; config = c.config.result; depth = levels_below c.in-Some.geometry }, record { memory = search rules; config = search rules; depth = depth }, λ e. not_some _ c.in-Ok-None.field-0-is (c.in-Ok-None.ensures.enough.1 e)),
+      inr (
+        record { memory = c.in-Ok.map; config = c.config.result; depth = levels_below c.in-Some.geometry },
+        record { memory = search rules; config = search rules; depth = depth },
+        λ e. not_some _ c.in-Ok-None.field-0-is (c.in-Ok-None.ensures.enough.1 e),
+      ),
     )
 
 pub returns-in-Ok-Some-clause-layout : goal.returns-in-Ok-Some-clause-layout
 returns-in-Ok-Some-clause-layout c =
-    let depth = ap (λ k. k.geometry) c.config.ensures ∙ width_is c.args.options.geometry c.in-Some.geometry (sym c.of_bits.ensures ∙ c.in-Some.is) in
-    record { memory = search rules; config = search rules; depth = subst (λ m. HasItsDepth (layout_of m)) (sym (taken _ _ _ c.in-Ok-Some.field-0-is c.in-Ok-Some.ensures.layout)) depth }
+    let depth =
+    ap (λ k. k.geometry) c.config.ensures
+    ∙ width_is c.args.options.geometry c.in-Some.geometry (sym c.of_bits.ensures ∙ c.in-Some.is) in
+    record {
+      memory = search rules;
+      config = search rules;
+      depth =
+          subst (λ m. HasItsDepth (layout_of m))
+          (sym (taken _ _ _ c.in-Ok-Some.field-0-is c.in-Ok-Some.ensures.layout)) depth;
+    }

@@ -8,4 +8,6 @@ use Rattle.trace_outcomes.proofs.booting.boot_state.Goals as goal
 pub returns-in-Err : goal.returns-in-Err
 returns-in-Err c =
     let config = config_of (told_of c.args.settings.now) in
-    stops_boot (memory_of c.args.settings.now.regions.items c.args.carve) config c.in-Err.stop (subst (λ rs. IsNoWorld c.in-Err.stop (memory_of rs c.args.carve) config) c.as_slice.ensures.value (c.in-Err.ensures config))
+    stops_boot (memory_of c.args.settings.now.regions.items c.args.carve) config c.in-Err.stop
+    (subst (λ rs. IsNoWorld c.in-Err.stop (memory_of rs c.args.carve) config) c.as_slice.ensures.value
+    (c.in-Err.ensures config))

@@ -6,4 +6,6 @@ use Rattle.trace_race.proofs.Generations.{boot_to}
 use Rattle.trace_outcomes.proofs.finding.find_outcomes.Goals as goal
 
 pub found_from-requires-clause-low : goal.found_from-requires-clause-low
-found_from-requires-clause-low g c = subst (λ (s : Reference). HasGenerationsTo 1 s.contents) (sym c.in-Ok.ensures.state_is) (boot_to (layout_of c.in-Ok.state.layout))
+found_from-requires-clause-low g c =
+    subst (λ (s : Reference). HasGenerationsTo 1 s.contents) (sym c.in-Ok.ensures.state_is)
+    (boot_to (layout_of c.in-Ok.state.layout))

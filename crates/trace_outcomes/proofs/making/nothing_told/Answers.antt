@@ -10,4 +10,6 @@ loop-asked-preserved c =
     let place = c.loop-asked.asked-index in
     let items = c.loop-asked.texts.items in
     let rest = nothing_wanted (drop (place + 1) steps) in
-    ap (λ t. t ++ rest) (search rules) ∙ append_assoc items (None ∷ []) rest ∙ ap (λ t. items ++ t) (sym (at_drop_more nothing_wanted steps place no_step c.loop-asked-test.true)) ∙ c.loop-asked.invariant
+    ap (λ t. t ++ rest) (search rules) ∙ append_assoc items (None ∷ []) rest
+    ∙ ap (λ t. items ++ t) (sym (at_drop_more nothing_wanted steps place no_step c.loop-asked-test.true))
+    ∙ c.loop-asked.invariant

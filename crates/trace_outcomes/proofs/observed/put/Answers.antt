@@ -9,7 +9,12 @@ pub returns-clause-told : goal.returns-clause-told
 returns-clause-told c =
     let items = c.args.texts.now.items in
     let reply : is_reply c.args.text.now ≡ true = search rules in
-    let none : slice_get items c.args.place ≡ Some None = none_there items c.args.place c.index.result.now c.requires c.index.ensures (sym c.is_some.ensures ∙ c.if-is_some.false) in
+    let none : slice_get items c.args.place ≡ Some None =
+    none_there items c.args.place c.index.result.now c.requires c.index.ensures
+    (sym c.is_some.ensures ∙ c.if-is_some.false) in
     let there : c.replace.new.dest ≡ Some c.in_ok-text.text = c.replace.ensures.after in
-    subst (λ (o : Option (Vec ℕ Global)). put (texts_in items) c.args.place c.args.text.now ≡ Ok (texts_in (slice_set items c.args.place o))) (sym there)
+    subst
+    (λ (o : Option (Vec ℕ Global)). put (texts_in items) c.args.place c.args.text.now
+    ≡ Ok (texts_in (slice_set items c.args.place o)))
+    (sym there)
     (put_down items c.args.place c.args.text.now c.in_ok-text.text reply none c.in_ok-text.ensures.items)

@@ -10,7 +10,11 @@ returns-then-number-gt-MOST_LINES c =
     let ls = map (λ line. line.now) c.args.lines.now in
     record {
       sound = tt;
-      asked = c.loop-place.invariant.asked ∙ past_line ls c.loop-place.place (c.loop-place.place + 1) (course_in c.loop-place.course) (omega (arith, length-map c.args.lines.now (λ line. line.now), c.loop-place-test.true)) (omega (arith, c.if-number-gt-MOST_LINES.true));
+      asked =
+          c.loop-place.invariant.asked
+          ∙ past_line ls c.loop-place.place (c.loop-place.place + 1) (course_in c.loop-place.course)
+          (omega (arith, length-map c.args.lines.now (λ line. line.now), c.loop-place-test.true))
+          (omega (arith, c.if-number-gt-MOST_LINES.true));
     }
 
 pub returns-in-Err-Fault : goal.returns-in-Err-Fault
@@ -21,8 +25,14 @@ returns-in-Err-Fault c =
     record {
       sound = tt;
       asked = c.loop-place.invariant.asked
-          ∙ fault_line ls place (place + 1) (omega (arith, length-map c.args.lines.now (λ line. line.now), c.loop-place-test.true)) (omega (arith, c.if-number-gt-MOST_LINES.false)) course c.in-Err-Fault.fault _ (sym (get_or-map (λ line. line.now) c.args.lines.now place _ [] c.loop-place-test.true))
-          (takes_fault (Unit {0}) (place + 1) _ _ course (course_in c.read.new.self) c.in-Err-Fault.field-0 c.in-Err-Fault.fault refl c.in-Err-Fault.field-0-is c.in-Err-Fault.ensures.takes) ∙ ap (λ f. Err (place + 1, f)) (sym c.in-Err-Fault.fault-is);
+          ∙ fault_line ls place (place + 1)
+          (omega (arith, length-map c.args.lines.now (λ line. line.now), c.loop-place-test.true))
+          (omega (arith, c.if-number-gt-MOST_LINES.false)) course c.in-Err-Fault.fault _
+          (sym (get_or-map (λ line. line.now) c.args.lines.now place _ [] c.loop-place-test.true))
+          (takes_fault (Unit {0}) (place + 1) _ _ course
+          (course_in c.read.new.self) c.in-Err-Fault.field-0 c.in-Err-Fault.fault refl c.in-Err-Fault.field-0-is
+          c.in-Err-Fault.ensures.takes)
+          ∙ ap (λ f. Err (place + 1, f)) (sym c.in-Err-Fault.fault-is);
     }
 
 pub loop-place-preserved : goal.loop-place-preserved
@@ -33,5 +43,10 @@ loop-place-preserved c =
     record {
       sound = c.in-Ok.ensures.sound;
       asked = c.loop-place.invariant.asked
-          ∙ one_line ls place (place + 1) (omega (arith, length-map c.args.lines.now (λ line. line.now), c.loop-place-test.true)) (omega (arith, c.if-number-gt-MOST_LINES.false)) course (course_in c.read.new.self) _ (sym (get_or-map (λ line. line.now) c.args.lines.now place _ [] c.loop-place-test.true)) c.in-Ok.ensures.takes;
+          ∙ one_line ls place (place + 1)
+          (omega (arith, length-map c.args.lines.now (λ line. line.now), c.loop-place-test.true))
+          (omega (arith, c.if-number-gt-MOST_LINES.false)) course (course_in c.read.new.self) _
+          (sym
+          (get_or-map (λ line. line.now) c.args.lines.now place _
+          [] c.loop-place-test.true)) c.in-Ok.ensures.takes;
     }

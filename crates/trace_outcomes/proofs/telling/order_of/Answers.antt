@@ -14,20 +14,41 @@ use Rattle.trace_outcomes.proofs.telling.order_of.Goals as goal
 pub returns-in-Texts : goal.returns-in-Texts
 returns-in-Texts g c =
     let steps = c.args.course.now.steps.items in
-    let read = subst (IsReportOf (told_in c.args.name.now c.as_slice-2.result.now 1 (texts_in c.in_ok-texts.texts.items) (lines_of c.args.report.now))) c.in-Texts.is c.in_ok-texts-2.ensures.told in
+    let read =
+    subst
+    (IsReportOf
+    (told_in c.args.name.now c.as_slice-2.result.now 1 (texts_in c.in_ok-texts.texts.items)
+    (lines_of c.args.report.now))) c.in-Texts.is c.in_ok-texts-2.ensures.told in
     let told : told_in c.args.name.now steps 1 (nothing_told steps) (lines_of c.args.report.now) ≡ Ok (texts_in c.in-Texts.texts.items) =
-    sym (ap (λ xs. told_in c.args.name.now xs 1 (texts_in c.in_ok-texts.texts.items) (lines_of c.args.report.now)) c.as_slice-2.ensures.value
-    ∙ ap (λ ts. told_in c.args.name.now steps 1 (texts_in ts) (lines_of c.args.report.now)) (c.in_ok-texts.ensures ∙ ap nothing_wanted c.as_slice.ensures.value)
+    sym
+    (ap
+    (λ xs. told_in c.args.name.now xs 1 (texts_in c.in_ok-texts.texts.items)
+    (lines_of c.args.report.now)) c.as_slice-2.ensures.value
+    ∙ ap (λ ts. told_in c.args.name.now steps 1 (texts_in ts) (lines_of c.args.report.now))
+    (c.in_ok-texts.ensures ∙ ap nothing_wanted c.as_slice.ensures.value)
     ∙ ap (λ ts. told_in c.args.name.now steps 1 ts (lines_of c.args.report.now)) (texts_nothing steps)) ∙ read in
-    mapped c.order_by.result _ _ (λ t tells. subst (λ r. TellsBy c.args.limit (course_in c.args.course.now) r t) (sym told) (subst (λ ts. TellsBy c.args.limit (course_in c.args.course.now) (Ok (texts_in ts)) t) c.as_slice-in-Texts.ensures.value tells)) c.order_by.ensures
+    mapped c.order_by.result _ _
+    (λ t tells. subst (λ r. TellsBy c.args.limit (course_in c.args.course.now) r t) (sym told)
+    (subst
+    (λ ts. TellsBy c.args.limit (course_in c.args.course.now)
+    (Ok (texts_in ts)) t) c.as_slice-in-Texts.ensures.value tells)) c.order_by.ensures
 
 pub returns-in-Fault : goal.returns-in-Fault
 returns-in-Fault g c =
     let steps = c.args.course.now.steps.items in
-    let read = subst (IsReportOf (told_in c.args.name.now c.as_slice-2.result.now 1 (texts_in c.in_ok-texts.texts.items) (lines_of c.args.report.now))) c.in-Fault.is c.in_ok-texts-2.ensures.told in
+    let read =
+    subst
+    (IsReportOf
+    (told_in c.args.name.now c.as_slice-2.result.now 1 (texts_in c.in_ok-texts.texts.items)
+    (lines_of c.args.report.now))) c.in-Fault.is c.in_ok-texts-2.ensures.told in
     let told : told_in c.args.name.now steps 1 (nothing_told steps) (lines_of c.args.report.now) ≡ Err c.in-Fault.text.items =
-    sym (ap (λ xs. told_in c.args.name.now xs 1 (texts_in c.in_ok-texts.texts.items) (lines_of c.args.report.now)) c.as_slice-2.ensures.value
-    ∙ ap (λ ts. told_in c.args.name.now steps 1 (texts_in ts) (lines_of c.args.report.now)) (c.in_ok-texts.ensures ∙ ap nothing_wanted c.as_slice.ensures.value)
+    sym
+    (ap
+    (λ xs. told_in c.args.name.now xs 1 (texts_in c.in_ok-texts.texts.items)
+    (lines_of c.args.report.now)) c.as_slice-2.ensures.value
+    ∙ ap (λ ts. told_in c.args.name.now steps 1 (texts_in ts) (lines_of c.args.report.now))
+    (c.in_ok-texts.ensures ∙ ap nothing_wanted c.as_slice.ensures.value)
     ∙ ap (λ ts. told_in c.args.name.now steps 1 ts (lines_of c.args.report.now)) (texts_nothing steps)) ∙ read in
     let said : Told = record { text = c.in-Fault.text; outcome = Fault; fault = None } in
-    subst (λ r. TellsBy c.args.limit (course_in c.args.course.now) r said) (sym told) (record { text_is = refl; outcome_is = refl; fault_is = refl })
+    subst (λ r. TellsBy c.args.limit (course_in c.args.course.now) r said) (sym told)
+    (record { text_is = refl; outcome_is = refl; fault_is = refl })

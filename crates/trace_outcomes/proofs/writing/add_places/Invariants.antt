@@ -3,4 +3,5 @@ use Rattle.trace_outcomes.specs.Texts.{places_said}
 use Rattle.trace_outcomes.proofs.writing.add_places.Given as goal
 
 abbrev pub invariant-loop-place : goal.invariant-loop-place
-invariant-loop-place l = l.text.items ++ places_said l.steps (drop l.place-index l.order) ≡ l.fn.text.items ++ places_said l.steps l.order
+invariant-loop-place l =
+    l.text.items ++ places_said l.steps (drop l.place-index l.order) ≡ l.fn.text.items ++ places_said l.steps l.order

@@ -10,11 +10,17 @@ use Rattle.trace_race.proofs.booting.boot_world.Goals as goal
 pub returns-in-Err : goal.returns-in-Err
 returns-in-Err c =
     let config = config_of (told_of c.args.settings.now) in
-    stops_boot (memory_of c.args.settings.now.regions.items c.args.carve) config c.in-Err.stop (subst (λ rs. IsNoWorld c.in-Err.stop (memory_of rs c.args.carve) config) c.as_slice.ensures.value (c.in-Err.ensures config))
+    stops_boot (memory_of c.args.settings.now.regions.items c.args.carve) config c.in-Err.stop
+    (subst (λ rs. IsNoWorld c.in-Err.stop (memory_of rs c.args.carve) config) c.as_slice.ensures.value
+    (c.in-Err.ensures config))
 
 pub returns : goal.returns
 returns c =
     let config = config_of (told_of c.args.settings.now) in
-    let booted : Booted = record { world = c.in-Ok-boot.world; line = c.boot_line-line.result; state = c.in-Ok-to_ghost.state } in
-    booted_of (memory_of c.args.settings.now.regions.items c.args.carve) c.in-Ok.map config c.config.result booted (c.in-Ok.ensures.0 ∙ ap (λ (rs : List Region). memory_of rs c.args.carve) c.as_slice.ensures.value) c.config.ensures c.in-Ok-boot.ensures
+    let booted : Booted =
+    record { world = c.in-Ok-boot.world; line = c.boot_line-line.result; state = c.in-Ok-to_ghost.state } in
+    booted_of (memory_of c.args.settings.now.regions.items c.args.carve) c.in-Ok.map config c.config.result booted
+    (c.in-Ok.ensures.0
+    ∙ ap (λ (rs : List Region). memory_of rs c.args.carve) c.as_slice.ensures.value) c.config.ensures
+    c.in-Ok-boot.ensures
     c.boot_line-line.ensures c.in-Ok-to_ghost.ensures.layout c.in-Ok-to_ghost.ensures.state

@@ -9,9 +9,19 @@ use Rattle.trace_race.proofs.Judging.{none_after}
 use Rattle.trace_race.proofs.ending.compare.Goals as goal
 
 pub compare_replies-requires-clause-generations : goal.compare_replies-requires-clause-generations
-compare_replies-requires-clause-generations c = subst (λ (s : Reference). HasGenerationsTo 1 s.contents) (sym c.requires.boot) (boot_to (layout_of c.args.state.layout))
+compare_replies-requires-clause-generations c =
+    subst (λ (s : Reference). HasGenerationsTo 1 s.contents) (sym c.requires.boot)
+    (boot_to (layout_of c.args.state.layout))
 
 pub returns-clause-agree : goal.returns-clause-agree
 returns-clause-agree c =
-    let compares = subst (λ l. ComparesAll l (ghost_state c.args.state) c.args.logs.now c.in_ok-judged.judged.items) c.requires.layout c.in_ok-judged.ensures in
-    (none_after c.args.world.now.parts c.args.logs.now (ghost_state c.args.state) c.in_ok-judged.judged.items c.args.world.now.history c.requires.logs (c.requires.boot ∙ ap boot c.requires.layout) compares, c.in_ok-audited.ensures.none)
+    let compares =
+    subst
+    (λ l. ComparesAll l
+    (ghost_state c.args.state) c.args.logs.now c.in_ok-judged.judged.items) c.requires.layout
+    c.in_ok-judged.ensures in (
+      none_after c.args.world.now.parts c.args.logs.now
+          (ghost_state c.args.state) c.in_ok-judged.judged.items c.args.world.now.history c.requires.logs
+          (c.requires.boot ∙ ap boot c.requires.layout) compares,
+      c.in_ok-audited.ensures.none,
+    )

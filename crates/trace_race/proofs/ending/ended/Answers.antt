@@ -3,8 +3,13 @@ use Rattle.trace_race.proofs.Ends.{are_of, one_history}
 use Rattle.trace_race.proofs.ending.ended.Goals as goal
 
 pub shutdown-requires : goal.shutdown-requires
-shutdown-requires c = let n = c.args.start in record { pass = are_of c.args.machine.table (drop n c.args.steps.now) (drop n c.args.replies.now) c.args.passes.items c.requires.done }
+shutdown-requires c = let n = c.args.start in
+    record {
+      pass = are_of c.args.machine.table (drop n c.args.steps.now)
+          (drop n c.args.replies.now) c.args.passes.items c.requires.done;
+    }
 
 pub returns-in-Ok-clause-history : goal.returns-in-Ok-clause-history
 returns-in-Ok-clause-history c =
-    one_history c.args.machine.table c.args.start c.args.steps.now c.args.replies.now c.args.passes.items _ _ c.requires c.in-Ok.ensures.end
+    one_history c.args.machine.table c.args.start c.args.steps.now c.args.replies.now c.args.passes.items _ _
+    c.requires c.in-Ok.ensures.end

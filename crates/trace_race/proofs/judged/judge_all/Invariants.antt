@@ -9,5 +9,6 @@ abbrev pub invariant-loop-i : goal.invariant-loop-i
 invariant-loop-i l = record {
   generations : HasGenerationsTo (l.i + 1) (contents_in l.state);
   layout : l.state.layout ≡ l.fn.state.layout;
-  judged : LeadsOn (layout_of l.fn.state.layout) (ghost_state l.fn.state) l.calls l.found.items (ghost_state l.state) (drop l.i l.calls);
+  judged : LeadsOn (layout_of l.fn.state.layout) (ghost_state l.fn.state) l.calls l.found.items (ghost_state l.state)
+      (drop l.i l.calls);
 }

@@ -7,6 +7,9 @@ abbrev pub invariant-loop-cpu : goal.invariant-loop-cpu
 invariant-loop-cpu l = record {
   table : l.machine.table ≡ l.fn.machine.table;
   count : length l.machine.passes ≡ l.cpus;
-  left : (c : ℕ) → l.cpu ≤ c → c < l.cpus → slice_get l.machine.passes c ≡ Some (Some (first_pass l.fn.machine.table c));
+  left : (c : ℕ)
+      → l.cpu ≤ c
+      → c < l.cpus
+      → slice_get l.machine.passes c ≡ Some (Some (first_pass l.fn.machine.table c));
   passes : AreFirstPasses l.fn.machine.table l.cpu l.passes.items;
 }

@@ -14,6 +14,14 @@ loop-pass-preserved c =
       next = tt;
       finite = tt;
       rest = All-tail (IsPassOf c.args.machine.now.table) c.in-Some.pass _ both;
-      ready = subst (All (IsReady c.args.machine.now.table c.args.steps.now)) (sym c.in_ok-push.ensures.items) (all_more (IsReady c.args.machine.now.table c.args.steps.now) c.loop-pass.workers.items c.in_ok-new.field-0 i.ready c.in_ok-new.ensures.ready);
-      all = mapped_more (λ (w : Worker). w.pass) c.loop-pass.workers.items c.push.new.self.items c.in_ok-new.field-0 c.in-Some.pass _ _ c.args.passes.items c.in_ok-push.ensures.items c.in_ok-new.ensures.pass c.in-Some.ensures.steps.0 i.all;
+      ready =
+          subst (All (IsReady c.args.machine.now.table c.args.steps.now)) (sym c.in_ok-push.ensures.items)
+          (all_more
+          (IsReady c.args.machine.now.table c.args.steps.now) c.loop-pass.workers.items c.in_ok-new.field-0
+          i.ready c.in_ok-new.ensures.ready);
+      all =
+          mapped_more
+          (λ (w : Worker). w.pass) c.loop-pass.workers.items c.push.new.self.items c.in_ok-new.field-0
+          c.in-Some.pass _ _ c.args.passes.items c.in_ok-push.ensures.items c.in_ok-new.ensures.pass
+          c.in-Some.ensures.steps.0 i.all;
     }

@@ -7,16 +7,22 @@ use Rattle.trace_race.proofs.making.make_on.Goals.{After-as_slice}
 use Rattle.trace_race.proofs.making.make_on.Goals as goal
 
 -- what the threads came to
-finish : (g : _) (c : After-as_slice g) → AllFinish c.args.machine.now.table c.args.steps.now c.args.passes.items c.in-Some.done.items
+finish : (g : _) (c : After-as_slice g)
+    → AllFinish c.args.machine.now.table c.args.steps.now c.args.passes.items c.in-Some.done.items
 finish g c =
     let all = rw c.in-Some.is at c.in_ok-done.ensures in
-    subst (λ ps. AllFinish c.args.machine.now.table c.args.steps.now ps c.in-Some.done.items) c.in_ok-workers.ensures.passes_are all
+    subst
+    (λ ps. AllFinish c.args.machine.now.table c.args.steps.now ps
+    c.in-Some.done.items) c.in_ok-workers.ensures.passes_are all
 
 count : (g : _) (c : After-as_slice g) → length c.in-Some.done.items ≡ c.args.machine.now.table.layout.config.cpus
-count g c = count_is c.args.machine.now.table c.args.steps.now c.args.passes.items c.in-Some.done.items c.requires.first (finish g c)
+count g c =
+    count_is c.args.machine.now.table c.args.steps.now c.args.passes.items c.in-Some.done.items c.requires.first
+    (finish g c)
 
 pub all_workers-requires : goal.all_workers-requires
-all_workers-requires g c = all_of c.args.machine.now.table c.args.machine.now.table.layout.config.cpus c.args.passes.items c.requires.first
+all_workers-requires g c =
+    all_of c.args.machine.now.table c.args.machine.now.table.layout.config.cpus c.args.passes.items c.requires.first
 
 pub gather-requires-clause-below : goal.gather-requires-clause-below
 gather-requires-clause-below g c =
@@ -36,12 +42,21 @@ pub gather-requires-clause-done : goal.gather-requires-clause-done
 gather-requires-clause-done g c =
     let k = (goal.at.gather-requires-clause-done g c).After-as_slice in
     λ cpu d there.
-    count_at c.args.machine.now.table c.args.steps.now c.args.passes.items c.in-Some.done.items c.requires.first (finish g k) cpu d (subst (λ ds. slice_get ds cpu ≡ Some d) c.as_slice.ensures.value there)
+    count_at c.args.machine.now.table c.args.steps.now c.args.passes.items c.in-Some.done.items c.requires.first
+    (finish g k) cpu d (subst (λ ds. slice_get ds cpu ≡ Some d) c.as_slice.ensures.value there)
 
 pub returns : goal.returns
 returns g c =
     let k = (goal.at.returns g c).After-as_slice in
     let gathered = c.in_ok-gather.ensures.gathered in
-    let more : IsGathered c.args.steps.now c.in-Some.done.items gathered.0 = subst (λ ds. IsGathered c.args.steps.now ds gathered.0) c.as_slice.ensures.value gathered.2 in
-    let done = all_done c.args.machine.now.table c.args.steps.now c.args.passes.items c.in-Some.done.items c.requires.first (finish g k) gathered.0 more in
-    (gathered.0, gathered.1, more.count, subst (λ ps. AreDone c.args.machine.now.table c.args.steps.now gathered.0 ps) (sym c.in_ok-passes_of.ensures) done)
+    let more : IsGathered c.args.steps.now c.in-Some.done.items gathered.0 =
+    subst (λ ds. IsGathered c.args.steps.now ds gathered.0) c.as_slice.ensures.value gathered.2 in
+    let done =
+    all_done c.args.machine.now.table c.args.steps.now c.args.passes.items c.in-Some.done.items c.requires.first
+    (finish g k) gathered.0 more in (
+      gathered.0,
+      gathered.1,
+      more.count,
+      subst (λ ps. AreDone c.args.machine.now.table c.args.steps.now gathered.0 ps)
+          (sym c.in_ok-passes_of.ensures) done,
+    )

@@ -6,5 +6,8 @@ pub loop-one-preserved : goal.loop-one-preserved
 loop-one-preserved c = record {
   next = tt;
   finite = tt;
-  all = put_more (λ (d : Done). d.pass) c.loop-one.passes.items c.push.new.self.items c.in-Some.one _ _ _ c.in_ok-push.ensures.items c.in-Some.ensures.steps.0 c.loop-one.invariant.all;
+  all =
+      put_more
+      (λ (d : Done). d.pass) c.loop-one.passes.items c.push.new.self.items c.in-Some.one _ _ _
+      c.in_ok-push.ensures.items c.in-Some.ensures.steps.0 c.loop-one.invariant.all;
 }

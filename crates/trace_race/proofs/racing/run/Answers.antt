@@ -14,25 +14,35 @@ use Rattle.trace_race.proofs.Reports.{engine_err, engine_ok, run_begins, run_end
 use Rattle.trace_race.proofs.racing.run.Goals as goal
 
 pub make-requires-clause-booted : goal.make-requires-clause-booted
-make-requires-clause-booted g c κs within = (c.requires.booted.0, config_of (course_in c.args.course.now).told, c.requires.booted.1.world)
+make-requires-clause-booted g c κs within =
+    (c.requires.booted.0, config_of (course_in c.args.course.now).told, c.requires.booted.1.world)
 
 pub make-requires-clause-cpus : goal.make-requires-clause-cpus
-make-requires-clause-cpus g c κs within = ap (λ (k : Config). k.cpus) c.config-cpus.ensures ∙ sym (ap (λ (l : Layout). l.config.cpus) c.requires.booted.1.world.layout)
+make-requires-clause-cpus g c κs within =
+    ap (λ (k : Config). k.cpus) c.config-cpus.ensures
+    ∙ sym (ap (λ (l : Layout). l.config.cpus) c.requires.booted.1.world.layout)
 
 pub tell_made-requires-clause-made : goal.tell_made-requires-clause-made
 tell_made-requires-clause-made g c = let made = rw c.in-Ok-Some.field-0-is at c.in-Ok-Some.ensures in made.1
 
 pub tell_made-requires-clause-layout : goal.tell_made-requires-clause-layout
-tell_made-requires-clause-layout g c = let made = rw c.in-Ok-Some.field-0-is at c.in-Ok-Some.ensures in made.0 ∙ c.requires.booted.1.layout
+tell_made-requires-clause-layout g c = let made = rw c.in-Ok-Some.field-0-is at c.in-Ok-Some.ensures in
+    made.0 ∙ c.requires.booted.1.layout
 
 pub returns-in-Err-clause-begun : goal.returns-in-Err-clause-begun
-returns-in-Err-clause-begun g c = run_fails (machine_in c.args.booted.state) (course_in c.args.course.now) c.args.booted.line _ _ c.requires.booted.1.line c.in-Err.ensures.front
+returns-in-Err-clause-begun g c =
+    run_fails (machine_in c.args.booted.state)
+    (course_in c.args.course.now) c.args.booted.line _ _ c.requires.booted.1.line c.in-Err.ensures.front
 
 pub returns-in-Ok-None-clause-begun : goal.returns-in-Ok-None-clause-begun
-returns-in-Ok-None-clause-begun g c = run_halts (machine_in c.args.booted.state) (course_in c.args.course.now) c.args.booted.line _ _ c.requires.booted.1.line c.in_default.ensures.ok
+returns-in-Ok-None-clause-begun g c =
+    run_halts (machine_in c.args.booted.state)
+    (course_in c.args.course.now) c.args.booted.line _ _ c.requires.booted.1.line c.in_default.ensures.ok
 
 pub returns-in-Err-make-clause-begun : goal.returns-in-Err-make-clause-begun
-returns-in-Err-make-clause-begun g c = run_halts (machine_in c.args.booted.state) (course_in c.args.course.now) c.args.booted.line _ _ c.requires.booted.1.line c.in_default.ensures.ok
+returns-in-Err-make-clause-begun g c =
+    run_halts (machine_in c.args.booted.state)
+    (course_in c.args.course.now) c.args.booted.line _ _ c.requires.booted.1.line c.in_default.ensures.ok
 
 pub returns-clause-report : goal.returns-clause-report
 returns-clause-report g c =
@@ -41,9 +51,17 @@ returns-clause-report g c =
     let made = rw c.in-Ok-Some.field-0-is at c.in-Ok-Some.ensures in
     let steps : c.as_slice-steps.result.now ≡ a.steps = c.as_slice-steps.ensures.value in
     let count : length c.in-Ok-Some.made.replies.items ≡ length a.steps = made.1.count ∙ ap length steps in
-    let report = subst (λ (z : ℕ × List Asked). IfOk c.tell_made.result (StepsEnd m.layout z.0 z.1 c.in-Ok-Some.made.replies.items (g.K.Sink.contents c.tell.new.sink) (g.K.Sink.contents c.tell_made.new.sink))) (λ i. (c.in_order-start.ensures i, steps i)) c.tell_made.ensures.report in
+    let report =
+    subst
+    (λ (z : ℕ × List Asked). IfOk c.tell_made.result
+    (StepsEnd m.layout z.0 z.1 c.in-Ok-Some.made.replies.items (g.K.Sink.contents c.tell.new.sink)
+    (g.K.Sink.contents c.tell_made.new.sink)))
+    (λ i. (c.in_order-start.ensures i, steps i)) c.tell_made.ensures.report in
     engine_ok _ _ _ c.engine.ensures
-    (mapped c.tell_made.result _ _ (λ outcome ends. run_ends m a c.in-Ok-Some.made.replies.items c.args.booted.line _ (g.K.Sink.contents c.tell.new.sink) _ outcome c.requires.booted.1.line count c.in_default.ensures.ok ends) report)
+    (mapped c.tell_made.result _ _
+    (λ outcome ends. run_ends m a c.in-Ok-Some.made.replies.items c.args.booted.line _
+    (g.K.Sink.contents c.tell.new.sink) _ outcome c.requires.booted.1.line count c.in_default.ensures.ok
+    ends) report)
 
 pub returns-clause-begun : goal.returns-clause-begun
 returns-clause-begun g c =
@@ -52,7 +70,16 @@ returns-clause-begun g c =
     let made = rw c.in-Ok-Some.field-0-is at c.in-Ok-Some.ensures in
     let steps : c.as_slice-steps.result.now ≡ a.steps = c.as_slice-steps.ensures.value in
     let count : length c.in-Ok-Some.made.replies.items ≡ length a.steps = made.1.count ∙ ap length steps in
-    let one = subst (λ (z : ℕ × List Asked). OneHistory m.layout z.0 z.1 c.in-Ok-Some.made.replies.items) (λ i. (c.in_order-start.ensures i, steps i)) c.tell_made.ensures.history in
-    let front = subst (λ (ss : List Asked). OnErr c.tell_made.result (WritesFront (lines_behind ss c.in-Ok-Some.made.replies.items) (g.K.Sink.contents c.tell.new.sink) (g.K.Sink.contents c.tell_made.new.sink))) steps c.tell_made.ensures.begun in
+    let one =
+    subst (λ (z : ℕ × List Asked). OneHistory m.layout z.0 z.1 c.in-Ok-Some.made.replies.items)
+    (λ i. (c.in_order-start.ensures i, steps i)) c.tell_made.ensures.history in
+    let front =
+    subst
+    (λ (ss : List Asked). OnErr c.tell_made.result
+    (WritesFront (lines_behind ss c.in-Ok-Some.made.replies.items) (g.K.Sink.contents c.tell.new.sink)
+    (g.K.Sink.contents c.tell_made.new.sink))) steps c.tell_made.ensures.begun in
     engine_err _ _ _ c.engine.ensures
-    (when_err c.tell_made.result _ _ (λ begins. run_begins m a c.in-Ok-Some.made.replies.items c.args.booted.line _ (g.K.Sink.contents c.tell.new.sink) _ c.requires.booted.1.line count one c.in_default.ensures.ok begins) front)
+    (when_err c.tell_made.result _ _
+    (λ begins. run_begins m a c.in-Ok-Some.made.replies.items c.args.booted.line _
+    (g.K.Sink.contents c.tell.new.sink) _ c.requires.booted.1.line count one c.in_default.ensures.ok
+    begins) front)

@@ -11,23 +11,45 @@ use Rattle.trace_race.proofs.racing.tell_made.Goals as goal
 
 pub returns-in-Err-clause-begun : goal.returns-in-Err-clause-begun
 returns-in-Err-clause-begun g c =
-    made_fails c.args.steps.now c.args.made.replies.items _ _ (subst (λ rs. WritesFront (step_lines c.args.steps.now rs) (g.K.Sink.contents c.args.sink.now) (g.K.Sink.contents c.tell_steps.new.sink)) c.as_slice.ensures.value c.in-Err.ensures.front)
+    made_fails c.args.steps.now c.args.made.replies.items _ _
+    (subst
+    (λ rs. WritesFront (step_lines c.args.steps.now rs) (g.K.Sink.contents c.args.sink.now)
+    (g.K.Sink.contents c.tell_steps.new.sink)) c.as_slice.ensures.value c.in-Err.ensures.front)
 
 pub returns-in_default-compared_at_end-clause-begun : goal.returns-in_default-compared_at_end-clause-begun
 returns-in_default-compared_at_end-clause-begun g c =
-    made_halts c.args.steps.now c.args.made.replies.items _ _ (subst (λ rs. Appends (g.K.Sink.contents c.args.sink.now) (g.K.Sink.contents c.tell_steps.new.sink) (text_of_report (step_lines c.args.steps.now rs))) c.as_slice.ensures.value c.in_default.ensures.ok)
+    made_halts c.args.steps.now c.args.made.replies.items _ _
+    (subst
+    (λ rs. Appends (g.K.Sink.contents c.args.sink.now) (g.K.Sink.contents c.tell_steps.new.sink)
+    (text_of_report (step_lines c.args.steps.now rs))) c.as_slice.ensures.value c.in_default.ensures.ok)
 
 pub returns-clause-report : goal.returns-clause-report
 returns-clause-report g c =
-    let told = subst (λ rs. Appends (g.K.Sink.contents c.args.sink.now) (g.K.Sink.contents c.tell_steps.new.sink) (text_of_report (step_lines c.args.steps.now rs))) c.as_slice.ensures.value c.in_default.ensures.ok in
-    let one = subst (λ rs. OneHistory (layout_of c.args.state.layout) c.args.start c.args.steps.now rs) c.as_slice-2.ensures.value c.in-Ok.ensures.history in
+    let told =
+    subst
+    (λ rs. Appends (g.K.Sink.contents c.args.sink.now) (g.K.Sink.contents c.tell_steps.new.sink)
+    (text_of_report (step_lines c.args.steps.now rs))) c.as_slice.ensures.value c.in_default.ensures.ok in
+    let one =
+    subst
+    (λ rs. OneHistory
+    (layout_of c.args.state.layout) c.args.start c.args.steps.now rs) c.as_slice-2.ensures.value
+    c.in-Ok.ensures.history in
     mapped c.tell_found.result _ _
-    (λ outcome found. made_ends (layout_of c.args.state.layout) c.args.start c.args.steps.now c.args.made.replies.items c.as_slice-3.result.now c.in-Ok.found.audited (length c.args.steps.now) _ (g.K.Sink.contents c.tell_steps.new.sink) _ outcome (c.as_slice-3.ensures.value ∙ c.in-Ok.ensures.agree.0) c.in-Ok.ensures.agree.1 refl one told found)
+    (λ outcome found. made_ends
+    (layout_of c.args.state.layout) c.args.start c.args.steps.now c.args.made.replies.items c.as_slice-3.result.now
+    c.in-Ok.found.audited
+    (length c.args.steps.now) _ (g.K.Sink.contents c.tell_steps.new.sink) _ outcome
+    (c.as_slice-3.ensures.value ∙ c.in-Ok.ensures.agree.0) c.in-Ok.ensures.agree.1 refl one told found)
     c.tell_found.ensures.ok
 
 pub returns-clause-begun : goal.returns-clause-begun
 returns-clause-begun g c =
-    let told = subst (λ rs. Appends (g.K.Sink.contents c.args.sink.now) (g.K.Sink.contents c.tell_steps.new.sink) (text_of_report (step_lines c.args.steps.now rs))) c.as_slice.ensures.value c.in_default.ensures.ok in
+    let told =
+    subst
+    (λ rs. Appends (g.K.Sink.contents c.args.sink.now) (g.K.Sink.contents c.tell_steps.new.sink)
+    (text_of_report (step_lines c.args.steps.now rs))) c.as_slice.ensures.value c.in_default.ensures.ok in
     when_err c.tell_found.result _ _
-    (λ front. made_begins c.args.steps.now c.args.made.replies.items c.as_slice-3.result.now c.in-Ok.found.audited (length c.args.steps.now) _ (g.K.Sink.contents c.tell_steps.new.sink) _ (c.as_slice-3.ensures.value ∙ c.in-Ok.ensures.agree.0) c.in-Ok.ensures.agree.1 refl told front)
+    (λ front. made_begins c.args.steps.now c.args.made.replies.items c.as_slice-3.result.now c.in-Ok.found.audited
+    (length c.args.steps.now) _ (g.K.Sink.contents c.tell_steps.new.sink) _
+    (c.as_slice-3.ensures.value ∙ c.in-Ok.ensures.agree.0) c.in-Ok.ensures.agree.1 refl told front)
     c.tell_found.ensures.front

@@ -7,7 +7,8 @@ use Rattle.trace_race.proofs.reading.read_lines.Given as goal
 abbrev pub invariant-loop-number : goal.invariant-loop-number
 invariant-loop-number g l =
     record {
-      goes : Goes (left l.fn.ahead (g.S.Source.remaining l.fn.source)) (left l.ahead (g.S.Source.remaining l.source)) l.number (course_in l.course);
+      goes : Goes (left l.fn.ahead (g.S.Source.remaining l.fn.source))
+          (left l.ahead (g.S.Source.remaining l.source)) l.number (course_in l.course);
       sound : IsSound (course_in l.course);
       reads : g.S.Source.failures l.source ≡ g.S.Source.failures l.fn.source;
     }

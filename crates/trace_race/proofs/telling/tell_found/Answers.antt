@@ -8,11 +8,15 @@ use Rattle.trace_text.proofs.ReplayLemmas.{appends_lines, mapped, on_err, when_e
 use Rattle.trace_race.proofs.telling.tell_found.Goals as goal
 
 pub returns-in_err-tell_judged-clause-front : goal.returns-in_err-tell_judged-clause-front
-returns-in_err-tell_judged-clause-front g c = on_err _ (front_first _ _ (map report.Judged c.args.judged.now) _ c.in_err-tell_judged.ensures.front)
+returns-in_err-tell_judged-clause-front g c =
+    on_err _ (front_first _ _ (map report.Judged c.args.judged.now) _ c.in_err-tell_judged.ensures.front)
 
 pub returns-in_err-tell_audited-clause-front : goal.returns-in_err-tell_audited-clause-front
 returns-in_err-tell_audited-clause-front g c =
-    on_err _ (front_behind _ (g.K.Sink.contents c.tell_judged.new.sink) _ (map report.Judged c.args.judged.now) _ c.in_ok-tell_judged.ensures.ok (front_first _ _ (audited_lines c.args.audited) _ c.in_err-tell_audited.ensures.front))
+    on_err _
+    (front_behind _ (g.K.Sink.contents c.tell_judged.new.sink) _
+    (map report.Judged c.args.judged.now) _ c.in_ok-tell_judged.ensures.ok
+    (front_first _ _ (audited_lines c.args.audited) _ c.in_err-tell_audited.ensures.front))
 
 pub returns-clause-ok : goal.returns-clause-ok
 returns-clause-ok g c =
@@ -20,16 +24,32 @@ returns-clause-ok g c =
     mapped c.tell_end.result _ _
     (λ outcome told. (
       told.0 ∙ ap (λ n. outcome_of (length c.args.judged.now + n)) count,
-      appends_lines _ (g.K.Sink.contents c.tell_judged.new.sink) _ (map report.Judged c.args.judged.now) (audited_lines c.args.audited ++ report.End c.args.steps (length c.args.judged.now + length (audited_lines c.args.audited)) ∷ []) c.in_ok-tell_judged.ensures.ok
-          (appends_lines _ (g.K.Sink.contents c.tell_audited.new.sink) _ (audited_lines c.args.audited) (report.End c.args.steps (length c.args.judged.now + length (audited_lines c.args.audited)) ∷ []) c.in_ok-tell_audited.ensures.ok (rw count at told.1)),
+      appends_lines _ (g.K.Sink.contents c.tell_judged.new.sink) _ (map report.Judged c.args.judged.now)
+          (audited_lines c.args.audited
+          ++ report.End c.args.steps (length c.args.judged.now + length (audited_lines c.args.audited))
+          ∷ []) c.in_ok-tell_judged.ensures.ok
+          (appends_lines _ (g.K.Sink.contents c.tell_audited.new.sink) _ (audited_lines c.args.audited)
+          (report.End c.args.steps (length c.args.judged.now + length (audited_lines c.args.audited))
+          ∷ []) c.in_ok-tell_audited.ensures.ok
+          (rw count at told.1)),
     ))
     c.tell_end.ensures.ok
 
 pub returns-clause-front : goal.returns-clause-front
 returns-clause-front g c =
     let count : c.from.result ≡ length (audited_lines c.args.audited) = search rules in
-    let told = subst (λ n. OnErr c.tell_end.result (WritesFront (report.End c.args.steps (length c.args.judged.now + n) ∷ []) (g.K.Sink.contents c.tell_audited.new.sink) (g.K.Sink.contents c.tell_end.new.sink))) count c.tell_end.ensures.front in
+    let told =
+    subst
+    (λ n. OnErr c.tell_end.result
+    (WritesFront (report.End c.args.steps (length c.args.judged.now + n) ∷ [])
+    (g.K.Sink.contents c.tell_audited.new.sink) (g.K.Sink.contents c.tell_end.new.sink))) count
+    c.tell_end.ensures.front in
     when_err c.tell_end.result _ _
-    (λ front. front_behind _ (g.K.Sink.contents c.tell_judged.new.sink) _ (map report.Judged c.args.judged.now) (audited_lines c.args.audited ++ report.End c.args.steps (length c.args.judged.now + length (audited_lines c.args.audited)) ∷ []) c.in_ok-tell_judged.ensures.ok
-    (front_behind _ (g.K.Sink.contents c.tell_audited.new.sink) _ (audited_lines c.args.audited) (report.End c.args.steps (length c.args.judged.now + length (audited_lines c.args.audited)) ∷ []) c.in_ok-tell_audited.ensures.ok front))
+    (λ front. front_behind _ (g.K.Sink.contents c.tell_judged.new.sink) _ (map report.Judged c.args.judged.now)
+    (audited_lines c.args.audited
+    ++ report.End c.args.steps (length c.args.judged.now + length (audited_lines c.args.audited))
+    ∷ []) c.in_ok-tell_judged.ensures.ok
+    (front_behind _ (g.K.Sink.contents c.tell_audited.new.sink) _ (audited_lines c.args.audited)
+    (report.End c.args.steps (length c.args.judged.now + length (audited_lines c.args.audited))
+    ∷ []) c.in_ok-tell_audited.ensures.ok front))
     told

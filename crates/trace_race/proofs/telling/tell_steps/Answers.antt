@@ -9,12 +9,22 @@ use Rattle.trace_race.proofs.telling.tell_steps.Goals as goal
 
 pub loop-i-preserved : goal.loop-i-preserved
 loop-i-preserved g c = record {
-  ahead = line_told _ _ _ _ _ _ _ (step_next c.args.steps.now c.args.replies.now c.loop-i.i _ _ c.loop-i-test.true (omega (arith, c.loop-i-test.true, c.requires.count))) c.loop-i.invariant.ahead
-      (subst (λ r. Appends (g.K.Sink.contents c.loop-i.sink) (g.K.Sink.contents c.tell.new.sink) (text_of_report (report.Response r ∷ []))) c.step_line.ensures c.in_ok-tell.ensures.ok);
+  ahead =
+      line_told _ _ _ _ _ _ _
+      (step_next c.args.steps.now c.args.replies.now c.loop-i.i _ _ c.loop-i-test.true
+      (omega (arith, c.loop-i-test.true, c.requires.count))) c.loop-i.invariant.ahead
+      (subst
+      (λ r. Appends (g.K.Sink.contents c.loop-i.sink) (g.K.Sink.contents c.tell.new.sink)
+      (text_of_report (report.Response r ∷ []))) c.step_line.ensures c.in_ok-tell.ensures.ok);
   writes = c.in_ok-tell.ensures.counted ∙ c.loop-i.invariant.writes;
 }
 
 pub returns-in_err-tell-clause-front : goal.returns-in_err-tell-clause-front
 returns-in_err-tell-clause-front g c =
-    on_err _ (line_begun _ _ _ _ _ _ _ (step_next c.args.steps.now c.args.replies.now c.loop-i.i _ _ c.loop-i-test.true (omega (arith, c.loop-i-test.true, c.requires.count))) c.loop-i.invariant.ahead
-    (subst (λ r. WritesFront (report.Response r ∷ []) (g.K.Sink.contents c.loop-i.sink) (g.K.Sink.contents c.tell.new.sink)) c.step_line.ensures c.in_err-tell.ensures.front))
+    on_err _
+    (line_begun _ _ _ _ _ _ _
+    (step_next c.args.steps.now c.args.replies.now c.loop-i.i _ _ c.loop-i-test.true
+    (omega (arith, c.loop-i-test.true, c.requires.count))) c.loop-i.invariant.ahead
+    (subst
+    (λ r. WritesFront (report.Response r ∷ []) (g.K.Sink.contents c.loop-i.sink)
+    (g.K.Sink.contents c.tell.new.sink)) c.step_line.ensures c.in_err-tell.ensures.front))

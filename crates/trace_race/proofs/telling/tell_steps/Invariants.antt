@@ -6,6 +6,7 @@ use Rattle.trace_race.proofs.telling.tell_steps.Given as goal
 abbrev pub invariant-loop-i : goal.invariant-loop-i
 invariant-loop-i g l =
     record {
-      ahead : Ahead (g.K.Sink.contents l.fn.sink) (g.K.Sink.contents l.sink) (step_lines l.steps l.replies) (step_lines (drop l.i l.steps) (drop l.i l.replies));
+      ahead : Ahead (g.K.Sink.contents l.fn.sink) (g.K.Sink.contents l.sink) (step_lines l.steps l.replies)
+          (step_lines (drop l.i l.steps) (drop l.i l.replies));
       writes : g.K.Sink.failures l.sink ≡ g.K.Sink.failures l.fn.sink;
     }

@@ -17,7 +17,10 @@ returns-then-not-is_empty c =
     let e = c.is_empty.ensures in
     let f = c.if-not-is_empty.true in
     let here = ap (λ p. length p.now) c.index.ensures in
-    keeps_some (λ line. line.now) c.in_ok-lines.lines.items c.len-count.result c.index.result.now held c.if-count-eq0.false (λ k. grind (arith, nat_tests, e, f, k, here)) ∙ ap without_empty_last c.in_ok-lines.ensures
+    keeps_some
+    (λ line. line.now) c.in_ok-lines.lines.items c.len-count.result c.index.result.now held c.if-count-eq0.false
+    (λ k. grind (arith, nat_tests, e, f, k, here))
+    ∙ ap without_empty_last c.in_ok-lines.ensures
 
 pub returns : goal.returns
 unfolding lines_of
@@ -26,5 +29,9 @@ returns c =
     let e = c.is_empty.ensures in
     let f = c.if-not-is_empty.false in
     let here = ap (λ p. length p.now) c.index.ensures in
-    ap (map (λ line. line.now)) (c.pop-end.ensures.rest ∙ ap (λ n. take (n - 1) c.in_ok-lines.lines.items) (sym c.len-count.ensures))
-    ∙ drops_last (λ line. line.now) c.in_ok-lines.lines.items c.len-count.result c.index.result.now held c.if-count-eq0.false (grind (arith, nat_tests, e, f, here)) ∙ ap without_empty_last c.in_ok-lines.ensures
+    ap (map (λ line. line.now))
+    (c.pop-end.ensures.rest ∙ ap (λ n. take (n - 1) c.in_ok-lines.lines.items) (sym c.len-count.ensures))
+    ∙ drops_last
+    (λ line. line.now) c.in_ok-lines.lines.items c.len-count.result c.index.result.now held c.if-count-eq0.false
+    (grind (arith, nat_tests, e, f, here))
+    ∙ ap without_empty_last c.in_ok-lines.ensures

@@ -9,21 +9,30 @@ use Rattle.trace_text.proofs.ReplayLemmas.{begun_seen, enough_seen, mapped, repl
 use Rattle.trace_text.proofs.at_end.replay_at_end_buffered.Goals as goal
 
 pub play_buffered-answer-requires-clause-enough : goal.play_buffered-answer-requires-clause-enough
-play_buffered-answer-requires-clause-enough g c = enough_seen (λ r. standing_of r.session) (RunsLine agreed) Ends (replay_enough agreed)
+play_buffered-answer-requires-clause-enough g c =
+    enough_seen (λ r. standing_of r.session) (RunsLine agreed) Ends (replay_enough agreed)
 
 pub play_buffered-answer-requires-clause-ready : goal.play_buffered-answer-requires-clause-ready
-play_buffered-answer-requires-clause-ready g c = (c.new-unasked.ensures.ready, let none = ap (λ (s : Standing). s.steps) c.new-unasked.ensures.start in omega (arith, none))
+play_buffered-answer-requires-clause-ready g c = (
+  c.new-unasked.ensures.ready,
+  let none = ap (λ (s : Standing). s.steps) c.new-unasked.ensures.start in
+      omega (arith, none),
+)
 
 pub returns-clause-report : goal.returns-clause-report
 returns-clause-report g c =
     mapped c.play_buffered-answer.result _ _
-    (λ r written. subst (λ start. reports.IsWritten (RunsLine agreed) Ends start (g.R.Read.remaining c.args.reader) (g.W.Write.contents c.args.writer) (g.W.Write.contents r.1) r.0) c.new-unasked.ensures.start
+    (λ r written. subst
+    (λ start. reports.IsWritten (RunsLine agreed) Ends start (g.R.Read.remaining c.args.reader)
+    (g.W.Write.contents c.args.writer) (g.W.Write.contents r.1) r.0) c.new-unasked.ensures.start
     (written_seen (λ r. standing_of r.session) (RunsLine agreed) Ends c.new-unasked.result _ _ _ r.0 written))
     c.play_buffered-answer.ensures.report
 
 pub returns-clause-begun : goal.returns-clause-begun
 returns-clause-begun g c =
     with_writer c.play_buffered-answer.result _ _
-    (λ w begun. subst (λ start. reports.IsWriteBegun (RunsLine agreed) Ends start (g.R.Read.remaining c.args.reader) (g.W.Write.contents c.args.writer) (g.W.Write.contents w)) c.new-unasked.ensures.start
+    (λ w begun. subst
+    (λ start. reports.IsWriteBegun (RunsLine agreed) Ends start (g.R.Read.remaining c.args.reader)
+    (g.W.Write.contents c.args.writer) (g.W.Write.contents w)) c.new-unasked.ensures.start
     (begun_seen (λ r. standing_of r.session) (RunsLine agreed) Ends c.new-unasked.result _ _ _ begun))
     c.play_buffered-answer.ensures.begun

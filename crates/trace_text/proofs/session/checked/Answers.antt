@@ -10,19 +10,24 @@ use Rattle.trace_text.proofs.session.checked.Goals as goal
 
 pub check-verdict-requires-clause-generation : goal.check-verdict-requires-clause-generation
 check-verdict-requires-clause-generation g c =
-    subst (λ (s : Reference). HasNextGeneration (s.contents.cpu c.args.cpu).ticket c.args.step) (sym c.in_ok-before.ensures.state) (has_next c.args.world.now.parts c.args.world.now.history c.args.cpu c.args.step)
+    subst (λ (s : Reference). HasNextGeneration (s.contents.cpu c.args.cpu).ticket c.args.step)
+    (sym c.in_ok-before.ensures.state)
+    (has_next c.args.world.now.parts c.args.world.now.history c.args.cpu c.args.step)
 
 pub returns-clause-given : goal.returns-clause-given
-returns-clause-given g c = c.in-Ok-verdict.ensures.told (machine_of c.args.world.now) (call_of c.args.world.now.parts c.args.cpu c.args.step c.step-reply.result) (state_of c.step-reply.new.self.parts) (record {
-  layout = c.in_ok-before.ensures.layout;
-  before_is = c.in_ok-before.ensures.state;
-  cpu_is = refl;
-  step_is = refl;
-  reply_is = refl;
-  made = c.step-reply.ensures.step.steps;
-  after_is = c.in-Ok.ensures.compared.state;
-  walked_is = c.in-Ok.ensures.same ∙ c.in-Ok.ensures.compared.state;
-})
+returns-clause-given g c =
+    c.in-Ok-verdict.ensures.told (machine_of c.args.world.now)
+    (call_of c.args.world.now.parts c.args.cpu c.args.step c.step-reply.result)
+    (state_of c.step-reply.new.self.parts) (record {
+      layout = c.in_ok-before.ensures.layout;
+      before_is = c.in_ok-before.ensures.state;
+      cpu_is = refl;
+      step_is = refl;
+      reply_is = refl;
+      made = c.step-reply.ensures.step.steps;
+      after_is = c.in-Ok.ensures.compared.state;
+      walked_is = c.in-Ok.ensures.same ∙ c.in-Ok.ensures.compared.state;
+    })
 
 pub returns-clause-step : goal.returns-clause-step
 returns-clause-step g c = c.step-reply.ensures.step

@@ -7,22 +7,34 @@ use Rattle.trace_text.proofs.ReplayLemmas.{begun_seen, enough_seen, mapped, repl
 use Rattle.trace_text.proofs.trace.replay_with.Goals as goal
 
 pub play_trace-outcome-requires-clause-enough : goal.play_trace-outcome-requires-clause-enough
-play_trace-outcome-requires-clause-enough g c = enough_seen (λ r. standing_of r.session) (RunsLine g.O.Oracle.gives) Ends (replay_enough g.O.Oracle.gives)
+play_trace-outcome-requires-clause-enough g c =
+    enough_seen (λ r. standing_of r.session) (RunsLine g.O.Oracle.gives) Ends (replay_enough g.O.Oracle.gives)
 
 pub play_trace-outcome-requires-clause-ready : goal.play_trace-outcome-requires-clause-ready
-play_trace-outcome-requires-clause-ready g c = (c.new-replaying.ensures.ready, let none = ap (λ (s : Standing). s.steps) c.new-replaying.ensures.start in omega (arith, none))
+play_trace-outcome-requires-clause-ready g c = (
+  c.new-replaying.ensures.ready,
+  let none = ap (λ (s : Standing). s.steps) c.new-replaying.ensures.start in
+      omega (arith, none),
+)
 
 pub returns-clause-report : goal.returns-clause-report
 returns-clause-report g c =
     mapped c.play_trace-outcome.result _ _
-    (λ outcome written. subst (λ start. reports.IsWritten (RunsLine g.O.Oracle.gives) Ends start (g.S.Source.remaining c.args.source.now) (g.K.Sink.contents c.args.sink.now) (g.K.Sink.contents c.play_trace-outcome.new.sink) outcome) c.new-replaying.ensures.start
-    (written_seen (λ r. standing_of r.session) (RunsLine g.O.Oracle.gives) Ends c.new-replaying.result _ _ _ outcome written))
+    (λ outcome written. subst
+    (λ start. reports.IsWritten (RunsLine g.O.Oracle.gives) Ends start (g.S.Source.remaining c.args.source.now)
+    (g.K.Sink.contents c.args.sink.now)
+    (g.K.Sink.contents c.play_trace-outcome.new.sink) outcome) c.new-replaying.ensures.start
+    (written_seen (λ r. standing_of r.session)
+    (RunsLine g.O.Oracle.gives) Ends c.new-replaying.result _ _ _ outcome written))
     c.play_trace-outcome.ensures.report
 
 pub returns-clause-begun : goal.returns-clause-begun
 returns-clause-begun g c =
     when_err c.play_trace-outcome.result _ _
-    (λ begun. subst (λ start. reports.IsWriteBegun (RunsLine g.O.Oracle.gives) Ends start (g.S.Source.remaining c.args.source.now) (g.K.Sink.contents c.args.sink.now) (g.K.Sink.contents c.play_trace-outcome.new.sink)) c.new-replaying.ensures.start
+    (λ begun. subst
+    (λ start. reports.IsWriteBegun (RunsLine g.O.Oracle.gives) Ends start (g.S.Source.remaining c.args.source.now)
+    (g.K.Sink.contents c.args.sink.now)
+    (g.K.Sink.contents c.play_trace-outcome.new.sink)) c.new-replaying.ensures.start
     (begun_seen (λ r. standing_of r.session) (RunsLine g.O.Oracle.gives) Ends c.new-replaying.result _ _ _ begun))
     c.play_trace-outcome.ensures.begun
 

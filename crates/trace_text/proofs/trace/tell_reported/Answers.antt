@@ -11,7 +11,10 @@ pub returns-in-Some-clause-front : goal.returns-in-Some-clause-front
 returns-in-Some-clause-front g c =
     let runs : c.iter.result ≡ kept_runs c.args.session.now c.in-Maplets.tree = search rules in
     rw c.in-Maplets.is (
-    subst (λ rs. OnErr c.tell_runs.result (WritesFront (shown rs) (g.K.Sink.contents c.args.sink.now) (g.K.Sink.contents c.tell_runs.new.sink))) runs c.tell_runs.ensures.front
+    subst
+    (λ rs. OnErr c.tell_runs.result
+    (WritesFront (shown rs) (g.K.Sink.contents c.args.sink.now) (g.K.Sink.contents c.tell_runs.new.sink))) runs
+    c.tell_runs.ensures.front
     )
 
 pub returns-in-Step-clause-front : goal.returns-in-Step-clause-front

@@ -6,10 +6,13 @@ use Rattle.trace_text.proofs.ReplayLemmas.{on_err, when_err}
 use Rattle.trace_text.proofs.trace.tell_step.Goals as goal
 
 pub returns-in_err-tell-clause-front : goal.returns-in_err-tell-clause-front
-returns-in_err-tell-clause-front g c = on_err _ (front_first _ _ (report.Response c.args.told ∷ []) (verdict_lines c.args.verdict) c.in_err-tell.ensures.front)
+returns-in_err-tell-clause-front g c =
+    on_err _
+    (front_first _ _ (report.Response c.args.told ∷ []) (verdict_lines c.args.verdict) c.in_err-tell.ensures.front)
 
 pub returns-clause-front : goal.returns-clause-front
 returns-clause-front g c =
     when_err c.tell_verdict.result _ _
-    (λ front. front_behind _ (g.K.Sink.contents c.tell.new.sink) _ (report.Response c.args.told ∷ []) (verdict_lines c.args.verdict) c.in_ok-tell.ensures.ok front)
+    (λ front. front_behind _ (g.K.Sink.contents c.tell.new.sink) _ (report.Response c.args.told ∷ [])
+    (verdict_lines c.args.verdict) c.in_ok-tell.ensures.ok front)
     c.tell_verdict.ensures.front

@@ -4,16 +4,21 @@ use Rattle.trace_text.proofs.ReplayLemmas.{appends_lines, on_err, when_err, when
 use Rattle.trace_text.proofs.trace.tell_verdict.Goals as goal
 
 pub returns-in_err-tell_judged-clause-front : goal.returns-in_err-tell_judged-clause-front
-returns-in_err-tell_judged-clause-front g c = on_err _ (front_first _ _ (judged_lines c.args.verdict.judged) (audited_lines c.args.verdict.audited) c.in_err-tell_judged.ensures.front)
+returns-in_err-tell_judged-clause-front g c =
+    on_err _
+    (front_first _ _ (judged_lines c.args.verdict.judged)
+    (audited_lines c.args.verdict.audited) c.in_err-tell_judged.ensures.front)
 
 pub returns-clause-front : goal.returns-clause-front
 returns-clause-front g c =
     when_err c.tell_audited.result _ _
-    (λ front. front_behind _ (g.K.Sink.contents c.tell_judged.new.sink) _ (judged_lines c.args.verdict.judged) (audited_lines c.args.verdict.audited) c.in_ok-tell_judged.ensures.ok front)
+    (λ front. front_behind _ (g.K.Sink.contents c.tell_judged.new.sink) _ (judged_lines c.args.verdict.judged)
+    (audited_lines c.args.verdict.audited) c.in_ok-tell_judged.ensures.ok front)
     c.tell_audited.ensures.front
 
 pub returns-clause-ok : goal.returns-clause-ok
 returns-clause-ok g c =
     when_ok c.tell_audited.result _ _
-    (λ rest. appends_lines (g.K.Sink.contents c.args.sink.now) (g.K.Sink.contents c.tell_judged.new.sink) _ (judged_lines c.args.verdict.judged) (audited_lines c.args.verdict.audited) c.in_ok-tell_judged.ensures.ok rest)
+    (λ rest. appends_lines (g.K.Sink.contents c.args.sink.now) (g.K.Sink.contents c.tell_judged.new.sink) _
+    (judged_lines c.args.verdict.judged) (audited_lines c.args.verdict.audited) c.in_ok-tell_judged.ensures.ok rest)
     c.tell_audited.ensures.ok

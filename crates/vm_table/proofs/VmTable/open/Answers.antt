@@ -4,4 +4,6 @@ use Rattle.vm_table.proofs.Slots.{changed_at}
 use Rattle.vm_table.proofs.VmTable.open.Goals as goal
 
 pub returns : goal.returns
-returns c = changed_at c.args.slot (vms_of c.args.self.now) (vms_of c.put_slot.new.self) (slot_of c.slot-old.result) (λ (y : Slot). record y { stand = opened }) c.put_slot.ensures c.slot-old.ensures
+returns c =
+    changed_at c.args.slot (vms_of c.args.self.now) (vms_of c.put_slot.new.self) (slot_of c.slot-old.result)
+    (λ (y : Slot). record y { stand = opened }) c.put_slot.ensures c.slot-old.ensures

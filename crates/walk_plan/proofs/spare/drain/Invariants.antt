@@ -9,7 +9,8 @@ abbrev pub invariant-loop-table : goal.invariant-loop-table
 invariant-loop-table g l = record {
   frames : all_given (frames_of l.stock) l.pool.frames ≡ all_given (frames_of l.initial.stock) l.initial.pool.frames;
   room : l.pool.room ≡ l.initial.pool.room;
-  spares : spares_of l.tree + length (frames_of l.stock) ≡ spares_of l.initial.tree + length (frames_of l.initial.stock);
+  spares : spares_of l.tree + length (frames_of l.stock)
+      ≡ spares_of l.initial.tree + length (frames_of l.initial.stock);
   geometry : l.tree.geometry ≡ l.initial.tree.geometry;
   table : l.tree.table ≡ l.initial.tree.table;
   distinct : (f : ℕ) → frame_count f (frames_of l.stock) + frame_count f l.pool.frames ≤ 1;

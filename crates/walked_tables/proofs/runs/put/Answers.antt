@@ -53,20 +53,25 @@ put_none first count v old some low small kept behind e =
 
 pub returns-in_ok-push_run-clause-map : goal.returns-in_ok-push_run-clause-map
 returns-in_ok-push_run-clause-map c =
-    (put_some c.args.first c.args.count c.args.value c.in-Some.value _ _ c.requires.some c.requires.pages c.requires.small c.requires.kept c.requires.behind c.in-Some.is c.in_ok-push_run.ensures.ok).map
+    (put_some c.args.first c.args.count c.args.value c.in-Some.value _ _ c.requires.some c.requires.pages
+    c.requires.small c.requires.kept c.requires.behind c.in-Some.is c.in_ok-push_run.ensures.ok).map
 
 pub returns-in_ok-push_run-clause-kept : goal.returns-in_ok-push_run-clause-kept
 returns-in_ok-push_run-clause-kept c =
-    (put_some c.args.first c.args.count c.args.value c.in-Some.value _ _ c.requires.some c.requires.pages c.requires.small c.requires.kept c.requires.behind c.in-Some.is c.in_ok-push_run.ensures.ok).kept
+    (put_some c.args.first c.args.count c.args.value c.in-Some.value _ _ c.requires.some c.requires.pages
+    c.requires.small c.requires.kept c.requires.behind c.in-Some.is c.in_ok-push_run.ensures.ok).kept
 
 pub returns-in_ok-push_run-clause-behind : goal.returns-in_ok-push_run-clause-behind
 returns-in_ok-push_run-clause-behind c =
-    (put_some c.args.first c.args.count c.args.value c.in-Some.value _ _ c.requires.some c.requires.pages c.requires.small c.requires.kept c.requires.behind c.in-Some.is c.in_ok-push_run.ensures.ok).behind
+    (put_some c.args.first c.args.count c.args.value c.in-Some.value _ _ c.requires.some c.requires.pages
+    c.requires.small c.requires.kept c.requires.behind c.in-Some.is c.in_ok-push_run.ensures.ok).behind
 
 pub returns-in_default-clause-map : goal.returns-in_default-clause-map
 returns-in_default-clause-map c =
-    (put_none c.args.first c.args.count c.args.value _ c.requires.some c.requires.pages c.requires.small c.requires.kept c.requires.behind c.in_default.is).map
+    (put_none c.args.first c.args.count c.args.value _ c.requires.some c.requires.pages c.requires.small
+    c.requires.kept c.requires.behind c.in_default.is).map
 
 pub returns-in_default-clause-behind : goal.returns-in_default-clause-behind
 returns-in_default-clause-behind c =
-    (put_none c.args.first c.args.count c.args.value _ c.requires.some c.requires.pages c.requires.small c.requires.kept c.requires.behind c.in_default.is).behind
+    (put_none c.args.first c.args.count c.args.value _ c.requires.some c.requires.pages c.requires.small
+    c.requires.kept c.requires.behind c.in_default.is).behind

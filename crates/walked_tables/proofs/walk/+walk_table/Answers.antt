@@ -12,8 +12,10 @@ use Rattle.walked_tables.proofs.walk.+walk_table.Goals.{in-Some+in_ok-walk_table
 
 pub returns-in_err-reach-clause-stopped : goal.returns-in_err-reach-clause-stopped
 returns-in_err-reach-clause-stopped t c =
-    passed_on _ _ c.from_residual.result c.reach.result c.in_err-reach.field-0.0 c.in_err-reach.was c.from_residual.ensures.1
-    (stopped_first c.args.profile.now c.args.pages.now c.args.tree c.args.depth c.args.number c.args.page c.args.met.now.items c.args.runs.now.items) c.reach.ensures.stopped
+    passed_on _ _ c.from_residual.result c.reach.result c.in_err-reach.field-0.0 c.in_err-reach.was
+    c.from_residual.ensures.1
+    (stopped_first c.args.profile.now c.args.pages.now c.args.tree c.args.depth c.args.number c.args.page
+    c.args.met.now.items c.args.runs.now.items) c.reach.ensures.stopped
 
 -- the first number of a slot's block is below the table's last
 pub overflow_mul-part : goal.overflow_mul-part
@@ -25,9 +27,11 @@ overflow_mul-part t c =
 
 pub loop-i-init : goal.loop-i-init
 loop-i-init t c =
-    begun c.args.profile.now c.args.pages.now c.args.tree c.args.depth c.args.number c.args.page c.args.met.now.items c.args.runs.now.items c.reach.new.met.items c.in_ok-reach.ensures.met
+    begun c.args.profile.now c.args.pages.now c.args.tree c.args.depth c.args.number c.args.page c.args.met.now.items
+    c.args.runs.now.items c.reach.new.met.items c.in_ok-reach.ensures.met
     (apart_more c.args.met.now.items c.reach.new.met.items
-    (reached_at c.args.tree c.args.depth c.args.number c.args.page) c.requires.apart c.in_ok-reach.ensures.fresh c.in_ok-reach.ensures.met) c.requires.kept c.requires.behind
+    (reached_at c.args.tree c.args.depth c.args.number c.args.page) c.requires.apart c.in_ok-reach.ensures.fresh
+    c.in_ok-reach.ensures.met) c.requires.kept c.requires.behind
 
 pub walk_table-requires : goal.walk_table-requires
 walk_table-requires t c =
@@ -42,11 +46,15 @@ walk_table-requires t c =
           (
             led_whole c.args.profile.now c.args.pages.now c.args.depth _ c.in-Some.next led c.requires.whole,
             (
-              place_below c.args.profile.now c.args.pages.now c.args.tree c.args.depth c.args.number c.args.page c.args.met.now.items c.args.runs.now.items c.loop-i.i c.loop-i.met.items c.loop-i.runs.items c.loop-i.invariant c.loop-i-test.true c.requires.page _ refl c.in-Some.next led c.requires.place,
+              place_below c.args.profile.now c.args.pages.now c.args.tree c.args.depth c.args.number c.args.page
+                  c.args.met.now.items c.args.runs.now.items c.loop-i.i c.loop-i.met.items c.loop-i.runs.items
+                  c.loop-i.invariant c.loop-i-test.true c.requires.page _ refl c.in-Some.next led c.requires.place,
               (
                 c.loop-i.invariant.kept,
                 (
-                  behind_below c.args.profile.now c.args.pages.now c.args.tree c.args.depth c.args.number c.args.page c.args.met.now.items c.args.runs.now.items c.loop-i.i c.loop-i.met.items c.loop-i.runs.items c.loop-i.invariant c.loop-i-test.true c.requires.page _ refl c.in-Some.next led,
+                  behind_below c.args.profile.now c.args.pages.now c.args.tree c.args.depth c.args.number c.args.page
+                      c.args.met.now.items c.args.runs.now.items c.loop-i.i c.loop-i.met.items c.loop-i.runs.items
+                      c.loop-i.invariant c.loop-i-test.true c.requires.page _ refl c.in-Some.next led,
                   c.loop-i.invariant.apart,
                 ),
               ),
@@ -58,18 +66,29 @@ walk_table-requires t c =
 
 pub returns-in_err-walk_table-in-Some-clause-stopped : goal.returns-in_err-walk_table-in-Some-clause-stopped
 returns-in_err-walk_table-in-Some-clause-stopped t c =
-    passed_on _ _ c.from_residual-in_err-walk_table-in-Some.result c.walk_table.result c.in_err-walk_table-in-Some.field-0.0 c.in_err-walk_table-in-Some.was c.from_residual-in_err-walk_table-in-Some.ensures.1
-    (stopped_below c.args.profile.now c.args.pages.now c.args.tree c.args.depth c.args.number c.args.page c.args.met.now.items c.args.runs.now.items c.loop-i.i c.loop-i.met.items c.loop-i.runs.items c.loop-i.invariant c.loop-i-test.true c.requires.page _ refl c.in-Some.next
+    passed_on _ _ c.from_residual-in_err-walk_table-in-Some.result c.walk_table.result
+    c.in_err-walk_table-in-Some.field-0.0 c.in_err-walk_table-in-Some.was
+    c.from_residual-in_err-walk_table-in-Some.ensures.1
+    (stopped_below c.args.profile.now c.args.pages.now c.args.tree c.args.depth c.args.number c.args.page
+    c.args.met.now.items c.args.runs.now.items c.loop-i.i c.loop-i.met.items c.loop-i.runs.items c.loop-i.invariant
+    c.loop-i-test.true c.requires.page _ refl c.in-Some.next
     (sym c.next_page.ensures ∙ c.in-Some.is)) c.walk_table.ensures.stopped
 
 pub loop-i-preserved : goal.loop-i-preserved
 loop-i-preserved t c = elim c.match-next_page.branch [
   | in-Some+in_ok-walk_table-in-Some w ↦ rw (w.met-is, w.runs-is)
-      (more_below c.args.profile.now c.args.pages.now c.args.tree c.args.depth c.args.number c.args.page c.args.met.now.items c.args.runs.now.items c.loop-i.i c.loop-i.met.items c.loop-i.runs.items c.loop-i.invariant c.loop-i-test.true c.requires.page _ refl w.in-Some.next
+      (more_below c.args.profile.now c.args.pages.now c.args.tree c.args.depth c.args.number c.args.page
+      c.args.met.now.items c.args.runs.now.items c.loop-i.i c.loop-i.met.items c.loop-i.runs.items
+      c.loop-i.invariant c.loop-i-test.true c.requires.page _ refl w.in-Some.next
       (sym c.next_page.ensures ∙ w.in-Some.is) w.walk_table.new.met.items w.walk_table.new.runs.items
-      w.in_ok-walk_table-in-Some.ensures.walked.met w.in_ok-walk_table-in-Some.ensures.walked.apart w.in_ok-walk_table-in-Some.ensures.walked.map w.in_ok-walk_table-in-Some.ensures.walked.kept w.in_ok-walk_table-in-Some.ensures.walked.behind)
+      w.in_ok-walk_table-in-Some.ensures.walked.met w.in_ok-walk_table-in-Some.ensures.walked.apart
+      w.in_ok-walk_table-in-Some.ensures.walked.map w.in_ok-walk_table-in-Some.ensures.walked.kept
+      w.in_ok-walk_table-in-Some.ensures.walked.behind)
   | in-None+in_ok-put-in-None w ↦ rw (w.met-is, w.runs-is)
-      (more_word c.args.profile.now c.args.pages.now c.args.tree c.args.depth c.args.number c.args.page c.args.met.now.items c.args.runs.now.items c.loop-i.i c.loop-i.met.items c.loop-i.runs.items c.loop-i.invariant c.loop-i-test.true c.requires.page _ refl w.value_at.result c.pages_under-each.result w.put.new.runs.items
+      (more_word c.args.profile.now c.args.pages.now c.args.tree c.args.depth c.args.number c.args.page
+      c.args.met.now.items c.args.runs.now.items c.loop-i.i c.loop-i.met.items c.loop-i.runs.items
+      c.loop-i.invariant c.loop-i-test.true c.requires.page _ refl w.value_at.result c.pages_under-each.result
+      w.put.new.runs.items
       (sym c.next_page.ensures ∙ w.in-None.is) c.pages_under-each.ensures.value w.value_at.ensures.value
       w.in_ok-put-in-None.ensures.map w.in_ok-put-in-None.ensures.kept w.in_ok-put-in-None.ensures.behind)
 ]
@@ -77,14 +96,20 @@ loop-i-preserved t c = elim c.match-next_page.branch [
 pub returns-clause-walked : goal.returns-clause-walked
 returns-clause-walked t c = record {
   map =
-      all_map c.args.profile.now c.args.pages.now c.args.tree c.args.depth c.args.number c.args.page c.args.met.now.items c.args.runs.now.items c.loop-i.i c.loop-i.met.items c.loop-i.runs.items c.loop-i.invariant
+      all_map c.args.profile.now c.args.pages.now c.args.tree c.args.depth c.args.number c.args.page
+      c.args.met.now.items c.args.runs.now.items c.loop-i.i c.loop-i.met.items c.loop-i.runs.items
+      c.loop-i.invariant
       (omega (arith, c.loop-i.auto.i-end)) (omega (arith, c.loop-i-test.false)) c.requires.page;
   kept = c.loop-i.invariant.kept;
   behind =
-      all_behind c.args.profile.now c.args.pages.now c.args.tree c.args.depth c.args.number c.args.page c.args.met.now.items c.args.runs.now.items c.loop-i.i c.loop-i.met.items c.loop-i.runs.items c.loop-i.invariant
+      all_behind c.args.profile.now c.args.pages.now c.args.tree c.args.depth c.args.number c.args.page
+      c.args.met.now.items c.args.runs.now.items c.loop-i.i c.loop-i.met.items c.loop-i.runs.items
+      c.loop-i.invariant
       (omega (arith, c.loop-i.auto.i-end)) (omega (arith, c.loop-i-test.false)) c.requires.page;
   met =
-      all_met c.args.profile.now c.args.pages.now c.args.tree c.args.depth c.args.number c.args.page c.args.met.now.items c.args.runs.now.items c.loop-i.i c.loop-i.met.items c.loop-i.runs.items c.loop-i.invariant
+      all_met c.args.profile.now c.args.pages.now c.args.tree c.args.depth c.args.number c.args.page
+      c.args.met.now.items c.args.runs.now.items c.loop-i.i c.loop-i.met.items c.loop-i.runs.items
+      c.loop-i.invariant
       (omega (arith, c.loop-i.auto.i-end)) (omega (arith, c.loop-i-test.false)) c.requires.page;
   apart = c.loop-i.invariant.apart;
 }

@@ -6,4 +6,5 @@ decreases-walk_table l = l.depth
 
 abbrev pub invariant-loop-i : goal.invariant-loop-i
 invariant-loop-i l =
-    IsWalked l.profile l.pages l.tree l.depth l.number l.page l.fn.met.items l.fn.runs.items l.i l.met.items l.runs.items
+    IsWalked l.profile l.pages l.tree l.depth l.number l.page l.fn.met.items l.fn.runs.items l.i l.met.items
+    l.runs.items

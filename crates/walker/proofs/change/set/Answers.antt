@@ -36,7 +36,8 @@ set_with-requires-clause-just g c =
     let e = edit_on c.args.range c.args.entry in
     let taken = c.in_ok-spare.ensures.taken in
     let stays = c.reserve.ensures.stays in
-    ap length taken.frames ∙ take_length (need_in t e) c.args.pool.now.frames taken.enough ∙ sym (by_views c.reserve.new.tree t stays.geometry stays.table (λ x y. need (levels_below x) y e))
+    ap length taken.frames ∙ take_length (need_in t e) c.args.pool.now.frames taken.enough
+    ∙ sym (by_views c.reserve.new.tree t stays.geometry stays.table (λ x y. need (levels_below x) y e))
 
 pub set_with-requires-clause-apart : goal.set_with-requires-clause-apart
 set_with-requires-clause-apart g c =
@@ -45,8 +46,25 @@ set_with-requires-clause-apart g c =
     let taken = c.in_ok-spare.ensures.taken in
     let stays = c.reserve.ensures.stays in
     record {
-      distinct = λ f. omega (arith, ap (frame_count f) taken.frames, ap (frame_count f) taken.pool, count_parts f n p, c.requires.apart.distinct f, same_uses c.reserve.new.tree c.args.tree.now stays.geometry stays.table f);
-      covered = omega (arith, ap length taken.frames, ap length taken.pool, take_drop_length n p, c.requires.apart.covered, c.reserve.ensures.room, same_count c.reserve.new.tree c.args.tree.now stays.geometry stays.table);
+      distinct =
+          λ f. omega (
+            arith,
+            ap (frame_count f) taken.frames,
+            ap (frame_count f) taken.pool,
+            count_parts f n p,
+            c.requires.apart.distinct f,
+            same_uses c.reserve.new.tree c.args.tree.now stays.geometry stays.table f,
+          );
+      covered =
+          omega (
+            arith,
+            ap length taken.frames,
+            ap length taken.pool,
+            take_drop_length n p,
+            c.requires.apart.covered,
+            c.reserve.ensures.room,
+            same_count c.reserve.new.tree c.args.tree.now stays.geometry stays.table,
+          );
     }
 
 pub returns-clause-changed : goal.returns-clause-changed
@@ -61,8 +79,13 @@ returns-clause-changed g c =
     let back = by_views u t stays.geometry stays.table (λ x y. returned (levels_below x) y e) in
     record {
       enough = taken.enough;
-      tree = made.tree ∙ by_views u t stays.geometry stays.table (λ x y. edited (levels_below x) y e (frames_of c.in_ok-spare.spare.stock)) ∙ ap (after_in t e) taken.frames ∙ edited_take (levels_below t.geometry) (tree_of t) e p;
-      pool = made.pool ∙ ap (λ fs. all_given fs c.reserve.new.pool.frames) back ∙ ap (all_given (back_in t e)) taken.pool;
+      tree =
+          made.tree
+          ∙ by_views u t stays.geometry stays.table
+          (λ x y. edited (levels_below x) y e (frames_of c.in_ok-spare.spare.stock))
+          ∙ ap (after_in t e) taken.frames ∙ edited_take (levels_below t.geometry) (tree_of t) e p;
+      pool =
+          made.pool ∙ ap (λ fs. all_given fs c.reserve.new.pool.frames) back ∙ ap (all_given (back_in t e)) taken.pool;
       spares = omega (arith, made.spares, taken.spares, ap length back);
     }
 
@@ -78,8 +101,24 @@ returns-clause-keeps g c =
       geometry = kept.geometry ∙ stays.geometry;
       root = kept.root ∙ root_is t c.reserve.new.tree (ap (λ x. frame_of x) stays.table);
       room = kept.room ∙ c.reserve.ensures.room;
-      frames = λ f. kept.frames f ∙ omega (arith, ap (frame_count f) taken.frames, ap (frame_count f) taken.pool, count_parts f n p, same_uses c.reserve.new.tree t stays.geometry stays.table f);
-      tables = omega (arith, kept.tables, ap length taken.frames, ap length taken.pool, take_drop_length n p, same_count c.reserve.new.tree t stays.geometry stays.table);
+      frames =
+          λ f. kept.frames f
+          ∙ omega (
+            arith,
+            ap (frame_count f) taken.frames,
+            ap (frame_count f) taken.pool,
+            count_parts f n p,
+            same_uses c.reserve.new.tree t stays.geometry stays.table f,
+          );
+      tables =
+          omega (
+            arith,
+            kept.tables,
+            ap length taken.frames,
+            ap length taken.pool,
+            take_drop_length n p,
+            same_count c.reserve.new.tree t stays.geometry stays.table,
+          );
     }
 
 pub returns-clause-canonical : goal.returns-clause-canonical
@@ -87,7 +126,8 @@ returns-clause-canonical g c = tree_canonical c.set_with.new.tree
 
 pub returns-clause-by_map : goal.returns-clause-by_map
 returns-clause-by_map g c =
-    let same = need_by_map c.args.tree.now c.args.range.first.0 c.args.range.count c.args.entry c.requires.fits.within in
+    let same =
+    need_by_map c.args.tree.now c.args.range.first.0 c.args.range.count c.args.entry c.requires.fits.within in
     (λ e. absurd (never e), λ few. absurd (omega (arith, same, few, c.in_ok-spare.ensures.taken.enough)))
 
 pub returns-in_err-spare-clause-keeps : goal.returns-in_err-spare-clause-keeps
@@ -99,8 +139,14 @@ returns-in_err-spare-clause-keeps g c =
       geometry = stays.geometry;
       root = root_is t c.reserve.new.tree (ap (λ x. frame_of x) stays.table);
       room = c.reserve.ensures.room;
-      frames = λ f. omega (arith, ap (λ q. frame_count f q.frames) same, same_uses c.reserve.new.tree t stays.geometry stays.table f);
-      tables = omega (arith, ap (λ q. length q.frames) same, same_count c.reserve.new.tree t stays.geometry stays.table);
+      frames =
+          λ f. omega (
+            arith,
+            ap (λ q. frame_count f q.frames) same,
+            same_uses c.reserve.new.tree t stays.geometry stays.table f,
+          );
+      tables =
+          omega (arith, ap (λ q. length q.frames) same, same_count c.reserve.new.tree t stays.geometry stays.table);
     }
 
 pub returns-in_err-spare-clause-canonical : goal.returns-in_err-spare-clause-canonical
@@ -108,7 +154,10 @@ returns-in_err-spare-clause-canonical g c = tree_canonical c.reserve.new.tree
 
 pub returns-in_err-spare-clause-by_map : goal.returns-in_err-spare-clause-by_map
 returns-in_err-spare-clause-by_map g c =
-    let same = need_by_map c.args.tree.now c.args.range.first.0 c.args.range.count c.args.entry c.requires.fits.within in
+    let same =
+    need_by_map c.args.tree.now c.args.range.first.0 c.args.range.count c.args.entry c.requires.fits.within in
     let f = c.in_err-spare.field-0.0 in
-    let short = c.in_err-spare.ensures.refused.no_pool in
-    (λ e. omega (arith, same, short.0 (same_fault c.from_residual.result f _ c.from_residual.ensures.1 e)), λ few. passed_on c.from_residual.result f _ c.from_residual.ensures.1 (short.1 (omega (arith, same, few))))
+    let short = c.in_err-spare.ensures.refused.no_pool in (
+      λ e. omega (arith, same, short.0 (same_fault c.from_residual.result f _ c.from_residual.ensures.1 e)),
+      λ few. passed_on c.from_residual.result f _ c.from_residual.ensures.1 (short.1 (omega (arith, same, few))),
+    )

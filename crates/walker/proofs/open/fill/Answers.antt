@@ -41,19 +41,33 @@ loop-i-preserved g c =
     let step = c.step_of-step.result in
     let word = first + c.loop-i.i * step in
     let pages = c.loop-i.i * block_pages d in
-    let said : IsEntryWord d word = goes_said d first c.loop-i.i step c.args.entry c.word_of-first.ensures.entry c.word_of-first.ensures.value c.step_of-step.ensures c.loop-i-test.true in
-    let value : gives d word ≡ advance c.args.entry pages = c.step_of-step.ensures.ahead first c.loop-i.i c.word_of-first.ensures.entry.0 c.word_of-first.ensures.value c.loop-i-test.true in
+    let said : IsEntryWord d word =
+    goes_said d first c.loop-i.i step c.args.entry c.word_of-first.ensures.entry c.word_of-first.ensures.value
+    c.step_of-step.ensures c.loop-i-test.true in
+    let value : gives d word ≡ advance c.args.entry pages =
+    c.step_of-step.ensures.ahead first c.loop-i.i c.word_of-first.ensures.entry.0 c.word_of-first.ensures.value
+    c.loop-i-test.true in
     record {
       frame = c.put.ensures.frame ∙ h.frame;
-      wide = set_wide c.loop-i.table c.put.new.self c.loop-i.i (Word (c.word_of-first.result + c.loop-i.i * c.step_of-step.result)) slots h.wide;
+      wide =
+          set_wide c.loop-i.table c.put.new.self c.loop-i.i
+          (Word (c.word_of-first.result + c.loop-i.i * c.step_of-step.result)) slots h.wide;
       shape = t.shape d h.shape said;
       tight = t.tight d h.tight;
       uses = λ f. t.uses d f ∙ h.uses f ∙ ap (λ n. is_one n f) (sym c.put.ensures.frame);
       tables = t.tables d ∙ h.tables;
       standing = λ low q l. t.standing d low q ∙ h.standing low q l;
-      map = written_map d c.loop-i.i word pages c.args.entry (advance c.args.entry pages) c.loop-i.table c.put.new.self t value refl refl h.map;
-      parts = written_parts d c.loop-i.i word pages c.args.entry (advance c.args.entry pages) c.loop-i.table c.put.new.self h.wide c.loop-i-test.true slots said value refl refl h.parts;
-      rest = λ k l p. let ne : k ≢ c.loop-i.i = omega arith in set_others c.loop-i.table c.put.new.self c.loop-i.i k (Word (c.word_of-first.result + c.loop-i.i * c.step_of-step.result)) slots ne ∙ h.rest k (omega arith) p;
+      map =
+          written_map d c.loop-i.i word pages c.args.entry
+          (advance c.args.entry pages) c.loop-i.table c.put.new.self t value refl refl h.map;
+      parts =
+          written_parts d c.loop-i.i word pages c.args.entry
+          (advance c.args.entry pages) c.loop-i.table c.put.new.self h.wide c.loop-i-test.true slots said value
+          refl refl h.parts;
+      rest = λ k l p. let ne : k ≢ c.loop-i.i = omega arith in
+          set_others c.loop-i.table c.put.new.self c.loop-i.i k
+          (Word (c.word_of-first.result + c.loop-i.i * c.step_of-step.result)) slots ne
+          ∙ h.rest k (omega arith) p;
     }
 
 pub returns-clause-frame : goal.returns-clause-frame

@@ -19,7 +19,9 @@ invariant-loop-i g l = record {
   uses : (f : ℕ) → uses_in l.depth l.table f ≡ is_one (frame_of l.table) f;
   tables : tables_in l.depth l.table ≡ 1;
   standing : (low q : ℕ) → low < l.depth → table_in l.depth l.table low q ≡ None;
-  map : (q : ℕ) → index_at l.depth q < l.i → entry_at l.depth l.table q ≡ advance l.fn.entry (q % block_pages (l.depth + 1));
+  map : (q : ℕ)
+      → index_at l.depth q < l.i
+      → entry_at l.depth l.table q ≡ advance l.fn.entry (q % block_pages (l.depth + 1));
   parts : (k : ℕ) → k < l.i → IsPart l.depth l.fn.entry k (slot_at l.table k);
   rest : (k : ℕ) → l.i ≤ k → k < 512 → slot_at l.table k ≡ Word 0;
 }

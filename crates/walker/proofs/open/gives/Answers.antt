@@ -11,5 +11,7 @@ returns-in-Word g c =
       λ t. (c.in-Word.word, c.in-Word.is, sym c.entry_of.ensures.value ∙ tells.0 (sym c.eq.ensures ∙ t)),
       λ h.
           let same : c.in-Word.word ≡ h.0 = cc in
-          c.eq.ensures ∙ tells.1 (c.entry_of.ensures.value ∙ (ap (λ w. entry_of_word (desc_of (level_at c.args.depth) w)) same ∙ h.2)),
+          c.eq.ensures
+          ∙ tells.1
+          (c.entry_of.ensures.value ∙ (ap (λ w. entry_of_word (desc_of (level_at c.args.depth) w)) same ∙ h.2)),
     )

@@ -27,10 +27,18 @@ less_more n h = omega arith
 one_less : (g : _) (t : _) (c : set_slot-After-set_all g t) → c.args.depth - 1 + 1 ≡ c.args.depth
 one_less g t c = let k : 1 ≤ c.args.depth = (c.in-Opening.ensures.found.0).deep in omega arith
 
-is_ready : (g : _) (t : _) (c : set_slot-After-set_all g t) → IsReady (c.args.depth - 1 + 1) (c.args.depth - 1) c.args.i c.args.table.now c.opened-child.result.value (frames_of c.args.walk.now.spare) (frames_of c.opened-child.new.spare) c.args.change
-is_ready g t c = c.opened-child.ensures.ready c.args.change (subst (λ m. IsChange m c.args.change) (sym (one_less g t c)) c.requires.change_in) (subst (λ m. IsOpening m (slot_at c.args.table.now c.args.i) c.args.change) (sym (one_less g t c)) (c.in-Opening.ensures.found.0))
+is_ready : (g : _) (t : _) (c : set_slot-After-set_all g t)
+    → IsReady (c.args.depth - 1 + 1) (c.args.depth - 1) c.args.i c.args.table.now c.opened-child.result.value
+    (frames_of c.args.walk.now.spare) (frames_of c.opened-child.new.spare) c.args.change
+is_ready g t c =
+    c.opened-child.ensures.ready c.args.change
+    (subst (λ m. IsChange m c.args.change) (sym (one_less g t c)) c.requires.change_in)
+    (subst (λ m. IsOpening m (slot_at c.args.table.now c.args.i) c.args.change) (sym (one_less g t c))
+    (c.in-Opening.ensures.found.0))
 
-is_grown : (g : _) (t : _) (c : set_slot-After-set_all g t) → IsTableChanged (c.args.depth - 1) c.opened-child.result.value c.set_all.new.table c.args.change (frames_of c.opened-child.new.spare) (frames_of c.set_all.new.walk.spare)
+is_grown : (g : _) (t : _) (c : set_slot-After-set_all g t)
+    → IsTableChanged (c.args.depth - 1) c.opened-child.result.value c.set_all.new.table c.args.change
+    (frames_of c.opened-child.new.spare) (frames_of c.set_all.new.walk.spare)
 is_grown g t c = record {
   frame = rw c.deref_mut.ensures.value at c.set_all.ensures.changed.frame;
   shape = c.set_all.ensures.changed.shape;
@@ -44,23 +52,34 @@ is_grown g t c = record {
 pub set_slot-returns-clause-reads : goal.set_slot-returns-clause-reads
 set_slot-returns-clause-reads g t c =
     let k : 1 ≤ c.args.depth = (c.in-Opening.ensures.found.0).deep in
-    let r = child_reads c.args.depth (count_of c.look_for.new.reads) (count_of c.set_all.new.walk.reads) c.args.change k c.set_all.ensures.reads c.set_all.ensures.whole in
+    let r =
+    child_reads c.args.depth (count_of c.look_for.new.reads)
+    (count_of c.set_all.new.walk.reads) c.args.change k c.set_all.ensures.reads c.set_all.ensures.whole in
     omega (arith, r, c.put_back.ensures.reads, c.in-Opening.ensures.reads)
 
 pub set_slot-put_back-requires-clause-depth_in : goal.set_slot-put_back-requires-clause-depth_in
-set_slot-put_back-requires-clause-depth_in g t c = subst IsDepth (sym (less_more _ ((c.in-Opening.ensures.found.0).deep))) c.requires.depth_in
+set_slot-put_back-requires-clause-depth_in g t c =
+    subst IsDepth (sym (less_more _ ((c.in-Opening.ensures.found.0).deep))) c.requires.depth_in
 
 pub set_slot-put_back-requires-clause-index_in : goal.set_slot-put_back-requires-clause-index_in
 set_slot-put_back-requires-clause-index_in g t c = c.requires.index_in
 
 pub set_slot-put_back-requires-clause-wide : goal.set_slot-put_back-requires-clause-wide
-set_slot-put_back-requires-clause-wide g t c = set_wide c.args.table.now c.opened-child.new.table c.args.i (Word 0) c.opened-child.ensures.slots (shaped_wide c.args.depth c.args.table.now c.requires.shape)
+set_slot-put_back-requires-clause-wide g t c =
+    set_wide c.args.table.now c.opened-child.new.table c.args.i (Word 0) c.opened-child.ensures.slots
+    (shaped_wide c.args.depth c.args.table.now c.requires.shape)
 
 pub set_slot-put_back-requires-clause-holds : goal.set_slot-put_back-requires-clause-holds
-set_slot-put_back-requires-clause-holds g t c = (0, set_here c.args.table.now c.opened-child.new.table c.args.i c.args.i (Word 0) c.opened-child.ensures.slots c.requires.index_in (shaped_wide c.args.depth c.args.table.now c.requires.shape) refl)
+set_slot-put_back-requires-clause-holds g t c = (
+  0,
+  set_here c.args.table.now c.opened-child.new.table c.args.i c.args.i
+      (Word 0) c.opened-child.ensures.slots c.requires.index_in
+      (shaped_wide c.args.depth c.args.table.now c.requires.shape) refl,
+)
 
 pub set_slot-put_back-requires-clause-child_wide : goal.set_slot-put_back-requires-clause-child_wide
-set_slot-put_back-requires-clause-child_wide g t c = shaped_wide (c.args.depth - 1) c.set_all.new.table c.set_all.ensures.changed.shape
+set_slot-put_back-requires-clause-child_wide g t c =
+    shaped_wide (c.args.depth - 1) c.set_all.new.table c.set_all.ensures.changed.shape
 
 pub set_slot-put-requires-clause-wide : goal.set_slot-put-requires-clause-wide
 set_slot-put-requires-clause-wide g t c = shaped_wide c.args.depth c.args.table.now c.requires.shape
@@ -86,7 +105,8 @@ set_all-loop-i-init g t c =
     }
 
 pub set_all-part-part-requires-clause-within : goal.set_all-part-part-requires-clause-within
-set_all-part-part-requires-clause-within g t c = part_in c.args.depth c.loop-i.i c.args.change c.requires.change_in c.loop-i-test.true
+set_all-part-part-requires-clause-within g t c =
+    part_in c.args.depth c.loop-i.i c.args.change c.requires.change_in c.loop-i-test.true
 
 pub set_all-set_slot-requires : goal.set_all-set_slot-requires
 set_all-set_slot-requires g t c κs within =
@@ -98,8 +118,31 @@ set_all-set_slot-requires g t c κs within =
     let n = need_next d c.loop-i.i c.args.change c.args.table.now p in
     let m : 2 * d < t = omega (arith, c.decreases) in
     let y = sum_mono (met d c.args.change (table_parts d c.args.table.now)) (c.loop-i.i + 1) 512 (omega (arith, i)) in
-    let l = ap length c.loop-i.invariant.spare ∙ length-drop (sum_to (met d c.args.change (table_parts d c.args.table.now)) c.loop-i.i) (frames_of c.args.walk.now.spare) in
-    (m, (within, (c.requires.depth_in, (i, (c.loop-i.invariant.shape, (c.loop-i.invariant.tight, (rw c.part-part.ensures p, rw (c.part-part.ensures, s) (omega (arith, n, y, c.requires.enough, l)))))))))
+    let l =
+    ap length c.loop-i.invariant.spare
+    ∙ length-drop (sum_to (met d c.args.change (table_parts d c.args.table.now)) c.loop-i.i)
+    (frames_of c.args.walk.now.spare) in (
+      m,
+      (
+        within,
+        (
+          c.requires.depth_in,
+          (
+            i,
+            (
+              c.loop-i.invariant.shape,
+              (
+                c.loop-i.invariant.tight,
+                (
+                  rw c.part-part.ensures p,
+                  rw (c.part-part.ensures, s) (omega (arith, n, y, c.requires.enough, l)),
+                ),
+              ),
+            ),
+          ),
+        ),
+      ),
+    )
 
 pub set_all-loop-i-preserved : goal.set_all-loop-i-preserved
 set_all-loop-i-preserved g t c =
@@ -119,14 +162,29 @@ set_all-loop-i-preserved g t c =
       frame = c.set_slot.ensures.changed.frame ∙ v.frame;
       shape = c.set_slot.ensures.changed.shape;
       tight = c.set_slot.ensures.changed.tight;
-      map = next_map d c.loop-i.i c.args.change (entry_at d c.args.table.now) (entry_at d c.loop-i.table) (entry_at d c.set_slot.new.table) v.map (rw e at c.set_slot.ensures.changed.map) c.set_slot.ensures.changed.map_elsewhere;
+      map =
+          next_map d c.loop-i.i c.args.change (entry_at d c.args.table.now) (entry_at d c.loop-i.table)
+          (entry_at d c.set_slot.new.table) v.map
+          (rw e at c.set_slot.ensures.changed.map) c.set_slot.ensures.changed.map_elsewhere;
       rest = λ k q. c.set_slot.ensures.changed.slots_elsewhere k (omega arith) ∙ v.rest k (omega arith);
-      stand = λ low q l x. c.set_slot.ensures.changed.tables_elsewhere low q l (let ne : index_at d q ≢ c.loop-i.i = omega arith in ne) ∙ v.stand low q l (omega arith);
-      kept = kept_next d c.loop-i.i c.args.change c.args.table.now c.loop-i.table c.set_slot.new.table fs p s v.kept v.stand kept c.set_slot.ensures.changed.tables_elsewhere c.set_slot.ensures.changed.map_elsewhere;
-      spare = spare_next (sum_to (met d c.args.change (table_parts d c.args.table.now)) c.loop-i.i) (slot_need d (slot_at c.args.table.now c.loop-i.i) (part d c.loop-i.i c.args.change)) _ fs (frames_of c.loop-i.walk.spare) (frames_of c.set_slot.new.walk.spare) v.spare (rw (e, s) at c.set_slot.ensures.changed.spare) need;
+      stand =
+          λ low q l x. c.set_slot.ensures.changed.tables_elsewhere low q l
+          (let ne : index_at d q ≢ c.loop-i.i = omega arith in ne)
+          ∙ v.stand low q l (omega arith);
+      kept =
+          kept_next d c.loop-i.i c.args.change c.args.table.now c.loop-i.table c.set_slot.new.table fs p s v.kept
+          v.stand kept c.set_slot.ensures.changed.tables_elsewhere c.set_slot.ensures.changed.map_elsewhere;
+      spare =
+          spare_next (sum_to (met d c.args.change (table_parts d c.args.table.now)) c.loop-i.i)
+          (slot_need d (slot_at c.args.table.now c.loop-i.i) (part d c.loop-i.i c.args.change)) _ fs
+          (frames_of c.loop-i.walk.spare) (frames_of c.set_slot.new.walk.spare) v.spare
+          (rw (e, s) at c.set_slot.ensures.changed.spare) need;
       uses = λ f.
           let x = rw (e, s) at (c.set_slot.ensures.changed.uses f) in
-          let y = taken_next f (sum_to (met d c.args.change (table_parts d c.args.table.now)) c.loop-i.i) (slot_need d (slot_at c.args.table.now c.loop-i.i) (part d c.loop-i.i c.args.change)) _ fs (frames_of c.loop-i.walk.spare) v.spare need in
+          let y =
+          taken_next f (sum_to (met d c.args.change (table_parts d c.args.table.now)) c.loop-i.i)
+          (slot_need d (slot_at c.args.table.now c.loop-i.i) (part d c.loop-i.i c.args.change)) _ fs
+          (frames_of c.loop-i.walk.spare) v.spare need in
           omega (arith, x, y, gone f, v.uses f);
       freed = λ f. let x = rw (e, s) at (c.set_slot.ensures.freed.frames f) in omega (arith, x, gone f, v.freed f);
       tables = let x = rw (e, s) at c.set_slot.ensures.freed.tables in omega (arith, x, need, v.tables);
@@ -136,14 +194,18 @@ set_all-loop-i-preserved g t c =
 pub set_all-returns-clause-reads : goal.set_all-returns-clause-reads
 set_all-returns-clause-reads g t c =
     let s = span c.args.depth c.args.change c.requires.change_in in
-    let e = ends_end (1028 * c.args.depth) c.args.depth c.loop-i.i c.args.change c.requires.change_in c.loop-i-test.false (omega (arith, c.loop-i.auto.i-end s.0, s.1)) in
+    let e =
+    ends_end (1028 * c.args.depth) c.args.depth c.loop-i.i c.args.change c.requires.change_in c.loop-i-test.false
+    (omega (arith, c.loop-i.auto.i-end s.0, s.1)) in
     let p = some_part c.args.depth c.args.change c.requires.change_in.some in
     omega (arith, e.0, e.1, p, c.loop-i-test.false, c.loop-i.invariant.reads)
 
 pub set_all-returns-clause-whole : goal.set_all-returns-clause-whole
 set_all-returns-clause-whole g t c x y =
     let s = span c.args.depth c.args.change c.requires.change_in in
-    let e = ends_end (1028 * c.args.depth) c.args.depth c.loop-i.i c.args.change c.requires.change_in c.loop-i-test.false (omega (arith, c.loop-i.auto.i-end s.0, s.1)) in
+    let e =
+    ends_end (1028 * c.args.depth) c.args.depth c.loop-i.i c.args.change c.requires.change_in c.loop-i-test.false
+    (omega (arith, c.loop-i.auto.i-end s.0, s.1)) in
     let z = whole_edges (1028 * c.args.depth) (c.args.depth + 1) c.args.change x y in
     let w = whole_parts c.args.depth c.loop-i.i c.args.change x y c.loop-i-test.false in
     omega (arith, e.0, e.1, z, w.0, w.1, c.loop-i.invariant.reads)
@@ -173,16 +235,19 @@ pub set_slot-overflow_sub-depth : goal.set_slot-overflow_sub-depth
 set_slot-overflow_sub-depth g t c = (c.in-Opening.ensures.found.0).deep
 
 pub set_slot-opened-child-requires-clause-depth_in : goal.set_slot-opened-child-requires-clause-depth_in
-set_slot-opened-child-requires-clause-depth_in g t c = subst IsDepth (sym (less_more _ ((c.in-Opening.ensures.found.0).deep))) c.requires.depth_in
+set_slot-opened-child-requires-clause-depth_in g t c =
+    subst IsDepth (sym (less_more _ ((c.in-Opening.ensures.found.0).deep))) c.requires.depth_in
 
 pub set_slot-opened-child-requires-clause-index_in : goal.set_slot-opened-child-requires-clause-index_in
 set_slot-opened-child-requires-clause-index_in g t c = c.requires.index_in
 
 pub set_slot-opened-child-requires-clause-shape : goal.set_slot-opened-child-requires-clause-shape
-set_slot-opened-child-requires-clause-shape g t c = subst (λ m. IsShaped m c.args.table.now) (sym (less_more _ ((c.in-Opening.ensures.found.0).deep))) c.requires.shape
+set_slot-opened-child-requires-clause-shape g t c =
+    subst (λ m. IsShaped m c.args.table.now) (sym (less_more _ ((c.in-Opening.ensures.found.0).deep))) c.requires.shape
 
 pub set_slot-opened-child-requires-clause-tight : goal.set_slot-opened-child-requires-clause-tight
-set_slot-opened-child-requires-clause-tight g t c = subst (λ m. IsTight m c.args.table.now) (sym (less_more _ ((c.in-Opening.ensures.found.0).deep))) c.requires.tight
+set_slot-opened-child-requires-clause-tight g t c =
+    subst (λ m. IsTight m c.args.table.now) (sym (less_more _ ((c.in-Opening.ensures.found.0).deep))) c.requires.tight
 
 pub set_slot-opened-child-requires-clause-seen : goal.set_slot-opened-child-requires-clause-seen
 set_slot-opened-child-requires-clause-seen g t c = c.look_for.ensures.seen
@@ -196,13 +261,23 @@ set_slot-returns-in-Word-clause-changed g t c =
       frame = c.put.ensures.frame;
       shape = c.put.ensures.tree.shape c.args.depth c.requires.shape c.in-Word.ensures.found.word;
       tight = c.put.ensures.tree.tight c.args.depth c.requires.tight;
-      slots_elsewhere = λ j n. set_others c.args.table.now c.put.new.self c.args.i j (Word c.in-Word.word) c.put.ensures.slots n;
-      map = word_map c.args.depth c.args.i c.in-Word.word c.args.change c.args.table.now c.put.new.self c.put.ensures.tree c.in-Word.ensures.found;
-      map_elsewhere = written_other c.args.depth c.args.i c.in-Word.word c.args.table.now c.put.new.self c.put.ensures.tree;
-      kept = word_kept c.args.depth c.args.i c.in-Word.word c.args.change c.args.table.now c.put.new.self c.put.ensures.tree c.in-Word.ensures.found (frames_of c.args.walk.now.spare);
+      slots_elsewhere =
+          λ j n. set_others c.args.table.now c.put.new.self c.args.i j (Word c.in-Word.word) c.put.ensures.slots n;
+      map =
+          word_map c.args.depth c.args.i c.in-Word.word c.args.change c.args.table.now c.put.new.self
+          c.put.ensures.tree c.in-Word.ensures.found;
+      map_elsewhere =
+          written_other c.args.depth c.args.i c.in-Word.word c.args.table.now c.put.new.self c.put.ensures.tree;
+      kept =
+          word_kept c.args.depth c.args.i c.in-Word.word c.args.change c.args.table.now c.put.new.self
+          c.put.ensures.tree c.in-Word.ensures.found
+          (frames_of c.args.walk.now.spare);
       tables_elsewhere = λ low q l x. c.put.ensures.tree.standing c.args.depth low q;
       spare = ap (λ n. drop n (frames_of c.args.walk.now.spare)) (sym c.in-Word.ensures.found.need);
-      uses = word_uses c.args.depth c.args.i c.in-Word.word c.args.change c.args.table.now c.put.new.self c.put.ensures.tree c.in-Word.ensures.found (frames_of c.args.walk.now.spare);
+      uses =
+          word_uses c.args.depth c.args.i c.in-Word.word c.args.change c.args.table.now c.put.new.self
+          c.put.ensures.tree c.in-Word.ensures.found
+          (frames_of c.args.walk.now.spare);
     }
 
 pub set_slot-returns-in-Word-clause-freed : goal.set_slot-returns-in-Word-clause-freed
@@ -217,23 +292,108 @@ set_slot-returns-clause-changed g t c =
     let at = (goal.at.set_slot-returns-clause-changed g t c).After-set_all in
     record {
       frame = c.put_back.ensures.frame ∙ c.opened-child.ensures.frame;
-      shape = rw (one_less g t at) at (slot_shape (c.args.depth - 1) c.args.i c.args.table.now c.opened-child.new.table c.opened-child.result.value c.set_all.new.table c.args.change (frames_of c.args.walk.now.spare) (frames_of c.opened-child.new.spare) (frames_of c.set_all.new.walk.spare) c.opened-child.ensures (is_ready g t at) (is_grown g t at) c.put_back.new.table (frames_of c.set_all.new.walk.freed) (frames_of c.put_back.new.freed) c.put_back.ensures.put);
-      tight = rw (one_less g t at) at (slot_tight (c.args.depth - 1) c.args.i c.args.table.now c.opened-child.new.table c.opened-child.result.value c.set_all.new.table c.args.change (frames_of c.args.walk.now.spare) (frames_of c.opened-child.new.spare) (frames_of c.set_all.new.walk.spare) c.opened-child.ensures (is_ready g t at) (is_grown g t at) c.put_back.new.table (frames_of c.set_all.new.walk.freed) (frames_of c.put_back.new.freed) c.put_back.ensures.put);
-      slots_elsewhere = λ j m. c.put_back.ensures.slots_elsewhere j m ∙ set_others c.args.table.now c.opened-child.new.table c.args.i j (Word 0) c.opened-child.ensures.slots m;
-      map = rw (one_less g t at) at (slot_map (c.args.depth - 1) c.args.i c.args.table.now c.opened-child.new.table c.opened-child.result.value c.set_all.new.table c.args.change (frames_of c.args.walk.now.spare) (frames_of c.opened-child.new.spare) (frames_of c.set_all.new.walk.spare) c.opened-child.ensures (is_ready g t at) (is_grown g t at) c.put_back.new.table (frames_of c.set_all.new.walk.freed) (frames_of c.put_back.new.freed) c.put_back.ensures.put);
-      map_elsewhere = rw (one_less g t at) at (slot_other (c.args.depth - 1) c.args.i c.args.table.now c.opened-child.new.table c.opened-child.result.value c.set_all.new.table c.args.change (frames_of c.args.walk.now.spare) (frames_of c.opened-child.new.spare) (frames_of c.set_all.new.walk.spare) c.opened-child.ensures (is_ready g t at) (is_grown g t at) c.put_back.new.table (frames_of c.set_all.new.walk.freed) (frames_of c.put_back.new.freed) c.put_back.ensures.put);
-      kept = rw (one_less g t at) at (slot_kept (c.args.depth - 1) c.args.i c.args.table.now c.opened-child.new.table c.opened-child.result.value c.set_all.new.table c.args.change (frames_of c.args.walk.now.spare) (frames_of c.opened-child.new.spare) (frames_of c.set_all.new.walk.spare) c.opened-child.ensures (is_ready g t at) (is_grown g t at) c.put_back.new.table (frames_of c.set_all.new.walk.freed) (frames_of c.put_back.new.freed) c.put_back.ensures.put);
-      tables_elsewhere = rw (one_less g t at) at (slot_stand (c.args.depth - 1) c.args.i c.args.table.now c.opened-child.new.table c.opened-child.result.value c.set_all.new.table c.args.change (frames_of c.args.walk.now.spare) (frames_of c.opened-child.new.spare) (frames_of c.set_all.new.walk.spare) c.opened-child.ensures (is_ready g t at) (is_grown g t at) c.put_back.new.table (frames_of c.set_all.new.walk.freed) (frames_of c.put_back.new.freed) c.put_back.ensures.put);
-      spare = rw (one_less g t at) at (all_spare (c.args.depth - 1) c.args.i c.args.table.now c.opened-child.new.table c.opened-child.result.value c.set_all.new.table c.args.change (frames_of c.args.walk.now.spare) (frames_of c.opened-child.new.spare) (frames_of c.set_all.new.walk.spare) c.opened-child.ensures (is_ready g t at) (is_grown g t at));
-      uses = rw (one_less g t at) at (slot_uses (c.args.depth - 1) c.args.i c.args.table.now c.opened-child.new.table c.opened-child.result.value c.set_all.new.table c.args.change (frames_of c.args.walk.now.spare) (frames_of c.opened-child.new.spare) (frames_of c.set_all.new.walk.spare) c.opened-child.ensures (is_ready g t at) (is_grown g t at) c.put_back.new.table (frames_of c.set_all.new.walk.freed) (frames_of c.put_back.new.freed) c.put_back.ensures.put);
+      shape =
+          rw (one_less g t at) at
+          (slot_shape
+          (c.args.depth - 1) c.args.i c.args.table.now c.opened-child.new.table c.opened-child.result.value
+          c.set_all.new.table c.args.change
+          (frames_of c.args.walk.now.spare) (frames_of c.opened-child.new.spare)
+          (frames_of c.set_all.new.walk.spare) c.opened-child.ensures (is_ready g t at)
+          (is_grown g t at) c.put_back.new.table (frames_of c.set_all.new.walk.freed)
+          (frames_of c.put_back.new.freed) c.put_back.ensures.put);
+      tight =
+          rw (one_less g t at) at
+          (slot_tight
+          (c.args.depth - 1) c.args.i c.args.table.now c.opened-child.new.table c.opened-child.result.value
+          c.set_all.new.table c.args.change
+          (frames_of c.args.walk.now.spare) (frames_of c.opened-child.new.spare)
+          (frames_of c.set_all.new.walk.spare) c.opened-child.ensures (is_ready g t at)
+          (is_grown g t at) c.put_back.new.table (frames_of c.set_all.new.walk.freed)
+          (frames_of c.put_back.new.freed) c.put_back.ensures.put);
+      slots_elsewhere =
+          λ j m. c.put_back.ensures.slots_elsewhere j m
+          ∙ set_others c.args.table.now c.opened-child.new.table c.args.i j (Word 0) c.opened-child.ensures.slots m;
+      map =
+          rw (one_less g t at) at
+          (slot_map
+          (c.args.depth - 1) c.args.i c.args.table.now c.opened-child.new.table c.opened-child.result.value
+          c.set_all.new.table c.args.change
+          (frames_of c.args.walk.now.spare) (frames_of c.opened-child.new.spare)
+          (frames_of c.set_all.new.walk.spare) c.opened-child.ensures (is_ready g t at)
+          (is_grown g t at) c.put_back.new.table (frames_of c.set_all.new.walk.freed)
+          (frames_of c.put_back.new.freed) c.put_back.ensures.put);
+      map_elsewhere =
+          rw (one_less g t at) at
+          (slot_other
+          (c.args.depth - 1) c.args.i c.args.table.now c.opened-child.new.table c.opened-child.result.value
+          c.set_all.new.table c.args.change
+          (frames_of c.args.walk.now.spare) (frames_of c.opened-child.new.spare)
+          (frames_of c.set_all.new.walk.spare) c.opened-child.ensures (is_ready g t at)
+          (is_grown g t at) c.put_back.new.table (frames_of c.set_all.new.walk.freed)
+          (frames_of c.put_back.new.freed) c.put_back.ensures.put);
+      kept =
+          rw (one_less g t at) at
+          (slot_kept
+          (c.args.depth - 1) c.args.i c.args.table.now c.opened-child.new.table c.opened-child.result.value
+          c.set_all.new.table c.args.change
+          (frames_of c.args.walk.now.spare) (frames_of c.opened-child.new.spare)
+          (frames_of c.set_all.new.walk.spare) c.opened-child.ensures (is_ready g t at)
+          (is_grown g t at) c.put_back.new.table (frames_of c.set_all.new.walk.freed)
+          (frames_of c.put_back.new.freed) c.put_back.ensures.put);
+      tables_elsewhere =
+          rw (one_less g t at) at
+          (slot_stand
+          (c.args.depth - 1) c.args.i c.args.table.now c.opened-child.new.table c.opened-child.result.value
+          c.set_all.new.table c.args.change
+          (frames_of c.args.walk.now.spare) (frames_of c.opened-child.new.spare)
+          (frames_of c.set_all.new.walk.spare) c.opened-child.ensures (is_ready g t at)
+          (is_grown g t at) c.put_back.new.table (frames_of c.set_all.new.walk.freed)
+          (frames_of c.put_back.new.freed) c.put_back.ensures.put);
+      spare =
+          rw (one_less g t at) at
+          (all_spare
+          (c.args.depth - 1) c.args.i c.args.table.now c.opened-child.new.table c.opened-child.result.value
+          c.set_all.new.table c.args.change
+          (frames_of c.args.walk.now.spare) (frames_of c.opened-child.new.spare)
+          (frames_of c.set_all.new.walk.spare) c.opened-child.ensures (is_ready g t at)
+          (is_grown g t at));
+      uses =
+          rw (one_less g t at) at
+          (slot_uses
+          (c.args.depth - 1) c.args.i c.args.table.now c.opened-child.new.table c.opened-child.result.value
+          c.set_all.new.table c.args.change
+          (frames_of c.args.walk.now.spare) (frames_of c.opened-child.new.spare)
+          (frames_of c.set_all.new.walk.spare) c.opened-child.ensures (is_ready g t at)
+          (is_grown g t at) c.put_back.new.table (frames_of c.set_all.new.walk.freed)
+          (frames_of c.put_back.new.freed) c.put_back.ensures.put);
     }
 
 pub set_slot-returns-clause-freed : goal.set_slot-returns-clause-freed
 set_slot-returns-clause-freed g t c =
     let at = (goal.at.set_slot-returns-clause-freed g t c).After-set_all in
     record {
-      frames = λ f. rw (one_less g t at) at (slot_freed (c.args.depth - 1) c.args.i c.args.table.now c.opened-child.new.table c.opened-child.result.value c.set_all.new.table c.args.change (frames_of c.args.walk.now.spare) (frames_of c.opened-child.new.spare) (frames_of c.set_all.new.walk.spare) c.opened-child.ensures (is_ready g t at) (is_grown g t at) c.put_back.new.table (frames_of c.set_all.new.walk.freed) (frames_of c.put_back.new.freed) c.put_back.ensures.put f (frames_of c.args.walk.now.freed) (rw c.deref_mut.ensures.value at (c.set_all.ensures.freed.frames f)));
-      tables = rw (one_less g t at) at (slot_tables (c.args.depth - 1) c.args.i c.args.table.now c.opened-child.new.table c.opened-child.result.value c.set_all.new.table c.args.change (frames_of c.args.walk.now.spare) (frames_of c.opened-child.new.spare) (frames_of c.set_all.new.walk.spare) c.opened-child.ensures (is_ready g t at) (is_grown g t at) c.put_back.new.table (frames_of c.set_all.new.walk.freed) (frames_of c.put_back.new.freed) c.put_back.ensures.put (length (frames_of c.args.walk.now.freed)) (rw c.deref_mut.ensures.value at c.set_all.ensures.freed.tables));
+      frames =
+          λ f. rw (one_less g t at) at
+          (slot_freed
+          (c.args.depth - 1) c.args.i c.args.table.now c.opened-child.new.table c.opened-child.result.value
+          c.set_all.new.table c.args.change
+          (frames_of c.args.walk.now.spare) (frames_of c.opened-child.new.spare)
+          (frames_of c.set_all.new.walk.spare) c.opened-child.ensures (is_ready g t at)
+          (is_grown g t at) c.put_back.new.table (frames_of c.set_all.new.walk.freed)
+          (frames_of c.put_back.new.freed) c.put_back.ensures.put f
+          (frames_of c.args.walk.now.freed)
+          (rw c.deref_mut.ensures.value at (c.set_all.ensures.freed.frames f)));
+      tables =
+          rw (one_less g t at) at
+          (slot_tables
+          (c.args.depth - 1) c.args.i c.args.table.now c.opened-child.new.table c.opened-child.result.value
+          c.set_all.new.table c.args.change
+          (frames_of c.args.walk.now.spare) (frames_of c.opened-child.new.spare)
+          (frames_of c.set_all.new.walk.spare) c.opened-child.ensures (is_ready g t at)
+          (is_grown g t at) c.put_back.new.table (frames_of c.set_all.new.walk.freed)
+          (frames_of c.put_back.new.freed) c.put_back.ensures.put
+          (length (frames_of c.args.walk.now.freed))
+          (rw c.deref_mut.ensures.value at c.set_all.ensures.freed.tables));
     }
 
 pub set_all-returns-clause-changed : goal.set_all-returns-clause-changed
@@ -242,16 +402,28 @@ set_all-returns-clause-changed g t c =
       frame = c.loop-i.invariant.frame;
       shape = c.loop-i.invariant.shape;
       tight = c.loop-i.invariant.tight;
-      map = λ q. c.loop-i.invariant.map q ∙ end_map c.args.depth c.loop-i.i c.args.change (entry_at c.args.depth c.args.table.now) q (omega (arith, c.requires.change_in.some)) c.loop-i-test.false;
-      kept = kept_end c.args.depth c.loop-i.i c.args.change c.args.table.now c.loop-i.table (frames_of c.args.walk.now.spare) (omega (arith, c.requires.change_in.some)) c.loop-i-test.false c.loop-i.invariant.kept c.loop-i.invariant.stand;
+      map =
+          λ q. c.loop-i.invariant.map q
+          ∙ end_map c.args.depth c.loop-i.i c.args.change (entry_at c.args.depth c.args.table.now) q
+          (omega (arith, c.requires.change_in.some)) c.loop-i-test.false;
+      kept =
+          kept_end c.args.depth c.loop-i.i c.args.change c.args.table.now c.loop-i.table
+          (frames_of c.args.walk.now.spare)
+          (omega (arith, c.requires.change_in.some)) c.loop-i-test.false
+          c.loop-i.invariant.kept c.loop-i.invariant.stand;
       spare = let s = span c.args.depth c.args.change c.requires.change_in in
-          rw (met_end c.args.depth c.loop-i.i c.args.change (table_parts c.args.depth c.args.table.now) c.requires.change_in c.loop-i-test.false (omega (arith, c.loop-i.auto.i-end s.0, s.1))) c.loop-i.invariant.spare;
+          rw
+          (met_end c.args.depth c.loop-i.i c.args.change
+          (table_parts c.args.depth c.args.table.now) c.requires.change_in c.loop-i-test.false
+          (omega (arith, c.loop-i.auto.i-end s.0, s.1))) c.loop-i.invariant.spare;
       uses = λ f.
           let s = span c.args.depth c.args.change c.requires.change_in in
           let l : c.loop-i.i ≤ 512 = omega (arith, c.loop-i.auto.i-end s.0, s.1) in
           rw (
-            met_end c.args.depth c.loop-i.i c.args.change (table_parts c.args.depth c.args.table.now) c.requires.change_in c.loop-i-test.false l,
-            met_end c.args.depth c.loop-i.i c.args.change (gone_parts c.args.depth c.args.table.now f) c.requires.change_in c.loop-i-test.false l,
+            met_end c.args.depth c.loop-i.i c.args.change
+                (table_parts c.args.depth c.args.table.now) c.requires.change_in c.loop-i-test.false l,
+            met_end c.args.depth c.loop-i.i c.args.change
+                (gone_parts c.args.depth c.args.table.now f) c.requires.change_in c.loop-i-test.false l,
           ) (c.loop-i.invariant.uses f);
     }
 
@@ -261,7 +433,13 @@ set_all-returns-clause-freed g t c =
       frames = λ f.
           let s = span c.args.depth c.args.change c.requires.change_in in
           let l : c.loop-i.i ≤ 512 = omega (arith, c.loop-i.auto.i-end s.0, s.1) in
-          rw (met_end c.args.depth c.loop-i.i c.args.change (gone_parts c.args.depth c.args.table.now f) c.requires.change_in c.loop-i-test.false l) (c.loop-i.invariant.freed f);
+          rw
+          (met_end c.args.depth c.loop-i.i c.args.change
+          (gone_parts c.args.depth c.args.table.now f) c.requires.change_in c.loop-i-test.false l)
+          (c.loop-i.invariant.freed f);
       tables = let s = span c.args.depth c.args.change c.requires.change_in in
-          rw (met_end c.args.depth c.loop-i.i c.args.change (table_parts c.args.depth c.args.table.now) c.requires.change_in c.loop-i-test.false (omega (arith, c.loop-i.auto.i-end s.0, s.1))) c.loop-i.invariant.tables;
+          rw
+          (met_end c.args.depth c.loop-i.i c.args.change
+          (table_parts c.args.depth c.args.table.now) c.requires.change_in c.loop-i-test.false
+          (omega (arith, c.loop-i.auto.i-end s.0, s.1))) c.loop-i.invariant.tables;
     }

@@ -26,13 +26,32 @@ invariant-set_all-loop-i g l = record {
   frame : frame_of l.table ≡ frame_of l.initial.table;
   shape : IsShaped l.depth l.table;
   tight : IsTight l.depth l.table;
-  map : (q : ℕ) → entry_at l.depth l.table q ≡ changed_entry (l.depth + 1) (entry_at l.depth l.initial.table) (upto l.change (l.i * block_pages l.depth)) q;
+  map : (q : ℕ)
+      → entry_at l.depth l.table q
+      ≡ changed_entry (l.depth + 1) (entry_at l.depth l.initial.table)
+      (upto l.change (l.i * block_pages l.depth)) q;
   rest : (k : ℕ) → l.i ≤ k → slot_at l.table k ≡ slot_at l.initial.table k;
-  stand : (low q : ℕ) → low < l.depth → l.i ≤ index_at l.depth q → table_in l.depth l.table low q ≡ table_in l.depth l.initial.table low q;
+  stand : (low q : ℕ)
+      → low < l.depth
+      → l.i ≤ index_at l.depth q
+      → table_in l.depth l.table low q ≡ table_in l.depth l.initial.table low q;
   kept : IsKept l.depth l.i l.change (frames_of l.initial.walk.spare) l.initial.table l.table;
-  spare : frames_of l.walk.spare ≡ drop (sum_to (met l.depth l.change (table_parts l.depth l.initial.table)) l.i) (frames_of l.initial.walk.spare);
-  uses : (f : ℕ) → uses_in l.depth l.table f + sum_to (met l.depth l.change (gone_parts l.depth l.initial.table f)) l.i ≡ uses_in l.depth l.initial.table f + frame_count f (take (sum_to (met l.depth l.change (table_parts l.depth l.initial.table)) l.i) (frames_of l.initial.walk.spare));
-  freed : (f : ℕ) → frame_count f (frames_of l.walk.freed) ≡ sum_to (met l.depth l.change (gone_parts l.depth l.initial.table f)) l.i + frame_count f (frames_of l.initial.walk.freed);
-  tables : tables_in l.depth l.table + length (frames_of l.walk.freed) ≡ tables_in l.depth l.initial.table + sum_to (met l.depth l.change (table_parts l.depth l.initial.table)) l.i + length (frames_of l.initial.walk.freed);
-  reads : 2 * count_of l.walk.reads + 3 * (l.i - l.change.first / block_pages l.depth) ≤ 2 * count_of l.initial.walk.reads + 5 * done l.depth l.change l.i + ends (1028 * l.depth) l.depth l.change l.i;
+  spare : frames_of l.walk.spare
+      ≡ drop (sum_to (met l.depth l.change (table_parts l.depth l.initial.table)) l.i) (frames_of l.initial.walk.spare);
+  uses : (f : ℕ)
+      → uses_in l.depth l.table f + sum_to (met l.depth l.change (gone_parts l.depth l.initial.table f)) l.i
+      ≡ uses_in l.depth l.initial.table f + frame_count f
+      (take (sum_to (met l.depth l.change (table_parts l.depth l.initial.table)) l.i)
+      (frames_of l.initial.walk.spare));
+  freed : (f : ℕ)
+      → frame_count f (frames_of l.walk.freed)
+      ≡ sum_to (met l.depth l.change (gone_parts l.depth l.initial.table f)) l.i + frame_count f
+      (frames_of l.initial.walk.freed);
+  tables : tables_in l.depth l.table + length (frames_of l.walk.freed)
+      ≡ tables_in l.depth l.initial.table + sum_to
+      (met l.depth l.change (table_parts l.depth l.initial.table)) l.i + length (frames_of l.initial.walk.freed);
+  reads : 2 * count_of l.walk.reads + 3 *
+      (l.i - l.change.first / block_pages l.depth) ≤ 2 * count_of l.initial.walk.reads + 5 * done l.depth l.change l.i
+      + ends
+      (1028 * l.depth) l.depth l.change l.i;
 }

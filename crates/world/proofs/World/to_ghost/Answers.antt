@@ -7,7 +7,10 @@ use Rattle.world.proofs.WalkedState.{walked_is}
 use Rattle.world.proofs.World.to_ghost.Goals as goal
 
 pub returns-clause-walked : goal.returns-clause-walked
-returns-clause-walked g c = let p = c.args.self.now.parts in if_ok (λ x. ghost_state x ≡ state_of p) (λ x. ghost_state x ≡ walked_state (parts_layout p) (state_of p)) c.kept.result (λ x h. h ∙ walked_is p c.args.self.now.history) c.kept.ensures.state
+returns-clause-walked g c = let p = c.args.self.now.parts in
+    if_ok (λ x. ghost_state x ≡ state_of p)
+    (λ x. ghost_state x ≡ walked_state (parts_layout p) (state_of p)) c.kept.result
+    (λ x h. h ∙ walked_is p c.args.self.now.history) c.kept.ensures.state
 
 pub returns-clause-state : goal.returns-clause-state
 returns-clause-state g c = c.kept.ensures.state

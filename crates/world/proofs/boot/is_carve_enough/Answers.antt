@@ -17,10 +17,16 @@ returns c config =
     let host : c.need_of_new-host_need.result ≡ host_need l =
     c.need_of_new-host_need.ensures l.memory.carve.first.0
     ∙ ap (λ (e : MapChange). need l.depth (host_root l) (edit_of (Some e))) c.host_change-host.ensures.value
-    ∙ ap (λ (r : PageRange). need l.depth (host_root l) (put r.first.0 r.count (annotation 1))) c.carve-carve.ensures.value in
+    ∙ ap
+    (λ (r : PageRange). need l.depth (host_root l)
+    (put r.first.0 r.count (annotation 1))) c.carve-carve.ensures.value in
     let hyp : c.need_of_new-hyp_need.result ≡ hyp_need l =
     c.need_of_new-hyp_need.ensures (l.memory.carve.first.0 + 1)
     ∙ ap (λ (e : MapChange). need l.depth (hyp_root l) (edit_of (Some e))) c.hyp_change-hyp.ensures.value
-    ∙ ap (λ (r : PageRange). need l.depth (hyp_root l) (put (hyp_page r.first.0) r.count (leaf RW r.first.0 Owned))) c.carve-carve.ensures.value in
-    let count = ap (λ (r : PageRange). r.count) c.carve-carve.ensures.value in
-    (λ h. omega (arith, host, hyp, count, c.is_enough.ensures.0 h), λ h. c.is_enough.ensures.1 (omega (arith, host, hyp, count, h)))
+    ∙ ap
+    (λ (r : PageRange). need l.depth (hyp_root l)
+    (put (hyp_page r.first.0) r.count (leaf RW r.first.0 Owned))) c.carve-carve.ensures.value in
+    let count = ap (λ (r : PageRange). r.count) c.carve-carve.ensures.value in (
+      λ h. omega (arith, host, hyp, count, c.is_enough.ensures.0 h),
+      λ h. c.is_enough.ensures.1 (omega (arith, host, hyp, count, h)),
+    )

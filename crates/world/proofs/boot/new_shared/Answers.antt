@@ -44,14 +44,16 @@ returns-clause-shared g c = λ i. record {
   host = c.in_ok-host.ensures.host i;
   hyp = c.in_ok-host.ensures.hyp i;
   free = c.in_ok-host.ensures.pool i;
-  row = fun_ext (λ f. plain (row_at c.in-Ok.rows f) (has_memory c.args.map.now f) plain_row (c.in-Ok.ensures.frames f)) i;
+  row =
+      fun_ext (λ f. plain (row_at c.in-Ok.rows f) (has_memory c.args.map.now f) plain_row (c.in-Ok.ensures.frames f)) i;
 }
 
 pub returns-clause-depth : goal.returns-clause-depth
 returns-clause-depth g c = ap levels_below c.in_ok-host.ensures.host_geometry
 
 pub returns-clause-rows : goal.returns-clause-rows
-returns-clause-rows g c f = there (row_at c.in-Ok.rows f) (has_memory c.args.map.now f) plain_row (c.in-Ok.ensures.frames f)
+returns-clause-rows g c f =
+    there (row_at c.in-Ok.rows f) (has_memory c.args.map.now f) plain_row (c.in-Ok.ensures.frames f)
 
 pub returns-clause-log : goal.returns-clause-log
 returns-clause-log g c = c.in-Ok-new.ensures

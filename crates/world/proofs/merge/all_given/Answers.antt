@@ -14,7 +14,8 @@ returns-then-not-is_given c = (
 pub returns-then-not-is_given-2 : goal.returns-then-not-is_given-2
 returns-then-not-is_given-2 c = (
   (λ e. cc),
-  (λ e. let none : drop c.args.places.now.shared c.args.histories.now.shared.items ≡ [] = e (on shared_part) in search rules),
+  (λ e. let none : drop c.args.places.now.shared c.args.histories.now.shared.items ≡ [] = e (on shared_part) in
+      search rules),
 )
 
 pub returns-then-not-are_given : goal.returns-then-not-are_given
@@ -22,7 +23,9 @@ returns-then-not-are_given c =
     let h = c.args.histories.now in
     let g = c.args.places.now in (
       (λ e. cc),
-      (λ e. let none : (v : ℕ) → drop (slice_index g.guests.items v) (log_at h.guests.items v) ≡ [] = λ v. e (on (guest_part v)) in search rules),
+      (λ e. let none : (v : ℕ) → drop (slice_index g.guests.items v) (log_at h.guests.items v) ≡ [] =
+          λ v. e (on (guest_part v)) in
+          search rules),
     )
 
 pub returns : goal.returns
@@ -32,6 +35,8 @@ returns c =
     let vms : drop g.vms h.vms.items ≡ [] = search rules in
     let shared : drop g.shared h.shared.items ≡ [] = search rules in
     let guests : (v : ℕ) → drop (slice_index g.guests.items v) (log_at h.guests.items v) ≡ [] = search rules in (
-      (λ e. let cpus : (k : ℕ) → drop (slice_index g.cpus.items k) (log_at h.cpus.items k) ≡ [] = search rules in none_left h g vms shared guests cpus),
-      (λ e. let none : (k : ℕ) → drop (slice_index g.cpus.items k) (log_at h.cpus.items k) ≡ [] = λ k. e (by k) in search rules),
+      (λ e. let cpus : (k : ℕ) → drop (slice_index g.cpus.items k) (log_at h.cpus.items k) ≡ [] = search rules in
+          none_left h g vms shared guests cpus),
+      (λ e. let none : (k : ℕ) → drop (slice_index g.cpus.items k) (log_at h.cpus.items k) ≡ [] = λ k. e (by k) in
+          search rules),
     )

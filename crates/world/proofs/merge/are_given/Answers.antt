@@ -14,7 +14,11 @@ loop-i-preserved c = λ k l. by_lt k c.loop-i.i (λ q. c.loop-i.invariant k q) (
     let places = c.args.places.now in
     let e : k ≡ c.loop-i.i = omega (arith, l, q) in
     let inside : c.loop-i.i < length logs = omega (arith, c.loop-i-test.true) in
-    subst (λ m. drop (slice_index places m) (log_at logs m) ≡ []) (sym e) (given_here logs c.loop-i.i (slice_index places c.loop-i.i) c.index-logs-i.result c.as_slice.result.now inside c.index-logs-i.is c.as_slice.ensures.value (c.is_given.ensures.0 c.if-not-is_given.false)))
+    subst (λ m. drop (slice_index places m) (log_at logs m) ≡ []) (sym e)
+    (given_here logs c.loop-i.i
+    (slice_index places c.loop-i.i) c.index-logs-i.result c.as_slice.result.now inside c.index-logs-i.is
+    c.as_slice.ensures.value
+    (c.is_given.ensures.0 c.if-not-is_given.false)))
 
 pub returns-then-not-is_given : goal.returns-then-not-is_given
 returns-then-not-is_given c = (
@@ -22,12 +26,19 @@ returns-then-not-is_given c = (
   (λ h.
       let logs = c.args.logs.now in
       let inside : c.loop-i.i < length logs = omega (arith, c.loop-i-test.true) in
-      let given : c.is_given.result ≡ true = c.is_given.ensures.1 (given_back logs c.loop-i.i (slice_index c.args.places.now c.loop-i.i) c.index-logs-i.result c.as_slice.result.now inside c.index-logs-i.is c.as_slice.ensures.value (h c.loop-i.i)) in
+      let given : c.is_given.result ≡ true =
+      c.is_given.ensures.1
+      (given_back logs c.loop-i.i
+      (slice_index c.args.places.now c.loop-i.i) c.index-logs-i.result c.as_slice.result.now inside
+      c.index-logs-i.is c.as_slice.ensures.value
+      (h c.loop-i.i)) in
       absurd (false≢true (sym c.if-not-is_given.true ∙ given))),
 )
 
 pub returns : goal.returns
 returns c = (
-  (λ e k. by_lt k (length c.args.logs.now) (λ l. c.loop-i.invariant k (omega (arith, l, c.loop-i-test.false))) (λ p. ap (drop (slice_index c.args.places.now k)) (log_past c.args.logs.now k (omega (arith, p))) ∙ drop_past [] (slice_index c.args.places.now k) (omega arith))),
+  (λ e k. by_lt k (length c.args.logs.now) (λ l. c.loop-i.invariant k (omega (arith, l, c.loop-i-test.false)))
+      (λ p. ap (drop (slice_index c.args.places.now k)) (log_past c.args.logs.now k (omega (arith, p)))
+      ∙ drop_past [] (slice_index c.args.places.now k) (omega arith))),
   (λ h. refl),
 )

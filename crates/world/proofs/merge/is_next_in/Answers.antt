@@ -13,7 +13,8 @@ returns-in-Some c =
     let less : c.args.place < length log = search rules in
     let is : next ≡ get_or log c.args.place next = search rules in
     let told = calls_tell next c.args.call.now in
-    let first : first_of (drop c.args.place log) ≡ Some next = first_drop log c.args.place ∙ slice_get_read log (length log) c.args.place next refl less is in (
+    let first : first_of (drop c.args.place log) ≡ Some next =
+    first_drop log c.args.place ∙ slice_get_read log (length log) c.args.place next refl less is in (
       (λ t. first ∙ ap (λ (x : Call). Some x) (told.0 (sym c.eq.ensures ∙ t))),
       (λ e. let both : Some next ≡ Some c.args.call.now = sym first ∙ e in c.eq.ensures ∙ told.1 cc),
     )

@@ -7,4 +7,5 @@ abbrev pub decreases-loop-call : goal.decreases-loop-call
 decreases-loop-call l = left_by (left l.histories l.places) (length l.histories.cpus.items)
 
 abbrev pub invariant-loop-call : goal.invariant-loop-call
-invariant-loop-call l = record { placed : IsPlaced l.histories l.places; begun : IsToldOf l.histories l.places l.told.items }
+invariant-loop-call l =
+    record { placed : IsPlaced l.histories l.places; begun : IsToldOf l.histories l.places l.told.items }

@@ -14,7 +14,10 @@ returns-in_default-clause-none c d e next =
     let g = c.args.places.now in
     let read : List Call = c.as_slice.result.now in
     let past : length read ≤ c.index-2.result.now = search rules in
-    let none : first_of (left h g (by c.args.cpu)) ≡ None = first_read h g c.args.cpu c.index-2.result.now c.index.result.now read c.requires.inside c.index.ensures (search rules) c.index-2.ensures c.as_slice.ensures.value None (slice_get_past read c.index-2.result.now past) in
+    let none : first_of (left h g (by c.args.cpu)) ≡ None =
+    first_read h g c.args.cpu c.index-2.result.now c.index.result.now read c.requires.inside c.index.ensures
+    (search rules) c.index-2.ensures c.as_slice.ensures.value None
+    (slice_get_past read c.index-2.result.now past) in
     let some = next_first h g c.args.cpu d e next in
     cc
 
@@ -25,7 +28,10 @@ returns-then-call-cpu-clause-none c d e next =
     let call : Call = c.in-Some.call.now in
     let read : List Call = c.as_slice.result.now in
     let below : c.index-2.result.now < length read = search rules in
-    let first = first_read h g c.args.cpu c.index-2.result.now c.index.result.now read c.requires.inside c.index.ensures (search rules) c.index-2.ensures c.as_slice.ensures.value (Some call) (get_of read c.index-2.result.now call below c.in-Some.ensures.lookup.1) in
+    let first =
+    first_read h g c.args.cpu c.index-2.result.now c.index.result.now read c.requires.inside c.index.ensures
+    (search rules) c.index-2.ensures c.as_slice.ensures.value (Some call)
+    (get_of read c.index-2.result.now call below c.in-Some.ensures.lookup.1) in
     let same : d ≡ call = next_same h g c.args.cpu d call e next first in
     let other : call.cpu ≢ c.args.cpu = search rules in
     other (sym (ap (λ (x : Call). x.cpu) same) ∙ e)
@@ -37,7 +43,10 @@ returns-then-is_next_on_parts-clause-next c =
     let call : Call = c.in-Some.call.now in
     let read : List Call = c.as_slice.result.now in
     let below : c.index-2.result.now < length read = search rules in
-    let first = first_read h g c.args.cpu c.index-2.result.now c.index.result.now read c.requires.inside c.index.ensures (search rules) c.index-2.ensures c.as_slice.ensures.value (Some call) (get_of read c.index-2.result.now call below c.in-Some.ensures.lookup.1) in
+    let first =
+    first_read h g c.args.cpu c.index-2.result.now c.index.result.now read c.requires.inside c.index.ensures
+    (search rules) c.index-2.ensures c.as_slice.ensures.value (Some call)
+    (get_of read c.index-2.result.now call below c.in-Some.ensures.lookup.1) in
     let own : call.cpu ≡ c.args.cpu = search rules in
     let parts : (p : Part) → call_uses p call ≡ true → first_of (left h g (on p)) ≡ Some call = search rules in
     next_made h g c.args.cpu call own first parts
@@ -49,7 +58,11 @@ returns-else-is_next_on_parts-clause-none c d e next =
     let call : Call = c.in-Some.call.now in
     let read : List Call = c.as_slice.result.now in
     let below : c.index-2.result.now < length read = search rules in
-    let first = first_read h g c.args.cpu c.index-2.result.now c.index.result.now read c.requires.inside c.index.ensures (search rules) c.index-2.ensures c.as_slice.ensures.value (Some call) (get_of read c.index-2.result.now call below c.in-Some.ensures.lookup.1) in
+    let first =
+    first_read h g c.args.cpu c.index-2.result.now c.index.result.now read c.requires.inside c.index.ensures
+    (search rules) c.index-2.ensures c.as_slice.ensures.value (Some call)
+    (get_of read c.index-2.result.now call below c.in-Some.ensures.lookup.1) in
     let same : d ≡ call = next_same h g c.args.cpu d call e next first in
-    let parts : (p : Part) → call_uses p call ≡ true → first_of (left h g (on p)) ≡ Some call = λ p of. next (on p) (ap (call_uses p) same ∙ of) ∙ ap (λ (x : Call). Some x) same in
+    let parts : (p : Part) → call_uses p call ≡ true → first_of (left h g (on p)) ≡ Some call =
+    λ p of. next (on p) (ap (call_uses p) same ∙ of) ∙ ap (λ (x : Call). Some x) same in
     search rules

@@ -16,7 +16,9 @@ pub loop-init : goal.loop-init
 loop-init c = c.new-places.ensures.items
 
 pub loop-preserved : goal.loop-preserved
-loop-preserved c = c.in_ok-push.ensures.items ∙ (ap (λ (l : List ℕ). l ++ 0 ∷ []) c.loop.invariant ∙ replicate_more c.loop.counter 0)
+loop-preserved c =
+    c.in_ok-push.ensures.items ∙ (ap (λ (l : List ℕ). l ++ 0 ∷ []) c.loop.invariant ∙ replicate_more c.loop.counter 0)
 
 pub returns-clause-count : goal.returns-clause-count
-returns-clause-count c = let long = ap length c.loop.invariant ∙ length-replicate c.loop.counter 0 in omega (arith, long, c.loop-test.false, c.loop.auto.counter-end)
+returns-clause-count c = let long = ap length c.loop.invariant ∙ length-replicate c.loop.counter 0 in
+    omega (arith, long, c.loop-test.false, c.loop.auto.counter-end)

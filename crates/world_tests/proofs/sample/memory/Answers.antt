@@ -6,7 +6,9 @@ use Rattle.world_tests.proofs.sample.memory.Goals as goal
 
 pub returns-clause-regions : goal.returns-clause-regions
 returns-clause-regions c =
-    IfOk-weaker c.new.result _ _ (λ m e. ap (λ (x : MemoryMap). x.regions) e ∙ c.as_slice.ensures ∙ ap₂ (λ (a b : Region). a ∷ b ∷ []) c.region.ensures c.region-2.ensures) c.new.ensures.ok
+    IfOk-weaker c.new.result _ _
+    (λ m e. ap (λ (x : MemoryMap). x.regions) e ∙ c.as_slice.ensures
+    ∙ ap₂ (λ (a b : Region). a ∷ b ∷ []) c.region.ensures c.region-2.ensures) c.new.ensures.ok
 
 pub returns-clause-carve : goal.returns-clause-carve
 returns-clause-carve c = IfOk-weaker c.new.result _ _ (λ m e. ap (λ (x : MemoryMap). x.carve) e) c.new.ensures.ok

@@ -17,7 +17,11 @@ returns-in-Err-make-2-clause-inits g c = (
 )
 
 pub vm_in-requires : goal.vm_in-requires
-vm_in-requires g c = record { vm = open_answers c.in-Ok.value c.make-3.new.pass.knows c.make-4.new.pass.knows (c.in-Ok.ensures.made.stored tt) }
+vm_in-requires g c =
+    record {
+      vm = open_answers c.in-Ok.value c.make-3.new.pass.knows c.make-4.new.pass.knows
+          (c.in-Ok.ensures.made.stored tt);
+    }
 
 pub returns-in-Ok-clause-inits : goal.returns-in-Ok-clause-inits
 returns-in-Ok-clause-inits g c =

@@ -20,14 +20,27 @@ use Rattle.cpu_threads.proofs.Ends.{end_fresh, end_given}
 use Rattle.cpu_threads.proofs.Tries.{fresh_theirs}
 use Rattle.cpu_threads.proofs.machine.Machine.shutdown.Goals as goal
 
-of_history : {A : Type 0} (p : Parts A) (h : Histories) → HasHistory p → AreLogsOf h (parts_layout p) (kept_of p) → IsOfHistory h
-of_history p h has logs = record { layout = parts_layout p; ready = has.ready; kept = kept_of p; log = has.log; history = has.history; logs = logs }
+of_history : {A : Type 0} (p : Parts A) (h : Histories)
+    → HasHistory p
+    → AreLogsOf h (parts_layout p) (kept_of p)
+    → IsOfHistory h
+of_history p h has logs =
+    record {
+      layout = parts_layout p;
+      ready = has.ready;
+      kept = kept_of p;
+      log = has.log;
+      history = has.history;
+      logs = logs;
+    }
 
 differ : Missing ≡ NoMemory → ⊥
 differ e = cc
 
 pub all_back-passes-requires-clause-given : goal.all_back-passes-requires-clause-given
-all_back-passes-requires-clause-given g c = subst (λ (t : Opened). AreOf t c.args.given.items) (ap (λ (m : Machine). m.table) (sym c.self.view_is)) c.requires.pass
+all_back-passes-requires-clause-given g c =
+    subst (λ (t : Opened). AreOf t c.args.given.items)
+    (ap (λ (m : Machine). m.table) (sym c.self.view_is)) c.requires.pass
 
 pub all_back-passes-requires-clause-all : goal.all_back-passes-requires-clause-all
 all_back-passes-requires-clause-all g c =
@@ -37,11 +50,14 @@ pub all_back-passes-requires-clause-count : goal.all_back-passes-requires-clause
 all_back-passes-requires-clause-count g c = c.self.invariant.count
 
 pub ended-world-requires-clause-home : goal.ended-world-requires-clause-home
-ended-world-requires-clause-home g c = subst (λ (n : ℕ). AreHomeFrom c.self.inside.table.table n 0 c.all_back-passes.result.items) (sym c.all_back-passes.ensures.count.1) c.all_back-passes.ensures.home
+ended-world-requires-clause-home g c =
+    subst (λ (n : ℕ). AreHomeFrom c.self.inside.table.table n 0 c.all_back-passes.result.items)
+    (sym c.all_back-passes.ensures.count.1) c.all_back-passes.ensures.home
 
 pub returns-clause-all : goal.returns-clause-all
 returns-clause-all g c =
-    subst (λ (l : List (Option Pass)). HasAll l c.args.given.items) (ap (λ (m : Machine). m.passes) c.self.view_is) (c.lacks.ensures.all c.if-lacks.false)
+    subst (λ (l : List (Option Pass)). HasAll l c.args.given.items) (ap (λ (m : Machine). m.passes) c.self.view_is)
+    (c.lacks.ensures.all c.if-lacks.false)
 
 pub returns-then-lacks-clause-end : goal.returns-then-lacks-clause-end
 returns-then-lacks-clause-end g c = tt
@@ -50,7 +66,9 @@ pub returns-then-lacks-clause-all : goal.returns-then-lacks-clause-all
 returns-then-lacks-clause-all g c = tt
 
 pub returns-then-lacks-clause-missing : goal.returns-then-lacks-clause-missing
-returns-then-lacks-clause-missing g c = λ _. subst (λ (l : List (Option Pass)). LacksOne l c.args.given.items) (ap (λ (m : Machine). m.passes) c.self.view_is) (c.lacks.ensures.missing c.if-lacks.true)
+returns-then-lacks-clause-missing g c =
+    λ _. subst (λ (l : List (Option Pass)). LacksOne l c.args.given.items)
+    (ap (λ (m : Machine). m.passes) c.self.view_is) (c.lacks.ensures.missing c.if-lacks.true)
 
 pub returns-then-lacks-clause-no_memory : goal.returns-then-lacks-clause-no_memory
 returns-then-lacks-clause-no_memory g c = λ e. absurd (differ e)
@@ -68,36 +86,46 @@ pub returns-in_default-clause-missing : goal.returns-in_default-clause-missing
 returns-in_default-clause-missing g c = λ e. absurd (differ (sym e))
 
 pub returns-in_default-clause-no_memory : goal.returns-in_default-clause-no_memory
-returns-in_default-clause-no_memory g c = λ _. subst (λ (l : List (Option Pass)). HasAll l c.args.given.items) (ap (λ (m : Machine). m.passes) c.self.view_is) (c.lacks.ensures.all c.if-lacks.false)
+returns-in_default-clause-no_memory g c =
+    λ _. subst (λ (l : List (Option Pass)). HasAll l c.args.given.items)
+    (ap (λ (m : Machine). m.passes) c.self.view_is) (c.lacks.ensures.all c.if-lacks.false)
 
 pub returns-in_default-clause-same : goal.returns-in_default-clause-same
 returns-in_default-clause-same g c = (refl, refl)
 
 pub all_back-passes-requires-clause-theirs : goal.all_back-passes-requires-clause-theirs
-all_back-passes-requires-clause-theirs g c = fresh_theirs c.self.inside.table c.self.inside.passes.items c.self.invariant.fresh
+all_back-passes-requires-clause-theirs g c =
+    fresh_theirs c.self.inside.table c.self.inside.passes.items c.self.invariant.fresh
 
 pub ended-world-requires-clause-count : goal.ended-world-requires-clause-count
-ended-world-requires-clause-count g c = omega (arith, c.all_back-passes.ensures.count.1, c.self.inside.passes.ok.0, c.self.invariant.count)
+ended-world-requires-clause-count g c =
+    omega (arith, c.all_back-passes.ensures.count.1, c.self.inside.passes.ok.0, c.self.invariant.count)
 
 pub ended-world-requires-clause-found : goal.ended-world-requires-clause-found
 ended-world-requires-clause-found g c = c.in-Ok.ensures.found
 
 pub ended-world-requires-clause-cpus : goal.ended-world-requires-clause-cpus
-ended-world-requires-clause-cpus g c = (c.in-Ok.ensures.cpus.0, omega (arith, c.all_back-passes.ensures.count.1, c.len.ensures, c.in-Ok.ensures.cpus.1))
+ended-world-requires-clause-cpus g c =
+    (c.in-Ok.ensures.cpus.0, omega (arith, c.all_back-passes.ensures.count.1, c.len.ensures, c.in-Ok.ensures.cpus.1))
 
 pub ended-world-requires-clause-guests : goal.ended-world-requires-clause-guests
 ended-world-requires-clause-guests g c = c.in-Ok.ensures.guests
 
 pub returns-clause-end : goal.returns-clause-end
 returns-clause-end g c =
-    subst (λ (t : Opened). IsEndFor {A = g.row.A.Denot} t (slots_of c.ended-world.result.parts) c.ended-world.result.parts.cpus.items (OfGiven c.args.given.items)) (ap (λ (m : Machine). m.table) c.self.view_is)
-    (end_given c.all_back-passes.result.items c.args.given.items c.all_back-passes.ensures.back c.ended-world.ensures.end)
+    subst
+    (λ (t : Opened). IsEndFor {A = g.row.A.Denot} t
+    (slots_of c.ended-world.result.parts) c.ended-world.result.parts.cpus.items (OfGiven c.args.given.items))
+    (ap (λ (m : Machine). m.table) c.self.view_is)
+    (end_given c.all_back-passes.result.items c.args.given.items c.all_back-passes.ensures.back
+    c.ended-world.ensures.end)
 
 pub returns-clause-fresh : goal.returns-clause-fresh
 returns-clause-fresh g c =
     let cpus : List CpuState = c.ended-world.result.parts.cpus.items in
     subst (λ (m : Machine). AreFreshAt m.table m.passes cpus) c.self.view_is
-    (end_fresh c.self.inside.table c.self.inside.passes.items c.all_back-passes.result.items cpus c.self.invariant.fresh c.all_back-passes.ensures.stays c.ended-world.ensures.end.own)
+    (end_fresh c.self.inside.table c.self.inside.passes.items c.all_back-passes.result.items cpus
+    c.self.invariant.fresh c.all_back-passes.ensures.stays c.ended-world.ensures.end.own)
 
 pub returns-clause-missing : goal.returns-clause-missing
 returns-clause-missing g c = tt
@@ -134,18 +162,43 @@ copied-histories-requires g c =
     let w : Parts g.row.A.Denot = c.ended-world.result.parts in
     let k = c.all_back-passes.ensures in
     let long : length c.all_back-passes.result.items ≡ length c.self.inside.passes.items = k.count.0 in
-    let count : length c.all_back-passes.result.items ≡ w.layout.config.cpus = omega (arith, long, c.self.inside.passes.ok.0, c.self.invariant.count, ap (λ (l : TheLayout). l.config.cpus) c.ended-world.ensures.layout) in
-    let all : vec_len c.self.inside.passes ≡ length c.all_back-passes.result.items = omega (arith, long, c.self.inside.passes.ok.0) in
+    let count : length c.all_back-passes.result.items ≡ w.layout.config.cpus =
+    omega (
+      arith,
+      long,
+      c.self.inside.passes.ok.0,
+      c.self.invariant.count,
+      ap (λ (l : TheLayout). l.config.cpus) c.ended-world.ensures.layout,
+    ) in
+    let all : vec_len c.self.inside.passes ≡ length c.all_back-passes.result.items =
+    omega (arith, long, c.self.inside.passes.ok.0) in
     let home = subst (λ (n : ℕ). AreHomeFrom c.self.inside.table.table n 0 c.all_back-passes.result.items) all k.home in
-    let room = room_back c.self.inside.passes.items c.all_back-passes.result.items c.args.given.items _ c.in-Ok-log_rooms.logs k.few c.in-Ok-log_rooms.ensures in
-    let there : CanHold (kept_of w) w.layout.config.cpus c.in-Ok-log_rooms.logs = can_hold w c.self.inside.table.table c.all_back-passes.result.items c.in-Ok-log_rooms.logs count home c.ended-world.ensures.end.own c.ended-world.result.history (subst (λ (n : ℕ). HaveRoom c.all_back-passes.result.items [] n c.in-Ok-log_rooms.logs) all room) in
-    record { room = subst (λ (q : Parts g.row.A.Denot). CanHold (kept_of q) q.layout.config.cpus c.in-Ok-log_rooms.logs) (sym c.parts.ensures) there }
+    let room =
+    room_back c.self.inside.passes.items c.all_back-passes.result.items c.args.given.items _ c.in-Ok-log_rooms.logs
+    k.few c.in-Ok-log_rooms.ensures in
+    let there : CanHold (kept_of w) w.layout.config.cpus c.in-Ok-log_rooms.logs =
+    can_hold w c.self.inside.table.table c.all_back-passes.result.items c.in-Ok-log_rooms.logs count home
+    c.ended-world.ensures.end.own c.ended-world.result.history
+    (subst (λ (n : ℕ). HaveRoom c.all_back-passes.result.items [] n c.in-Ok-log_rooms.logs) all room) in
+    record {
+      room = subst
+          (λ (q : Parts g.row.A.Denot). CanHold (kept_of q) q.layout.config.cpus c.in-Ok-log_rooms.logs)
+          (sym c.parts.ensures) there;
+    }
 
 pub returns-clause-logs : goal.returns-clause-logs
 returns-clause-logs g c =
     let w : Parts g.row.A.Denot = c.ended-world.result.parts in
-    let logs = subst (λ (q : Parts g.row.A.Denot). AreLogsOf c.copied-histories.result (parts_layout q) (kept_of q)) c.parts.ensures c.copied-histories.ensures in
-    record { logs = logs; history = ∥∥₁_map c.ended-world.result.history (λ has. of_history w c.copied-histories.result has logs) }
+    let logs =
+    subst
+    (λ (q : Parts g.row.A.Denot). AreLogsOf c.copied-histories.result (parts_layout q)
+    (kept_of q)) c.parts.ensures c.copied-histories.ensures in
+    record {
+      logs = logs;
+      history = ∥∥₁_map c.ended-world.result.history (λ has. of_history w c.copied-histories.result has logs);
+    }
 
 pub returns-in_default-log_rooms-clause-no_memory : goal.returns-in_default-log_rooms-clause-no_memory
-returns-in_default-log_rooms-clause-no_memory g c = λ _. subst (λ (l : List (Option Pass)). HasAll l c.args.given.items) (ap (λ (m : Machine). m.passes) c.self.view_is) (c.lacks.ensures.all c.if-lacks.false)
+returns-in_default-log_rooms-clause-no_memory g c =
+    λ _. subst (λ (l : List (Option Pass)). HasAll l c.args.given.items)
+    (ap (λ (m : Machine). m.passes) c.self.view_is) (c.lacks.ensures.all c.if-lacks.false)

@@ -6,7 +6,11 @@ use Rattle.decisions.proofs.Ranged.{all_hold, one_fails}
 use Rattle.decisions.proofs.calls.donate.may_donate.Goals as goal
 
 pub returns-then-not-may_give : goal.returns-then-not-may_give
-returns-then-not-may_give g c = λ k. one_fails c.args.n c.loop-i.i (λ i. is_free_page (meaning c.args.shared.now.host.tree (c.args.pfn + i)) && is_unmapped (meaning c.args.shared.now.hyp.tree (hyp_page (c.args.pfn + i)))) c.loop-i-test.true (sym c.may_give.ensures ∙ c.if-not-may_give.true)
+returns-then-not-may_give g c =
+    λ k. one_fails c.args.n c.loop-i.i
+    (λ i. is_free_page (meaning c.args.shared.now.host.tree (c.args.pfn + i))
+    && is_unmapped (meaning c.args.shared.now.hyp.tree (hyp_page (c.args.pfn + i)))) c.loop-i-test.true
+    (sym c.may_give.ensures ∙ c.if-not-may_give.true)
 
 pub loop-i-preserved : goal.loop-i-preserved
 loop-i-preserved g c = below_more _ _ c.loop-i.invariant (sym c.may_give.ensures ∙ c.if-not-may_give.false)

@@ -6,7 +6,10 @@ use Rattle.decisions.proofs.Ranged.{all_hold, one_fails}
 use Rattle.decisions.proofs.calls.give_back.may_return_all.Goals as goal
 
 pub returns-then-not-may_return : goal.returns-then-not-may_return
-returns-then-not-may_return g c = λ k. one_fails c.args.n c.loop-i.i (λ i. may_return (used_alone (shared_of c.args.shared.now) k) (c.args.pfn + i)) c.loop-i-test.true (sym (c.may_return.ensures k) ∙ c.if-not-may_return.true)
+returns-then-not-may_return g c =
+    λ k. one_fails c.args.n c.loop-i.i
+    (λ i. may_return (used_alone (shared_of c.args.shared.now) k) (c.args.pfn + i)) c.loop-i-test.true
+    (sym (c.may_return.ensures k) ∙ c.if-not-may_return.true)
 
 pub loop-i-preserved : goal.loop-i-preserved
 loop-i-preserved g c = below_more _ _ c.loop-i.invariant (λ k. sym (c.may_return.ensures k) ∙ c.if-not-may_return.false)

@@ -10,12 +10,23 @@ pub returns-then-hand-held : goal.returns-then-hand-held
 returns-then-hand-held g c =
     let l = layout_of c.args.layout.now in
     let tables = c.tables.ensures.value l (sym c.requires.depth) in
-    let over : 512 < guest_table_count l (guest_of c.args.guest.now).tree + length (guest_of c.args.guest.now).free + c.in-Some.hand.count = omega (arith, tables, c.tables.ensures.few, c.free.ensures, c.if-hand-held.true) in
-    record { decided = λ id slot s. tops_over l id slot s (guest_of c.args.guest.now) (cpu_of c.args.cpu.now) c.args.vm c.in-Some.hand c.if-vm-ge-SLOTS.false (sym c.is_live_or_dying.ensures ∙ c.if-not-is_live_or_dying.false) c.in-Some.is over }
+    let over : 512 < guest_table_count l (guest_of c.args.guest.now).tree + length (guest_of c.args.guest.now).free + c.in-Some.hand.count =
+    omega (arith, tables, c.tables.ensures.few, c.free.ensures, c.if-hand-held.true) in
+    record {
+      decided = λ id slot s. tops_over l id slot s (guest_of c.args.guest.now)
+          (cpu_of c.args.cpu.now) c.args.vm c.in-Some.hand c.if-vm-ge-SLOTS.false
+          (sym c.is_live_or_dying.ensures ∙ c.if-not-is_live_or_dying.false) c.in-Some.is over;
+    }
 
 pub returns : goal.returns
 returns g c =
     let l = layout_of c.args.layout.now in
     let tables = c.tables.ensures.value l (sym c.requires.depth) in
-    let few : guest_table_count l (guest_of c.args.guest.now).tree + length (guest_of c.args.guest.now).free + c.in-Some.hand.count ≤ 512 = omega (arith, tables, c.tables.ensures.few, c.free.ensures, c.if-hand-held.false) in
-    record { decided = λ id slot s. tops_up l id slot s (guest_of c.args.guest.now) (cpu_of c.args.cpu.now) c.args.vm c.in-Some.hand c.if-vm-ge-SLOTS.false (sym c.is_live_or_dying.ensures ∙ c.if-not-is_live_or_dying.false) c.in-Some.is c.hand_becomes.result c.hand_becomes.ensures few }
+    let few : guest_table_count l (guest_of c.args.guest.now).tree + length (guest_of c.args.guest.now).free + c.in-Some.hand.count ≤ 512 =
+    omega (arith, tables, c.tables.ensures.few, c.free.ensures, c.if-hand-held.false) in
+    record {
+      decided = λ id slot s. tops_up l id slot s (guest_of c.args.guest.now)
+          (cpu_of c.args.cpu.now) c.args.vm c.in-Some.hand c.if-vm-ge-SLOTS.false
+          (sym c.is_live_or_dying.ensures ∙ c.if-not-is_live_or_dying.false) c.in-Some.is c.hand_becomes.result
+          c.hand_becomes.ensures few;
+    }

@@ -11,4 +11,5 @@ pub returns-then-not-is_unmapped : goal.returns-then-not-is_unmapped
 returns-then-not-is_unmapped g c = rw (sym c.is_unmapped.ensures, c.if-not-is_unmapped.true) refl
 
 pub returns-else-not-is_unmapped : goal.returns-else-not-is_unmapped
-returns-else-not-is_unmapped g c = rw (sym c.is_unmapped.ensures ∙ c.if-not-is_unmapped.false, sym c.free.ensures) (some_free c.free.result)
+returns-else-not-is_unmapped g c =
+    rw (sym c.is_unmapped.ensures ∙ c.if-not-is_unmapped.false, sym c.free.ensures) (some_free c.free.result)

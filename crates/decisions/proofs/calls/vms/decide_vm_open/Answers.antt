@@ -4,7 +4,11 @@ use Rattle.decisions.proofs.Tickets.{opens, opens_none}
 use Rattle.decisions.proofs.calls.vms.decide_vm_open.Goals as goal
 
 pub returns-in_default-clause-decided : goal.returns-in_default-clause-decided
-returns-in_default-clause-decided c = λ l id. opens_none l id (vms_of c.args.table.now) (cpu_of c.args.cpu.now) c.in_default.ensures
+returns-in_default-clause-decided c =
+    λ l id. opens_none l id (vms_of c.args.table.now) (cpu_of c.args.cpu.now) c.in_default.ensures
 
 pub returns-clause-decided : goal.returns-clause-decided
-returns-clause-decided c = λ l id. opens l id (vms_of c.args.table.now) (cpu_of c.args.cpu.now) c.in-Some.ticket c.ticket_becomes.result c.ticket_becomes.ensures c.in-Some.ensures.0 c.in-Some.ensures.1
+returns-clause-decided c =
+    λ l id. opens l id (vms_of c.args.table.now)
+    (cpu_of c.args.cpu.now) c.in-Some.ticket c.ticket_becomes.result c.ticket_becomes.ensures c.in-Some.ensures.0
+    c.in-Some.ensures.1

@@ -11,4 +11,7 @@ returns-in-Some c = (ap (λ b. b || has_stage Finished (cpu_of c.args.cpu.now)) 
 pub returns-in-None : goal.returns-in-None
 returns-in-None c =
     let last = has_stage Finished (cpu_of c.args.cpu.now) in
-    subst (λ (b : Bool). MatchOption c.ticket_at-in-None.result ((b || last) ≡ false) (λ (t : Ticket). ((b || last) ≡ true) × (c.args.cpu.now.ticket ≡ Some t))) (sym c.in-None.ensures) c.ticket_at-in-None.ensures
+    subst
+    (λ (b : Bool). MatchOption c.ticket_at-in-None.result ((b || last) ≡ false)
+    (λ (t : Ticket). ((b || last) ≡ true) × (c.args.cpu.now.ticket ≡ Some t)))
+    (sym c.in-None.ensures) c.ticket_at-in-None.ensures

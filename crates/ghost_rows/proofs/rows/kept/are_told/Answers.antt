@@ -11,6 +11,10 @@ pub loop-i-preserved : goal.loop-i-preserved
 loop-i-preserved c =
     let told = c.is_told.ensures.told.0 c.if-not-is_told.false in
     record {
-      told = told-one-more c.args.lists.now c.args.rows.now c.loop-i.i _ c.loop-i-test.true c.loop-i.invariant.told told;
-      near = λ d less. near-later _ _ c.is_told.new.near c.args.lists.now (before-next c.args.rows.now c.loop-i.i _ d c.requires.coarsest less) (c.is_told.ensures.near c.if-not-is_told.false);
+      told =
+          told-one-more c.args.lists.now c.args.rows.now c.loop-i.i _ c.loop-i-test.true c.loop-i.invariant.told told;
+      near =
+          λ d less. near-later _ _ c.is_told.new.near c.args.lists.now
+          (before-next c.args.rows.now c.loop-i.i _ d c.requires.coarsest less)
+          (c.is_told.ensures.near c.if-not-is_told.false);
     }

@@ -29,8 +29,13 @@ annotate-requires-clause-some c = some-page c.args.runs.now c.loop-i.i _ c.requi
 
 pub loop-i-preserved : goal.loop-i-preserved
 loop-i-preserved c = record {
-  map = annotated-more c.args.runs.now c.loop-i.i _ (run_map advance_row c.loop-i.rows.items) (run_map advance_row c.annotate.new.rows.items) c.requires.coarsest (omega arith) c.loop-i.invariant.map c.in_ok-high.ensures.map;
+  map =
+      annotated-more c.args.runs.now c.loop-i.i _ (run_map advance_row c.loop-i.rows.items)
+      (run_map advance_row c.annotate.new.rows.items) c.requires.coarsest
+      (omega arith) c.loop-i.invariant.map c.in_ok-high.ensures.map;
   kept = c.in_ok-high.ensures.kept;
   behind = c.in_ok-high.ensures.behind;
-  order = λ d less. annotated-next c.args.runs.now c.loop-i.i _ d c.loop-i.high _ c.requires.coarsest less (c.loop-i.invariant.order _ (omega arith)) c.in_ok-high.ensures.end;
+  order =
+      λ d less. annotated-next c.args.runs.now c.loop-i.i _ d c.loop-i.high _ c.requires.coarsest less
+      (c.loop-i.invariant.order _ (omega arith)) c.in_ok-high.ensures.end;
 }

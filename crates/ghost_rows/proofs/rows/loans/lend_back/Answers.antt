@@ -10,7 +10,12 @@ use Rattle.ghost_rows.proofs.rows.loans.lend_back.Goals as goal
 
 pub loop-i-preserved : goal.loop-i-preserved
 loop-i-preserved c = record {
-  map = λ f. back-more c.args.number (pages_below (layout_of c.args.layout.now).depth) c.args.state f c.args.runs.now c.loop-i.i _ _ (run_map advance_row c.loop-i.rows.runs f) (run_map advance_row c.args.rows.now.runs f) (omega (arith, c.loop-i-test.true)) (omega arith) (c.in_ok-lend_run.ensures.map f) (c.loop-i.invariant.map f);
+  map =
+      λ f. back-more c.args.number
+      (pages_below (layout_of c.args.layout.now).depth) c.args.state f c.args.runs.now c.loop-i.i _ _
+      (run_map advance_row c.loop-i.rows.runs f) (run_map advance_row c.args.rows.now.runs f)
+      (omega (arith, c.loop-i-test.true)) (omega arith) (c.in_ok-lend_run.ensures.map f)
+      (c.loop-i.invariant.map f);
   reach = c.in_ok-lend_run.ensures.reach;
 }
 
@@ -18,4 +23,8 @@ pub returns-clause-map : goal.returns-clause-map
 returns-clause-map c = λ f.
     let start : c.loop-i.i ≡ 0 = omega (arith, c.loop-i-test.false) in
     c.loop-i.invariant.map f
-    ∙ ap (λ (i : ℕ). option_or (loan_at c.args.number (low_page (pages_below (layout_of c.args.layout.now).depth) c.args.state f (drop i c.args.runs.now))) (run_map advance_row c.args.rows.now.runs f)) start
+    ∙ ap
+    (λ (i : ℕ). option_or
+    (loan_at c.args.number
+    (low_page (pages_below (layout_of c.args.layout.now).depth) c.args.state f (drop i c.args.runs.now)))
+    (run_map advance_row c.args.rows.now.runs f)) start

@@ -46,10 +46,15 @@ pub put_behind-requires-clause-behind : goal.put_behind-requires-clause-behind
 put_behind-requires-clause-behind c = c.requires.behind
 
 pub returns-clause-map : goal.returns-clause-map
-returns-clause-map c = λ f. lent-one c.args.number f (run_map advance_row c.args.rows.now.items) (run_map advance_row c.put_behind.new.rows.items) c.loan.result (run_below (pages_below (layout_of c.args.layout.now).depth) c.args.run) c.args.state c.in-Some.frames
+returns-clause-map c =
+    λ f. lent-one c.args.number f (run_map advance_row c.args.rows.now.items)
+    (run_map advance_row c.put_behind.new.rows.items) c.loan.result
+    (run_below (pages_below (layout_of c.args.layout.now).depth) c.args.run) c.args.state c.in-Some.frames
     (sym c.in-Some.is ∙ c.frames_of.ensures.frames)
     c.loan.ensures
     c.in_ok-put_behind.ensures.map
 
 pub returns-then-frames-eq0-clause-behind : goal.returns-then-frames-eq0-clause-behind
-returns-then-frames-eq0-clause-behind c = ends_later (c.args.high + 1) (c.in-Some.frames.first.0 + 1) c.args.rows.now.items (omega (arith, c.if-frames-high.false)) c.requires.behind
+returns-then-frames-eq0-clause-behind c =
+    ends_later (c.args.high + 1) (c.in-Some.frames.first.0 + 1) c.args.rows.now.items
+    (omega (arith, c.if-frames-high.false)) c.requires.behind

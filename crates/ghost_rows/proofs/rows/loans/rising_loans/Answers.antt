@@ -48,9 +48,18 @@ loop-i-preserved c =
     let lent = rw c.in-Some.is at c.in_ok-end.ensures.map in
     let told = sym c.in-Some.is ∙ c.in_ok-end.ensures.end in
     record {
-      map = λ f. lent-more limit c.args.state f c.args.number c.loop-i.high c.in-Some.end c.args.runs.now c.loop-i.i _ (run_map advance_row c.lend_next.new.rows.items f) (run_map advance_row c.loop-i.rows.items f) None within (next-above limit c.args.state f c.loop-i.high c.in-Some.end _ told) (c.loop-i.invariant.high f) (lent f) (c.loop-i.invariant.map f);
-      high = λ f h. none-more limit c.args.state f c.loop-i.high c.in-Some.end c.args.runs.now c.loop-i.i _ within (next-above limit c.args.state f c.loop-i.high c.in-Some.end _ told) (c.loop-i.invariant.high f) h;
-      rises = c.loop-i.invariant.rises ∙ rises-more limit c.args.state c.loop-i.high c.in-Some.end c.args.runs.now c.loop-i.i _ within told;
+      map =
+          λ f. lent-more limit c.args.state f c.args.number c.loop-i.high c.in-Some.end c.args.runs.now c.loop-i.i _
+          (run_map advance_row c.lend_next.new.rows.items f)
+          (run_map advance_row c.loop-i.rows.items f) None within
+          (next-above limit c.args.state f c.loop-i.high c.in-Some.end _ told) (c.loop-i.invariant.high f)
+          (lent f) (c.loop-i.invariant.map f);
+      high =
+          λ f h. none-more limit c.args.state f c.loop-i.high c.in-Some.end c.args.runs.now c.loop-i.i _ within
+          (next-above limit c.args.state f c.loop-i.high c.in-Some.end _ told) (c.loop-i.invariant.high f) h;
+      rises =
+          c.loop-i.invariant.rises
+          ∙ rises-more limit c.args.state c.loop-i.high c.in-Some.end c.args.runs.now c.loop-i.i _ within told;
       kept = c.in_ok-end.ensures.kept;
       behind = rw c.in-Some.is at c.in_ok-end.ensures.behind;
     }
@@ -61,5 +70,7 @@ returns-clause-map c = λ f.
     ap (λ (rs : List (Run Row)). run_map advance_row rs f) c.of.ensures
     ∙ c.loop-i.invariant.map f
     ∙ or-none (loan_at c.args.number (low_page limit c.args.state f (take c.loop-i.i c.args.runs.now)))
-    ∙ ap (λ rs. loan_at c.args.number (low_page limit c.args.state f rs)) (take_all c.loop-i.i c.args.runs.now (omega (arith, c.loop-i-test.false)))
-    ∙ ap (λ (o : Option ℕ). loan_at c.args.number o) (low_page-is (layout_of c.args.layout.now) c.args.state f c.args.runs.now c.requires.coarsest)
+    ∙ ap (λ rs. loan_at c.args.number (low_page limit c.args.state f rs))
+    (take_all c.loop-i.i c.args.runs.now (omega (arith, c.loop-i-test.false)))
+    ∙ ap (λ (o : Option ℕ). loan_at c.args.number o)
+    (low_page-is (layout_of c.args.layout.now) c.args.state f c.args.runs.now c.requires.coarsest)

@@ -13,5 +13,8 @@ loop-place-preserved c =
     record {
       within = omega (arith, c.loop-place-test.true);
       front = subst (λ i. EndBefore (c.args.frame + 1) (take i c.args.runs.now)) n
-          (one-more (c.args.frame + 1) c.loop-place.place c.args.runs.now _ c.loop-place.invariant.front c.loop-place-test.true (is-below _ _ (sym c.ends_by.ensures ∙ c.if-not-ends_by.false)));
+          (one-more
+          (c.args.frame + 1) c.loop-place.place c.args.runs.now _ c.loop-place.invariant.front
+          c.loop-place-test.true
+          (is-below _ _ (sym c.ends_by.ensures ∙ c.if-not-ends_by.false)));
     }

@@ -10,10 +10,14 @@ abbrev no_run : Run Row
 no_run = record { pages = record { first = record { 0 = 0 }; count = 0 }; value = plain_row }
 
 pub returns-then-place-runs : goal.returns-then-place-runs
-returns-then-place-runs c = stand-behind c.args.runs.now c.args.frame c.args.place c.requires.place _ (omega (arith, c.if-place-runs.true)) (omega (arith, c.requires.low))
+returns-then-place-runs c =
+    stand-behind c.args.runs.now c.args.frame c.args.place c.requires.place _ (omega (arith, c.if-place-runs.true))
+    (omega (arith, c.requires.low))
 
 pub returns-then-frame-pages : goal.returns-then-frame-pages
-returns-then-frame-pages c = stand-before c.args.runs.now c.args.frame c.args.place c.requires.place (omega (arith, c.requires.place.within, c.if-place-runs.false)) _ c.if-frame-pages.true
+returns-then-frame-pages c =
+    stand-before c.args.runs.now c.args.frame c.args.place c.requires.place
+    (omega (arith, c.requires.place.within, c.if-place-runs.false)) _ c.if-frame-pages.true
 
 pub overflow_add-result : goal.overflow_add-result
 overflow_add-result c =
@@ -22,4 +26,6 @@ overflow_add-result c =
     omega (arith, reach)
 
 pub returns : goal.returns
-returns c = stand-inside c.args.runs.now c.args.frame c.args.place c.requires.place (omega (arith, c.requires.place.within, c.if-place-runs.false)) _ (omega (arith, c.if-frame-pages.false))
+returns c =
+    stand-inside c.args.runs.now c.args.frame c.args.place c.requires.place
+    (omega (arith, c.requires.place.within, c.if-place-runs.false)) _ (omega (arith, c.if-frame-pages.false))

@@ -13,6 +13,9 @@ loop-i-init c = rw c.new-rows.ensures (record {
 
 pub loop-i-preserved : goal.loop-i-preserved
 loop-i-preserved c = record {
-  map = λ f less. hands-more c.args.cpus.now f c.loop-i.i _ _ (run_map advance_row c.loop-i.rows.runs f) (omega (arith, c.loop-i-test.true)) (omega arith) (c.in_ok-use_hand.ensures.map f less) (c.loop-i.invariant.map f less);
+  map =
+      λ f less. hands-more c.args.cpus.now f c.loop-i.i _ _ (run_map advance_row c.loop-i.rows.runs f)
+      (omega (arith, c.loop-i-test.true)) (omega arith) (c.in_ok-use_hand.ensures.map f less)
+      (c.loop-i.invariant.map f less);
   reach = c.in_ok-use_hand.ensures.reach;
 }

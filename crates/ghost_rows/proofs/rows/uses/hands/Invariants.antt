@@ -6,6 +6,8 @@ use Rattle.ghost_rows.proofs.rows.uses.hands.Given as goal
 
 abbrev pub invariant-loop-i : goal.invariant-loop-i
 invariant-loop-i l = record {
-  map : (f : ℕ) → f < 2 ^ 26 → run_map advance_row l.rows.runs f ≡ first_some l.i (length l.cpus - l.i) (hand_use (cpus_in l.cpus) f);
+  map : (f : ℕ)
+      → f < 2 ^ 26
+      → run_map advance_row l.rows.runs f ≡ first_some l.i (length l.cpus - l.i) (hand_use (cpus_in l.cpus) f);
   reach : AreInReach HasPageBelow l.rows.runs;
 }

@@ -6,4 +6,5 @@ use Rattle.ghost_rows.proofs.rows.uses.push_found.Goals as goal
 pub returns-in_ok-push : goal.returns-in_ok-push
 returns-in_ok-push c f =
     let frames = c.args.frames.now.items in
-    ap (λ xs. is_free xs f) c.in_ok-push.ensures.items ∙ free_push frames c.in-Some.frame f ∙ ap (λ o. is_free frames f || is_frame f o) (sym c.in-Some.is)
+    ap (λ xs. is_free xs f) c.in_ok-push.ensures.items ∙ free_push frames c.in-Some.frame f
+    ∙ ap (λ o. is_free frames f || is_frame f o) (sym c.in-Some.is)

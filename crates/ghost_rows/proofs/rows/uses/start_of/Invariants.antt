@@ -6,7 +6,9 @@ use Rattle.ghost_rows.proofs.rows.uses.start_of.Given as goal
 abbrev pub invariant-loop-start : goal.invariant-loop-start
 invariant-loop-start l = record {
   before : l.start < l.end;
-  together : (f : ℕ) → is_free (drop l.start l.frames) f ≡ (is_within (slice_index l.frames l.start) (l.end - l.start) f || is_free (drop l.end l.frames) f);
+  together : (f : ℕ)
+      → is_free (drop l.start l.frames) f
+      ≡ (is_within (slice_index l.frames l.start) (l.end - l.start) f || is_free (drop l.end l.frames) f);
 }
 
 abbrev pub decreases-loop-start : goal.decreases-loop-start

@@ -9,7 +9,10 @@ use Rattle.ghost_rows.proofs.rows.uses.use_frames.Given as goal
 abbrev pub invariant-loop-end : goal.invariant-loop-end
 invariant-loop-end l = record {
   within : l.end ≤ length l.frames;
-  map : (f : ℕ) → f < 2 ^ 26 → run_map advance_row l.rows.runs f ≡ option_or (used_if (is_free (drop l.end l.frames) f) l.usage) (run_map advance_row l.fn.rows.runs f);
+  map : (f : ℕ)
+      → f < 2 ^ 26
+      → run_map advance_row l.rows.runs f
+      ≡ option_or (used_if (is_free (drop l.end l.frames) f) l.usage) (run_map advance_row l.fn.rows.runs f);
   reach : AreInReach HasPageBelow l.rows.runs;
 }
 

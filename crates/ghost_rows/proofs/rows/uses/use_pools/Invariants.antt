@@ -8,6 +8,10 @@ use Rattle.ghost_rows.proofs.rows.uses.use_pools.Given as goal
 
 abbrev pub invariant-loop-v : goal.invariant-loop-v
 invariant-loop-v l = record {
-  map : (f : ℕ) → f < 2 ^ 26 → run_map advance_row l.rows.runs f ≡ option_or (first_some l.v (length l.guests - l.v) (guest_use (layout_of l.layout) (guests_in l.guests) f)) (run_map advance_row l.fn.rows.runs f);
+  map : (f : ℕ)
+      → f < 2 ^ 26
+      → run_map advance_row l.rows.runs f
+      ≡ option_or (first_some l.v (length l.guests - l.v) (guest_use (layout_of l.layout) (guests_in l.guests) f))
+      (run_map advance_row l.fn.rows.runs f);
   reach : AreInReach HasPageBelow l.rows.runs;
 }

@@ -10,4 +10,6 @@ use Rattle.ghost_rows.proofs.rows.uses.use_sorted.Goals as goal
 pub returns-clause-map : goal.returns-clause-map
 returns-clause-map c = λ f less.
     c.in_ok-use_frames.ensures.map f less
-    ∙ ap (λ (b : Bool). option_or (used_if b c.args.usage) (run_map advance_row c.args.rows.now.runs f)) (ap (λ xs. is_free xs f) c.as_slice.ensures.value ∙ free_sorted c.args.frames.items c.sort_unstable.new.self.items f c.sort_unstable.ensures.permutation)
+    ∙ ap (λ (b : Bool). option_or (used_if b c.args.usage) (run_map advance_row c.args.rows.now.runs f))
+    (ap (λ xs. is_free xs f) c.as_slice.ensures.value
+    ∙ free_sorted c.args.frames.items c.sort_unstable.new.self.items f c.sort_unstable.ensures.permutation)

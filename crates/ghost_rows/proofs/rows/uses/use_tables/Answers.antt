@@ -11,4 +11,9 @@ use Rattle.ghost_rows.proofs.rows.uses.use_tables.Goals as goal
 pub returns-clause-map : goal.returns-clause-map
 returns-clause-map c = λ f less.
     c.in_ok-use_sorted.ensures.map f less
-    ∙ ap (λ (b : Bool). option_or (used_if b c.args.usage) (run_map advance_row c.args.rows.now.runs f)) (c.in_ok-add_tables.ensures f ∙ ap (λ xs. is_free xs f || any_table_with (layout_of c.args.layout.now).depth c.args.tables.now f) c.in_ok-frames.ensures.items)
+    ∙ ap (λ (b : Bool). option_or (used_if b c.args.usage) (run_map advance_row c.args.rows.now.runs f))
+    (c.in_ok-add_tables.ensures f
+    ∙ ap
+    (λ xs. is_free xs f
+    || any_table_with
+    (layout_of c.args.layout.now).depth c.args.tables.now f) c.in_ok-frames.ensures.items)

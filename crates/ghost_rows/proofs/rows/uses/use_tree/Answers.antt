@@ -11,4 +11,5 @@ use Rattle.ghost_rows.proofs.rows.uses.use_tree.Goals as goal
 pub returns-clause-map : goal.returns-clause-map
 returns-clause-map c = λ f less.
     (rw c.as_slice.ensures.value at (c.in_ok-use_tables.ensures.map f less))
-    ∙ ap (λ (b : Bool). option_or (used_if b c.args.usage) (run_map advance_row c.args.rows.now.runs f)) (any-is (layout_of c.args.layout.now) (tree_in_lists c.args.tree.now) c.args.tree.now.tables.items f refl)
+    ∙ ap (λ (b : Bool). option_or (used_if b c.args.usage) (run_map advance_row c.args.rows.now.runs f))
+    (any-is (layout_of c.args.layout.now) (tree_in_lists c.args.tree.now) c.args.tree.now.tables.items f refl)

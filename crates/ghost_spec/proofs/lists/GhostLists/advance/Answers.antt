@@ -26,9 +26,13 @@ pub returns-then-is_full-clause-foretold : goal.returns-then-is_full-clause-fore
 returns-then-is_full-clause-foretold c =
     let g : GhostLists = c.args.self.now in
     let less : c.args.cpu < length g.cpus.items = rw c.requires.kept.cpus_count c.requires.cpu in
-    let own : get_or (map cpu_in g.cpus.items) c.args.cpu no_cpu ≡ cpu_in c.index.result.now = get_or-map cpu_in g.cpus.items c.args.cpu c.index.result.now no_cpu less ∙ ap cpu_in (sym c.index.ensures) in
-    let named : c.guest_slot-slot.result ≡ guest_slot ((ghost_state g).contents.cpu c.args.cpu) c.args.step = c.guest_slot-slot.ensures.value ∙ ap (λ (k : Cpu). guest_slot k c.args.step) (sym own) in
-    sym (foretold-full (layout_of g.layout) (ghost_state g) c.args.cpu c.args.step c.guest_slot-slot.result named (sym c.is_full.ensures ∙ c.if-is_full.true))
+    let own : get_or (map cpu_in g.cpus.items) c.args.cpu no_cpu ≡ cpu_in c.index.result.now =
+    get_or-map cpu_in g.cpus.items c.args.cpu c.index.result.now no_cpu less ∙ ap cpu_in (sym c.index.ensures) in
+    let named : c.guest_slot-slot.result ≡ guest_slot ((ghost_state g).contents.cpu c.args.cpu) c.args.step =
+    c.guest_slot-slot.ensures.value ∙ ap (λ (k : Cpu). guest_slot k c.args.step) (sym own) in
+    sym
+    (foretold-full (layout_of g.layout) (ghost_state g) c.args.cpu c.args.step c.guest_slot-slot.result named
+    (sym c.is_full.ensures ∙ c.if-is_full.true))
 
 pub returns-clause-foretold : goal.returns-clause-foretold
 unfolding state-with pair
@@ -36,13 +40,28 @@ returns-clause-foretold c =
     let g : GhostLists = c.args.self.now in
     let slot : Option ℕ = c.guest_slot-slot.result in
     let less : c.args.cpu < length g.cpus.items = rw c.requires.kept.cpus_count c.requires.cpu in
-    let own : get_or (map cpu_in g.cpus.items) c.args.cpu no_cpu ≡ cpu_in c.index.result.now = get_or-map cpu_in g.cpus.items c.args.cpu c.index.result.now no_cpu less ∙ ap cpu_in (sym c.index.ensures) in
-    let named : slot ≡ guest_slot ((ghost_state g).contents.cpu c.args.cpu) c.args.step = c.guest_slot-slot.ensures.value ∙ ap (λ (k : Cpu). guest_slot k c.args.step) (sym own) in
-    let said = ap (answer (layout_of g.layout) c.args.cpu slot c.args.step) (sym c.in_ok-used.ensures.taken.used) ∙ ap (λ (l : _). answer l c.args.cpu slot c.args.step (used_in c.in_ok-used.used)) (ap layout_of (sym c.take.ensures.layout)) ∙ sym (IfOk-at_ok _ c.in-Ok.is c.answer.ensures.answer) in
+    let own : get_or (map cpu_in g.cpus.items) c.args.cpu no_cpu ≡ cpu_in c.index.result.now =
+    get_or-map cpu_in g.cpus.items c.args.cpu c.index.result.now no_cpu less ∙ ap cpu_in (sym c.index.ensures) in
+    let named : slot ≡ guest_slot ((ghost_state g).contents.cpu c.args.cpu) c.args.step =
+    c.guest_slot-slot.ensures.value ∙ ap (λ (k : Cpu). guest_slot k c.args.step) (sym own) in
+    let said =
+    ap (answer (layout_of g.layout) c.args.cpu slot c.args.step) (sym c.in_ok-used.ensures.taken.used)
+    ∙ ap (λ (l : _). answer l c.args.cpu slot c.args.step (used_in c.in_ok-used.used))
+    (ap layout_of (sym c.take.ensures.layout))
+    ∙ sym (IfOk-at_ok _ c.in-Ok.is c.answer.ensures.answer) in
     let contents = c.store.ensures.contents ∙ c.put_back.ensures.contents ∙ c.in_ok-used.ensures.others _ in
-    let before : (ghost_state c.put_back.new.self).rooms ≡ (ghost_state g).rooms = same2 rooms_in (ap (λ l. l.config.log) (c.put_back.ensures.layout ∙ c.take.ensures.layout)) (c.put_back.ensures.rooms ∙ c.take.ensures.rooms) in
-    let rooms = c.store.ensures.rooms ∙ ap (λ (r : Rooms). put_rooms (names c.args.step) slot c.args.cpu r (stored (rooms_of (names c.args.step) slot c.args.cpu r))) before in
-    ap (pair c.in-Ok.reply) (same2 state-with contents rooms) ∙ sym (foretold-answer (layout_of g.layout) (ghost_state g) c.args.cpu c.args.step slot named c.in-Ok.reply (used_in c.answer.new.used) (sym c.is_full.ensures ∙ c.if-is_full.false) said)
+    let before : (ghost_state c.put_back.new.self).rooms ≡ (ghost_state g).rooms =
+    same2 rooms_in (ap (λ l. l.config.log) (c.put_back.ensures.layout ∙ c.take.ensures.layout))
+    (c.put_back.ensures.rooms ∙ c.take.ensures.rooms) in
+    let rooms =
+    c.store.ensures.rooms
+    ∙ ap
+    (λ (r : Rooms). put_rooms (names c.args.step) slot c.args.cpu r
+    (stored (rooms_of (names c.args.step) slot c.args.cpu r))) before in
+    ap (pair c.in-Ok.reply) (same2 state-with contents rooms)
+    ∙ sym
+    (foretold-answer (layout_of g.layout) (ghost_state g) c.args.cpu c.args.step slot named c.in-Ok.reply
+    (used_in c.answer.new.used) (sym c.is_full.ensures ∙ c.if-is_full.false) said)
 
 pub returns-in_err-used-clause-foretold : goal.returns-in_err-used-clause-foretold
 returns-in_err-used-clause-foretold c = IfOk-from_err _ _ c.from_residual.ensures.0
@@ -103,7 +122,9 @@ store-requires-clause-slot c = c.guest_slot-slot.ensures.low
 
 pub answer-requires-clause-generation : goal.answer-requires-clause-generation
 unfolding used_of
-answer-requires-clause-generation c = subst (λ (x : Used). HasNextGeneration x.cpu.ticket c.args.step) (sym c.in_ok-used.ensures.taken.used) c.requires.generation
+answer-requires-clause-generation c =
+    subst (λ (x : Used). HasNextGeneration x.cpu.ticket c.args.step)
+    (sym c.in_ok-used.ensures.taken.used) c.requires.generation
 
 pub answer-requires-clause-vms : goal.answer-requires-clause-vms
 answer-requires-clause-vms c = c.in_ok-used.ensures.taken.count
@@ -130,4 +151,5 @@ pub put_back-requires-clause-count : goal.put_back-requires-clause-count
 put_back-requires-clause-count c t = IfOk-at_ok _ c.in-Ok.is c.answer.ensures.count ∙ c.in_ok-used.ensures.taken.count t
 
 pub store-requires-clause-cpu : goal.store-requires-clause-cpu
-store-requires-clause-cpu c = rw (c.put_back.ensures.kept.cpu_rooms_count, c.put_back.ensures.layout, c.take.ensures.layout) c.requires.cpu
+store-requires-clause-cpu c =
+    rw (c.put_back.ensures.kept.cpu_rooms_count, c.put_back.ensures.layout, c.take.ensures.layout) c.requires.cpu

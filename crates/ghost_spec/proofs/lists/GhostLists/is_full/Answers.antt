@@ -9,6 +9,12 @@ use Rattle.ghost_spec.proofs.lists.GhostLists.is_full.Goals as goal
 pub returns : goal.returns
 returns c =
     let log = c.args.self.now.layout.config.log in
-    let room : c.index.result.now ≡ get_or c.args.self.now.rooms.cpus.items c.args.cpu log = c.index.ensures ∙ get_or_default c.args.self.now.rooms.cpus.items c.args.cpu c.index.result.now log c.requires.cpu in
-    c.is_any.ensures ∙ same4 (λ (p q r s : Bool). p || q || r || s) (ap (λ (n : ℕ). n == 0) room) (rw c.uses_vms.ensures at c.is_used_full-is_vms_full.ensures) (rw c.uses_shared.ensures at c.is_used_full-is_shared_full.ensures) (rw c.as_slice.ensures.value at (c.is_guest_full-is_guest_full.ensures log))
+    let room : c.index.result.now ≡ get_or c.args.self.now.rooms.cpus.items c.args.cpu log =
+    c.index.ensures
+    ∙ get_or_default c.args.self.now.rooms.cpus.items c.args.cpu c.index.result.now log c.requires.cpu in
+    c.is_any.ensures
+    ∙ same4 (λ (p q r s : Bool). p || q || r || s) (ap (λ (n : ℕ). n == 0) room)
+    (rw c.uses_vms.ensures at c.is_used_full-is_vms_full.ensures)
+    (rw c.uses_shared.ensures at c.is_used_full-is_shared_full.ensures)
+    (rw c.as_slice.ensures.value at (c.is_guest_full-is_guest_full.ensures log))
     ∙ sym (full-is (names c.args.step) c.args.slot c.args.cpu (rooms_in log c.args.self.now.rooms))

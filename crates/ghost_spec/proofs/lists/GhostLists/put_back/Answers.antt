@@ -10,14 +10,18 @@ use Rattle.ghost_spec.proofs.lists.GhostLists.put_back.Goals as goal
 
 pub returns-clause-contents : goal.returns-clause-contents
 unfolding put_back
-returns-clause-contents c = contents-same c.put_vms.ensures.vms c.put_shared.ensures.shared c.put_guest.ensures.guests (put-list cpu_in no_cpu c.args.self.now.cpus.items c.args.cpu c.args.used.own c.requires.cpu)
+returns-clause-contents c =
+    contents-same c.put_vms.ensures.vms c.put_shared.ensures.shared c.put_guest.ensures.guests
+    (put-list cpu_in no_cpu c.args.self.now.cpus.items c.args.cpu c.args.used.own c.requires.cpu)
 
 pub returns-clause-kept : goal.returns-clause-kept
 returns-clause-kept c = record {
   shared = c.put_shared.ensures.kept;
   guests = c.put_guest.ensures.kept;
-  cpus = All-set IsKeptCpu c.args.self.now.cpus.items c.args.cpu c.args.used.own c.requires.used.own c.requires.kept.cpus;
-  vms_count = c.put_vms.ensures.count (λ t. c.requires.count t ∙ sym c.requires.kept.vms_count) ∙ c.requires.kept.vms_count;
+  cpus =
+      All-set IsKeptCpu c.args.self.now.cpus.items c.args.cpu c.args.used.own c.requires.used.own c.requires.kept.cpus;
+  vms_count =
+      c.put_vms.ensures.count (λ t. c.requires.count t ∙ sym c.requires.kept.vms_count) ∙ c.requires.kept.vms_count;
   guests_count = c.put_guest.ensures.count;
   cpus_count = length-set c.args.self.now.cpus.items c.args.cpu c.args.used.own ∙ c.requires.kept.cpus_count;
   guest_rooms_count = c.requires.kept.guest_rooms_count;

@@ -12,6 +12,12 @@ pub returns-clause-rooms : goal.returns-clause-rooms
 returns-clause-rooms c =
     let log = c.args.self.now.layout.config.log in
     let r : GhostRooms = c.args.self.now.rooms in
-    let room : c.left_of.result ≡ get_or r.cpus.items c.args.cpu log - 1 = c.left_of.ensures ∙ ap (λ (n : ℕ). n - 1) (c.index.ensures ∙ get_or_default r.cpus.items c.args.cpu c.index.result.now log c.requires.cpu) in
-    stored-is (names c.args.step) c.args.slot c.args.cpu (rooms_in log r) _ (rw c.uses_vms.ensures at c.left_of-self.ensures) (rw c.uses_shared.ensures at c.left_of-self-2.ensures) (c.store_in.ensures.rooms log)
-    (put-items log r.cpus.items c.args.cpu c.left_of.result c.requires.cpu ∙ ap (put_at (rooms_in log r).cpu c.args.cpu) room)
+    let room : c.left_of.result ≡ get_or r.cpus.items c.args.cpu log - 1 =
+    c.left_of.ensures
+    ∙ ap (λ (n : ℕ). n - 1)
+    (c.index.ensures ∙ get_or_default r.cpus.items c.args.cpu c.index.result.now log c.requires.cpu) in
+    stored-is (names c.args.step) c.args.slot c.args.cpu (rooms_in log r) _
+    (rw c.uses_vms.ensures at c.left_of-self.ensures) (rw c.uses_shared.ensures at c.left_of-self-2.ensures)
+    (c.store_in.ensures.rooms log)
+    (put-items log r.cpus.items c.args.cpu c.left_of.result c.requires.cpu
+    ∙ ap (put_at (rooms_in log r).cpu c.args.cpu) room)

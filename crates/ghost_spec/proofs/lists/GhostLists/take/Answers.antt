@@ -17,9 +17,15 @@ make v s g k = record { vms = v; shared = s; guest = g; cpu = k }
 pub returns-clause-taken : goal.returns-clause-taken
 unfolding used_of make
 returns-clause-taken c =
-    let own = get_or-map cpu_in c.args.self.now.cpus.items c.args.cpu c.index.result.now no_cpu c.requires.cpu ∙ ap cpu_in (sym c.index.ensures) in
+    let own =
+    get_or-map cpu_in c.args.self.now.cpus.items c.args.cpu c.index.result.now no_cpu c.requires.cpu
+    ∙ ap cpu_in (sym c.index.ensures) in
     record {
-      used = same4 make (rw c.as_slice.ensures.value at c.in_ok-used_vms.ensures.vms) c.take_shared.ensures.shared c.take_guest.ensures.guest (sym own);
+      used =
+          same4 make
+          (rw c.as_slice.ensures.value at c.in_ok-used_vms.ensures.vms) c.take_shared.ensures.shared
+          c.take_guest.ensures.guest
+          (sym own);
       kept = record {
         shared = c.take_shared.ensures.kept;
         guest = c.take_guest.ensures.kept;
@@ -30,7 +36,11 @@ returns-clause-taken c =
 
 pub returns-clause-others : goal.returns-clause-others
 unfolding put_back
-returns-clause-others c x = contents-same refl (if-stays (uses_shared (names c.args.step) c.args.slot) x.shared _ _ (λ t. ap shared_in_lists (c.take_shared.ensures.stays t))) (c.take_guest.ensures.others x.guest) refl
+returns-clause-others c x =
+    contents-same refl
+    (if-stays (uses_shared (names c.args.step) c.args.slot) x.shared _ _
+    (λ t. ap shared_in_lists (c.take_shared.ensures.stays t)))
+    (c.take_guest.ensures.others x.guest) refl
 
 pub returns-clause-left : goal.returns-clause-left
 returns-clause-left c = record {

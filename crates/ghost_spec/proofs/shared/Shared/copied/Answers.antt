@@ -13,11 +13,19 @@ returns-clause-same c =
     let rows = IfOk-at_ok _ (IfOk-at_ok _ lists c.both.ensures.second) c.copied_rows-rows.ensures in
     let host = IfOk-at_ok _ (IfOk-at_ok _ trees c.both-2.ensures.first) c.copied-host.ensures.tree in
     let hyp = IfOk-at_ok _ (IfOk-at_ok _ trees c.both-2.ensures.second) c.copied-hyp.ensures.tree in
-    same_shared (record { host = c.in_ok-free.host; hyp = c.in_ok-free.hyp; free = c.in_ok-free.free; rows = c.in_ok-free.rows }) c.args.self.now host hyp (free ∙ c.as_slice.ensures.value) (ap (run_map advance_row) (rows ∙ c.runs.ensures.runs))
+    same_shared
+    (record {
+      host = c.in_ok-free.host;
+      hyp = c.in_ok-free.hyp;
+      free = c.in_ok-free.free;
+      rows = c.in_ok-free.rows;
+    }) c.args.self.now host hyp
+    (free ∙ c.as_slice.ensures.value) (ap (run_map advance_row) (rows ∙ c.runs.ensures.runs))
 
 pub returns-clause-kept : goal.returns-clause-kept
 returns-clause-kept c =
-    let rows = IfOk-at_ok _ (IfOk-at_ok _ c.in_ok-free.ensures.first c.both.ensures.second) c.copied_rows-rows.ensures in
+    let rows =
+    IfOk-at_ok _ (IfOk-at_ok _ c.in_ok-free.ensures.first c.both.ensures.second) c.copied_rows-rows.ensures in
     let trees = c.in_ok-free.ensures.second in
     record {
       host = IfOk-at_ok _ (IfOk-at_ok _ trees c.both-2.ensures.first) c.copied-host.ensures.kept;

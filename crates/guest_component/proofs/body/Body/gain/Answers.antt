@@ -12,4 +12,8 @@ give_frames-requires-clause-covered g c =
 pub invariant_of-self : goal.invariant_of-self
 invariant_of-self g c =
     let b = c.args.self.now in
-    record { own = gained b.map.tree b.pool c.give_frames.new.pool c.args.frames b.own (record { apart = c.requires.apart; few = c.requires.few; low = c.requires.low }) c.give_frames.ensures.frames c.give_frames.ensures.room }
+    record {
+      own = gained b.map.tree b.pool c.give_frames.new.pool c.args.frames b.own
+          (record { apart = c.requires.apart; few = c.requires.few; low = c.requires.low }) c.give_frames.ensures.frames
+          c.give_frames.ensures.room;
+    }

@@ -14,7 +14,9 @@ invariant_of-result g c =
     let r = c.args.hand in
     let t = c.in_ok-tree.tree in
     let p = c.in_ok-root.pool in
-    let own : HoldsOwn t p = parted t p c.in_ok-root.root.0 r.first.0 r.count c.in_ok-root.ensures.frames c.in_ok-tree.ensures.uses c.in_ok-tree.ensures.tables c.requires.few c.in_ok-root.ensures.room in
+    let own : HoldsOwn t p =
+    parted t p c.in_ok-root.root.0 r.first.0 r.count c.in_ok-root.ensures.frames c.in_ok-tree.ensures.uses
+    c.in_ok-tree.ensures.tables c.requires.few c.in_ok-root.ensures.room in
     record { own = subst (λ u. HoldsOwn u p) (sym c.new-2.ensures) own }
 
 pub returns-clause-made : goal.returns-clause-made
@@ -24,4 +26,5 @@ returns-clause-made g c x =
     let t = c.in_ok-tree.tree in
     let p = c.in_ok-root.pool in
     let tree = ap tree_of c.new-2.ensures ∙ c.in_ok-tree.ensures.tree ∙ ap (root_tree d) c.in_ok-root.ensures.first in
-    same_parts live c.args.generation c.args.kind (tree_of c.new-2.result.tree) (root_tree d r.first.0) p.frames (rest (frames_in r)) tree (sym (ap rest c.in_ok-root.ensures.frames))
+    same_parts live c.args.generation c.args.kind (tree_of c.new-2.result.tree) (root_tree d r.first.0) p.frames
+    (rest (frames_in r)) tree (sym (ap rest c.in_ok-root.ensures.frames))

@@ -15,5 +15,8 @@ returns-clause-made g c =
     let p = c.args.plan in
     let e = c.commit.ensures in
     let all = (pool_with p b).frames in
-    same_parts (phase_of b.phase) b.generation b.kind (tree_of c.commit.new.self.tree) (tree_after b.map.tree p.change all) c.commit.new.pool.frames (all_given (back_from b.map.tree p.change) (drop (need_for b.map.tree p.change) all))
-    (e.tree ∙ after_in_hand b p p.change c.requires.in_hand) (e.pool ∙ ap (all_given (back_from b.map.tree p.change)) (left_in_hand b p p.change c.requires.in_hand))
+    same_parts (phase_of b.phase) b.generation b.kind (tree_of c.commit.new.self.tree)
+    (tree_after b.map.tree p.change all) c.commit.new.pool.frames
+    (all_given (back_from b.map.tree p.change) (drop (need_for b.map.tree p.change) all))
+    (e.tree ∙ after_in_hand b p p.change c.requires.in_hand)
+    (e.pool ∙ ap (all_given (back_from b.map.tree p.change)) (left_in_hand b p p.change c.requires.in_hand))

@@ -7,4 +7,5 @@ use Rattle.guest_component.proofs.body.Body.tables.Goals as goal
 pub returns-clause-value : goal.returns-clause-value
 returns-clause-value g c l e =
     let t = c.args.self.now.map.tree in
-    c.tables.ensures.value ∙ ap tables_of c.tree.ensures ∙ sym (tables_counted t) ∙ sym (ap (λ (d : ℕ). count_blocks (d + 1) (d + 1) (λ b. is_some ((tree_of t).table b))) e)
+    c.tables.ensures.value ∙ ap tables_of c.tree.ensures ∙ sym (tables_counted t)
+    ∙ sym (ap (λ (d : ℕ). count_blocks (d + 1) (d + 1) (λ b. is_some ((tree_of t).table b))) e)

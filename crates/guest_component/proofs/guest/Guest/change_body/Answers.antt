@@ -15,10 +15,15 @@ change-requires-clause-part g c =
     let part = c.args.changes.now.part in
     let there : s.body ≡ Some b = sym c.as_mut.ensures.value ∙ ap (option_map (λ x. x.now)) c.unwrap.ensures in
     let alike : b.map.tree.geometry ≡ s.geometry = subst (IsOfGeometry s.geometry) there s.alike in
-    let fits : PartFits (guest_depth s) (map_with (Some c.in-Some.plan) (Some b)) part = subst (λ o. PartFits (guest_depth s) (map_with (Some c.in-Some.plan) o) part) there (subst (λ p. PartFits (guest_depth s) (map_with p s.body) part) c.in-Some.is c.requires.fits.part) in
-    can_take b.map.tree (pool_with c.in-Some.plan b) (phase_of b.phase) b.generation b.kind (guest_depth s) part (sym (ap levels_below alike)) fits
+    let fits : PartFits (guest_depth s) (map_with (Some c.in-Some.plan) (Some b)) part =
+    subst (λ o. PartFits (guest_depth s) (map_with (Some c.in-Some.plan) o) part) there
+    (subst (λ p. PartFits (guest_depth s) (map_with p s.body) part) c.in-Some.is c.requires.fits.part) in
+    can_take b.map.tree (pool_with c.in-Some.plan b) (phase_of b.phase) b.generation b.kind (guest_depth s) part
+    (sym (ap levels_below alike)) fits
 
 pub returns-in_default-clause-made : goal.returns-in_default-clause-made
 returns-in_default-clause-made g c =
     let s = c.args.self.now in
-    none_planned (guest_depth s) c.args.changes.now s.body c.args.plan c.in_default.is c.requires.in_hand c.requires.stays c.requires.fits
+    none_planned
+    (guest_depth s) c.args.changes.now s.body c.args.plan c.in_default.is c.requires.in_hand c.requires.stays
+    c.requires.fits

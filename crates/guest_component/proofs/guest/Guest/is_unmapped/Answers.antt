@@ -7,7 +7,8 @@ use Rattle.guest_component.proofs.guest.Guest.is_unmapped.Goals as goal
 pub returns-in-None : goal.returns-in-None
 returns-in-None g c =
     let s = c.args.self.now in
-    none_mapped (pages_below (guest_depth s)) (guest_of s).tree.map (λ p. ap (λ o. (guest_in o).tree.map p) c.in-None.is)
+    none_mapped (pages_below (guest_depth s)) (guest_of s).tree.map
+    (λ p. ap (λ o. (guest_in o).tree.map p) c.in-None.is)
 
 pub returns-in-Some : goal.returns-in-Some
 returns-in-Some g c = search rules

@@ -62,4 +62,7 @@ returns-else-count-rest-clause-value t c =
     let r = c.in-Some.region in
     let h = region_holds c.args.self.now a c.args.page r at in
     let m : is_memory_kind r.kind ≡ true = ap is_memory_kind c.in-Memory.is in
-    c.are_memory.ensures.value ∙ memory_past c.args.self.now a c.args.page r at m c.args.count (r.pages.count - (c.args.page - r.pages.first.0)) (omega (arith, h)) (omega (arith, h, c.if-count-rest.false))
+    c.are_memory.ensures.value
+    ∙ memory_past c.args.self.now a c.args.page r at m c.args.count
+    (r.pages.count - (c.args.page - r.pages.first.0)) (omega (arith, h))
+    (omega (arith, h, c.if-count-rest.false))

@@ -14,7 +14,23 @@ returns-clause-made g c =
     let is = c.in_ok-plan.ensures.planned in
     let depth = c.reserve.ensures.rest.depth in
     record {
-      made = c.commit.ensures.made ∙ ap (λ d. shared_after d (planned p) (shared_with p r)) depth ∙ after_planned (depth_of s) h p (shared_with p r) is.both ∙ ap (shared_after (depth_of s) h) is.whole;
-      host_spares = omega (arith, c.commit.ensures.host_spares, is.host_spares, ap length (host_back s r p h depth is.both is.whole), c.need-need.ensures.host);
-      hyp_spares = omega (arith, c.commit.ensures.hyp_spares, is.hyp_spares, ap length (hyp_back s r p h depth is.both is.whole), c.need-need.ensures.hyp);
+      made =
+          c.commit.ensures.made ∙ ap (λ d. shared_after d (planned p) (shared_with p r)) depth
+          ∙ after_planned (depth_of s) h p (shared_with p r) is.both ∙ ap (shared_after (depth_of s) h) is.whole;
+      host_spares =
+          omega (
+            arith,
+            c.commit.ensures.host_spares,
+            is.host_spares,
+            ap length (host_back s r p h depth is.both is.whole),
+            c.need-need.ensures.host,
+          );
+      hyp_spares =
+          omega (
+            arith,
+            c.commit.ensures.hyp_spares,
+            is.hyp_spares,
+            ap length (hyp_back s r p h depth is.both is.whole),
+            c.need-need.ensures.hyp,
+          );
     }

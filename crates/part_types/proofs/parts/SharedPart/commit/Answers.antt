@@ -17,7 +17,14 @@ commit-requires-clause-apart g c =
     let b = frames_of c.args.plan.hyp.spare.stock in
     record {
       distinct = λ f. omega (arith, c.requires.planned.apart.0 f, counted f a b, counted f (a ++ b) s.pool.frames);
-      covered = omega (arith, c.requires.planned.apart.1, length-append a b, length-append (a ++ b) s.pool.frames, tree_some s.hyp.tree);
+      covered =
+          omega (
+            arith,
+            c.requires.planned.apart.1,
+            length-append a b,
+            length-append (a ++ b) s.pool.frames,
+            tree_some s.hyp.tree,
+          );
     }
 
 pub commit-requires-2-clause-apart : goal.commit-requires-2-clause-apart
@@ -27,8 +34,19 @@ commit-requires-2-clause-apart g c =
     let b = frames_of c.args.plan.hyp.spare.stock in
     let kept = c.commit.ensures.keeps in
     record {
-      distinct = λ f. omega (arith, c.requires.planned.apart.0 f, counted f a b, counted f (a ++ b) s.pool.frames, kept.frames f);
-      covered = omega (arith, c.requires.planned.apart.1, length-append a b, length-append (a ++ b) s.pool.frames, tree_some c.commit.new.self.tree, kept.tables, kept.room);
+      distinct =
+          λ f. omega
+          (arith, c.requires.planned.apart.0 f, counted f a b, counted f (a ++ b) s.pool.frames, kept.frames f);
+      covered =
+          omega (
+            arith,
+            c.requires.planned.apart.1,
+            length-append a b,
+            length-append (a ++ b) s.pool.frames,
+            tree_some c.commit.new.self.tree,
+            kept.tables,
+            kept.room,
+          );
     }
 
 pub returns-clause-made : goal.returns-clause-made
@@ -38,5 +56,8 @@ returns-clause-made g c =
     let is = c.requires.planned in
     let fs = back_from s.host.tree p.host.change in
     let gs = back_from s.hyp.tree p.hyp.change in
-    changed s (in_hand p ++ s.pool.frames) (planned p) c.commit.new.self.tree c.commit-2.new.self.tree c.commit-2.new.pool.frames (c.commit.ensures.tree ∙ host_after s p is) (c.commit-2.ensures.tree ∙ hyp_after s p is)
-    (c.commit-2.ensures.pool ∙ ap (all_given gs) c.commit.ensures.pool ∙ given_both given_counted given_append fs gs s.pool.frames ∙ ap (all_given (fs ++ gs)) (left_after s p is))
+    changed s (in_hand p ++ s.pool.frames)
+    (planned p) c.commit.new.self.tree c.commit-2.new.self.tree c.commit-2.new.pool.frames
+    (c.commit.ensures.tree ∙ host_after s p is) (c.commit-2.ensures.tree ∙ hyp_after s p is)
+    (c.commit-2.ensures.pool ∙ ap (all_given gs) c.commit.ensures.pool
+    ∙ given_both given_counted given_append fs gs s.pool.frames ∙ ap (all_given (fs ++ gs)) (left_after s p is))

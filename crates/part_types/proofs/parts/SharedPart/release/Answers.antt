@@ -25,7 +25,15 @@ release-requires-2-clause-covered g c =
     let a = frames_of c.args.plan.host.spare.stock in
     let b = frames_of c.args.plan.hyp.spare.stock in
     let e = ap length c.release.ensures.given.frames in
-    omega (arith, e, all_given_length b q, length-append a b, length-append (a ++ b) q, c.requires.pool.covered, c.release.ensures.given.room)
+    omega (
+      arith,
+      e,
+      all_given_length b q,
+      length-append a b,
+      length-append (a ++ b) q,
+      c.requires.pool.covered,
+      c.release.ensures.given.room,
+    )
 
 pub invariant_of-self : goal.invariant_of-self
 invariant_of-self g c =
@@ -35,8 +43,16 @@ invariant_of-self g c =
     let b = frames_of p.hyp.spare.stock in
     let e = c.release.ensures.given in
     let h = c.release-2.ensures.given in
-    let all : c.release-2.new.pool ≡ pool_with p s = same_pool c.release-2.new.pool (pool_with p s) (h.frames ∙ ap (all_given a) e.frames ∙ comes_back a b s.pool.frames s.pool.room c.requires.pool) (h.room ∙ e.room) in
-    record { apart = apart_same s.host.tree s.hyp.tree c.release-2.new.self.tree c.release.new.self.tree (pool_with p s) c.release-2.new.pool h.stays.geometry h.stays.table e.stays.geometry e.stays.table all c.requires.apart; alike = search (rules) }
+    let all : c.release-2.new.pool ≡ pool_with p s =
+    same_pool c.release-2.new.pool (pool_with p s)
+    (h.frames ∙ ap (all_given a) e.frames ∙ comes_back a b s.pool.frames s.pool.room c.requires.pool)
+    (h.room ∙ e.room) in
+    record {
+      apart = apart_same s.host.tree s.hyp.tree c.release-2.new.self.tree c.release.new.self.tree
+          (pool_with p s) c.release-2.new.pool h.stays.geometry h.stays.table e.stays.geometry e.stays.table
+          all c.requires.apart;
+      alike = search (rules);
+    }
 
 pub returns-clause-same : goal.returns-clause-same
 returns-clause-same g c =
@@ -46,6 +62,9 @@ returns-clause-same g c =
     let b = frames_of p.hyp.spare.stock in
     let e = c.release.ensures.given in
     let h = c.release-2.ensures.given in
-    ap (λ x. shared (row_of s) x (tree_of c.release.new.self.tree) c.release-2.new.pool.frames) (same_tree c.release-2.new.self.tree s.host.tree h.stays.geometry h.stays.table)
-    ∙ ap (λ x. shared (row_of s) (tree_of s.host.tree) x c.release-2.new.pool.frames) (same_tree c.release.new.self.tree s.hyp.tree e.stays.geometry e.stays.table)
-    ∙ ap (shared (row_of s) (tree_of s.host.tree) (tree_of s.hyp.tree)) (h.frames ∙ ap (all_given a) e.frames ∙ comes_back a b s.pool.frames s.pool.room c.requires.pool)
+    ap (λ x. shared (row_of s) x (tree_of c.release.new.self.tree) c.release-2.new.pool.frames)
+    (same_tree c.release-2.new.self.tree s.host.tree h.stays.geometry h.stays.table)
+    ∙ ap (λ x. shared (row_of s) (tree_of s.host.tree) x c.release-2.new.pool.frames)
+    (same_tree c.release.new.self.tree s.hyp.tree e.stays.geometry e.stays.table)
+    ∙ ap (shared (row_of s) (tree_of s.host.tree) (tree_of s.hyp.tree))
+    (h.frames ∙ ap (all_given a) e.frames ∙ comes_back a b s.pool.frames s.pool.room c.requires.pool)

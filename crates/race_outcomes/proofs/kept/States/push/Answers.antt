@@ -11,4 +11,6 @@ returns-clause-layouts c =
     let g = c.in_ok-again.again in
     let old = c.args.self.now.states.items in
     let more = c.in_ok-push.ensures.items ∙ ap (λ (v : Vec GhostLists Global). v.items ++ g ∷ []) c.add_place.ensures in
-    subst (AreOfLayout l) (sym more) (All-push (λ (x : GhostLists). layout_of x.layout ≡ l) old g c.requires (ap (λ (x : GhostLists). layout_of x.layout) (c.in_ok-again.ensures ∙ c.in_ok-state.ensures)))
+    subst (AreOfLayout l) (sym more)
+    (All-push (λ (x : GhostLists). layout_of x.layout ≡ l) old g c.requires
+    (ap (λ (x : GhostLists). layout_of x.layout) (c.in_ok-again.ensures ∙ c.in_ok-state.ensures)))

@@ -9,5 +9,6 @@ returns-clause-places c =
     let key = c.args.key in
     let place = c.args.place in
     let more : c.push.new.self.items ≡ get_or (map items old) key [] ++ place ∷ [] =
-    c.in_ok-push.ensures.items ∙ ap (λ (v : Vec ℕ Global). v.items ++ place ∷ []) c.index_mut.ensures.value ∙ ap (λ (xs : List ℕ). xs ++ place ∷ []) (sym (get_or-map items old key _ [] c.requires)) in
+    c.in_ok-push.ensures.items ∙ ap (λ (v : Vec ℕ Global). v.items ++ place ∷ []) c.index_mut.ensures.value
+    ∙ ap (λ (xs : List ℕ). xs ++ place ∷ []) (sym (get_or-map items old key _ [] c.requires)) in
     map-set items old key c.push.new.self ∙ ap (set (map items old) key) more

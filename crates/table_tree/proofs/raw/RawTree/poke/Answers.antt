@@ -9,7 +9,9 @@ not_there None h = (λ e. e, λ e. e)
 not_there (Some x) h = absurd (false≢true (sym h))
 
 pub returns-then-is_none-clause-fault : goal.returns-then-is_none-clause-fault
-returns-then-is_none-clause-fault g c = subst (λ o. (false ≡ true) ↔ IsSome o) c.word_at.ensures (not_there c.word_at.result (c.is_none.ensures ∙ ap not c.if-is_none.true))
+returns-then-is_none-clause-fault g c =
+    subst (λ o. (false ≡ true) ↔ IsSome o) c.word_at.ensures
+    (not_there c.word_at.result (c.is_none.ensures ∙ ap not c.if-is_none.true))
 
 pub returns-then-is_none-clause-kept : goal.returns-then-is_none-clause-kept
 returns-then-is_none-clause-kept g c = refl

@@ -17,6 +17,9 @@ returns-clause-poked g c = c.poke_in.ensures.words
 pub returns-clause-map : goal.returns-clause-map
 unfolding raw_word_of raw_meaning map_of map_under
 returns-clause-map g c =
-    let good = there_good (levels_below c.args.self.now.geometry) c.args.self.now.table c.args.path.now c.args.self.now.raw c.requires.there in
+    let good =
+    there_good
+    (levels_below c.args.self.now.geometry) c.args.self.now.table c.args.path.now c.args.self.now.raw
+    c.requires.there in
     let h = rw c.depth-depth.ensures.value at c.poke_in.ensures in
     poked_map c.args.self.now.geometry c.args.self.now.table c.poke_in.new.table c.args.path.now c.args.word good h

@@ -8,7 +8,8 @@ use Rattle.table_tree.proofs.Tight.{new_table}
 use Rattle.table_tree.proofs.table.Table.new.Goals as goal
 
 made : (g : _) (c : goal.After-loop g) → c.loop.slots.items ≡ replicate 512 (Word 0)
-made g c = let e : c.loop.counter ≡ 512 = omega (arith, c.loop-test.false, c.loop.auto.counter-end) in rw e at c.loop.invariant
+made g c = let e : c.loop.counter ≡ 512 = omega (arith, c.loop-test.false, c.loop.auto.counter-end) in
+    rw e at c.loop.invariant
 
 pub returns-clause-wide : goal.returns-clause-wide
 returns-clause-wide g c = rw (made g c) (length-replicate {A = Slot g.row.A.Denot} 512 (Word 0))

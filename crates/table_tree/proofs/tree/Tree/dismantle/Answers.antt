@@ -24,7 +24,11 @@ returns-in-Ok-clause-len g c =
 pub returns-in-Ok-clause-frames : goal.returns-in-Ok-clause-frames
 returns-in-Ok-clause-frames g c =
     let x = rw c.depth.ensures.value at c.in-Ok.ensures.frames in
-    x ∙ ap (λ fs. map (λ (f : Frame). f.0) fs ++ all_frames_in (levels_below c.args.self.geometry) c.args.self.table) c.new-frames.ensures.items ∙ sym (tree_frames c.args.self)
+    x
+    ∙ ap
+    (λ fs. map (λ (f : Frame). f.0) fs
+    ++ all_frames_in (levels_below c.args.self.geometry) c.args.self.table) c.new-frames.ensures.items
+    ∙ sym (tree_frames c.args.self)
 
 pub returns-in-Ok-clause-root : goal.returns-in-Ok-clause-root
 returns-in-Ok-clause-root g c = rw (returns-in-Ok-clause-frames g c) (root_first c.args.self)

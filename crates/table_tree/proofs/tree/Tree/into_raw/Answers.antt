@@ -8,7 +8,8 @@ use Rattle.table_tree.proofs.tree.Tree.into_raw.Goals as goal
 use Rattle.table_tree.specs.Roots.{map_under}
 
 pub invariant_of-result : goal.invariant_of-result
-invariant_of-result g c = record { raw = shaped_raw (levels_below c.args.self.geometry) c.args.self.table c.args.self.shaped }
+invariant_of-result g c =
+    record { raw = shaped_raw (levels_below c.args.self.geometry) c.args.self.table c.args.self.shaped }
 
 pub returns-clause-map : goal.returns-clause-map
 unfolding raw_meaning meaning map_under

@@ -4,7 +4,8 @@ use Rattle.table_tree.proofs.Said.{word_where, word_which, word_run}
 use Rattle.table_tree.proofs.tree.Tree.word_at.Goals as goal
 
 pub word_in-requires-clause-raw : goal.word_in-requires-clause-raw
-word_in-requires-clause-raw g c = shaped_raw c.depth.result c.args.self.now.table (rw c.depth.ensures.value c.args.self.now.shaped)
+word_in-requires-clause-raw g c =
+    shaped_raw c.depth.result c.args.self.now.table (rw c.depth.ensures.value c.args.self.now.shaped)
 
 pub returns-clause-value : goal.returns-clause-value
 unfolding word_of

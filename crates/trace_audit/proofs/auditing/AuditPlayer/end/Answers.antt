@@ -9,5 +9,15 @@ pub returns-clause-front : goal.returns-clause-front
 returns-clause-front g c =
     let lines = audited_lines c.in-Ok.found in
     when_err c.tell_found.result _ _
-    (λ front. inr (_, outcome_of (length lines), (c.in-Ok.found, c.in-Ok.ensures.found, ap (λ steps. lines ++ report.End steps (length lines) ∷ []) c.steps.ensures, refl), front))
+    (λ front. inr (
+      _,
+      outcome_of (length lines),
+      (
+        c.in-Ok.found,
+        c.in-Ok.ensures.found,
+        ap (λ steps. lines ++ report.End steps (length lines) ∷ []) c.steps.ensures,
+        refl,
+      ),
+      front,
+    ))
     c.tell_found.ensures.front

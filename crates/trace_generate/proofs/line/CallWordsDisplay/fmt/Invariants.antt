@@ -7,4 +7,5 @@ use Rattle.trace_generate.proofs.line.CallWordsDisplay.fmt.Given as goal
 abbrev pub invariant-loop-form : goal.invariant-loop-form
 invariant-loop-form g l =
     IsPlainFormatter l.initial.f
-    → HasWritten g.W.Write.write_str_gives l.initial.f (text_of_arguments (take l.form-index l.form-items) l.named.arguments) l.f
+    → HasWritten g.W.Write.write_str_gives l.initial.f
+    (text_of_arguments (take l.form-index l.form-items) l.named.arguments) l.f

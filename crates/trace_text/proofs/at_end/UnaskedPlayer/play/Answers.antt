@@ -5,5 +5,12 @@ use Rattle.trace_text.proofs.at_end.UnaskedPlayer.play.Goals as goal
 pub returns-clause-front : goal.returns-clause-front
 returns-clause-front g c =
     when_err c.tell_answer.result _ _
-    (λ front. record { answer = answer_of c.run_unasked-ran.new.self c.run_unasked-ran.result; after = record c.args.self.now { session = c.run_unasked-ran.new.self }; runs = c.run_unasked-ran.ensures.done; writes = front })
+    (λ front. record {
+      answer = answer_of c.run_unasked-ran.new.self c.run_unasked-ran.result;
+      after =
+          record c.args.self.now { session = c.run_unasked-ran.new.self };
+      runs =
+          c.run_unasked-ran.ensures.done;
+      writes = front;
+    })
     c.tell_answer.ensures.front

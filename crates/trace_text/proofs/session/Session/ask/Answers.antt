@@ -14,6 +14,10 @@ returns-in-Show g c =
     let w = c.in-Some.world.now in
     let there : s.world ≡ Some w = search rules in
     let has : HasMaplets (tree_told (machine_of w) c.in-Show.tree) (kept_runs s c.in-Show.tree)
-    = subst (λ o. HasMaplets (tree_told (machine_of w) c.in-Show.tree) (runs_in o c.in-Show.tree)) (sym there) (has_maplets w c.in-Show.tree) in
+    = subst (λ o. HasMaplets (tree_told (machine_of w) c.in-Show.tree) (runs_in o c.in-Show.tree)) (sym there)
+    (has_maplets w c.in-Show.tree) in
     on_machine (Answers c.args.query) (standing_of s) s.world w _ _ refl there
-    (subst (λ query. Answers query (machine_of w) (standing_of s) (Ok (map report.Response (map responses.Run (kept_runs s c.in-Show.tree)))) (standing_of s)) (sym c.in-Show.is) (kept_runs s c.in-Show.tree, has, refl, refl))
+    (subst
+    (λ query. Answers query (machine_of w) (standing_of s)
+    (Ok (map report.Response (map responses.Run (kept_runs s c.in-Show.tree)))) (standing_of s))
+    (sym c.in-Show.is) (kept_runs s c.in-Show.tree, has, refl, refl))

@@ -12,7 +12,8 @@ returns-clause-done g c =
     let old = standing_of c.args.self.now in
     let before = c.in-Some.world.now in
     let after = c.step-told.new.self in
-    on_machine (MakesStep agreed c.args.number c.args.cpu c.args.step) _ c.args.self.now.world before _ _ refl (search rules) (
+    on_machine (MakesStep agreed c.args.number c.args.cpu c.args.step) _ c.args.self.now.world before _ _ refl
+    (search rules) (
       λ over. absurd (omega arith),
       λ in_range. inr (record {
         call = call_of before.parts c.args.cpu c.args.step c.step-told.result;
@@ -24,7 +25,17 @@ returns-clause-done g c =
         given = record { judged = refl; audited = refl };
         lines = refl;
         standing =
-            ap (λ l. record old { machine = Some (record { layout = l; state = state_of after.parts }); steps = old.steps + 1 }) c.step-told.ensures.step.layout
-            ∙ ap (λ n. record old { machine = Some (record { layout = (parts_layout before.parts); state = state_of after.parts }); steps = old.steps + 1; disagreements = n }) (let same : old.disagreements ≡ old.disagreements + 0 = omega arith in same);
+            ap
+            (λ l. record old {
+              machine = Some (record { layout = l; state = state_of after.parts });
+              steps = old.steps + 1;
+            }) c.step-told.ensures.step.layout
+            ∙ ap
+            (λ n. record old {
+              machine = Some (record { layout = (parts_layout before.parts); state = state_of after.parts });
+              steps = old.steps + 1;
+              disagreements = n;
+            })
+            (let same : old.disagreements ≡ old.disagreements + 0 = omega arith in same);
       }),
     )

@@ -12,7 +12,9 @@ returns-clause-done g c =
     let old = standing_of c.args.self.now in
     let before = c.in-Some.world.now in
     let after = c.checked.new.world in
-    on_machine (MakesStep g.O.Oracle.gives c.args.number c.args.cpu c.args.step) _ c.args.self.now.world before _ _ refl (search rules) (
+    on_machine
+    (MakesStep g.O.Oracle.gives c.args.number c.args.cpu c.args.step) _ c.args.self.now.world before _ _ refl
+    (search rules) (
       λ over. absurd (omega arith),
       λ in_range. inr (record {
         call = call_of before.parts c.args.cpu c.args.step c.in-Ok.made.reply;
@@ -24,8 +26,18 @@ returns-clause-done g c =
         given = c.in-Ok.ensures.given;
         lines = refl;
         standing =
-            ap (λ l. record old { machine = Some (record { layout = l; state = state_of after.parts }); steps = old.steps + 1; disagreements = old.disagreements + c.count.result }) c.in-Ok.ensures.step.layout
-            ∙ ap (λ n. record old { machine = Some (record { layout = (parts_layout before.parts); state = state_of after.parts }); steps = old.steps + 1; disagreements = old.disagreements + n }) c.count.ensures.count;
+            ap
+            (λ l. record old {
+              machine = Some (record { layout = l; state = state_of after.parts });
+              steps = old.steps + 1;
+              disagreements = old.disagreements + c.count.result;
+            }) c.in-Ok.ensures.step.layout
+            ∙ ap
+            (λ n. record old {
+              machine = Some (record { layout = (parts_layout before.parts); state = state_of after.parts });
+              steps = old.steps + 1;
+              disagreements = old.disagreements + n;
+            }) c.count.ensures.count;
       }),
     )
 
@@ -37,10 +49,14 @@ checked-requires-clause-cpu g c = omega arith
 
 pub returns-clause-ready : goal.returns-clause-ready
 returns-clause-ready g c = record {
-  remembered = subst (λ state. IfSome state (IsStateAt c.checked.new.world)) (sym c.replace.ensures.after) c.in-Ok.ensures.after;
+  remembered =
+      subst (λ state. IfSome state (IsStateAt c.checked.new.world)) (sym c.replace.ensures.after) c.in-Ok.ensures.after;
   few = omega (arith, c.requires.ready.few, c.count.ensures.few);
 }
 
 pub returns-in_default-checked-clause-done : goal.returns-in_default-checked-clause-done
 returns-in_default-checked-clause-done g c =
-    on_machine (MakesStep g.O.Oracle.gives c.args.number c.args.cpu c.args.step) _ c.args.self.now.world c.in-Some.world.now _ _ refl (search rules) (λ over. absurd (omega arith), λ in_range. inl refl)
+    on_machine
+    (MakesStep g.O.Oracle.gives c.args.number c.args.cpu c.args.step) _ c.args.self.now.world c.in-Some.world.now _
+    _ refl
+    (search rules) (λ over. absurd (omega arith), λ in_range. inl refl)

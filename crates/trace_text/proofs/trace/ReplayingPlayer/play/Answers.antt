@@ -5,5 +5,11 @@ use Rattle.trace_text.proofs.trace.ReplayingPlayer.play.Goals as goal
 pub returns-clause-front : goal.returns-clause-front
 returns-clause-front g c =
     when_err c.tell_answer.result _ _
-    (λ front. record { answer = answer_of c.run-ran.new.self c.run-ran.result; after = record c.args.self.now { session = c.run-ran.new.self }; runs = c.run-ran.ensures.done; writes = front })
+    (λ front. record {
+      answer = answer_of c.run-ran.new.self c.run-ran.result;
+      after =
+          record c.args.self.now { session = c.run-ran.new.self };
+      runs = c.run-ran.ensures.done;
+      writes = front;
+    })
     c.tell_answer.ensures.front

@@ -8,10 +8,14 @@ use Rattle.trace_words.proofs.words.Words.get.Goals as goal
 pub returns-else-place-kept : goal.returns-else-place-kept
 returns-else-place-kept c =
     subst (λ words. option_copied c.nth.result ≡ slice_get words c.args.place) c.self.view_is
-    (nth_from_yields_List _ _ c.args.place c.nth.ensures.ran (YieldsList-from_slice_split _ _ c.self.inside.line.now c.split.ensures.rest c.split.ensures.done c.split.ensures.closure (λ x r q k. search (rules, tests))))
+    (nth_from_yields_List _ _ c.args.place c.nth.ensures.ran
+    (YieldsList-from_slice_split _ _ c.self.inside.line.now c.split.ensures.rest c.split.ensures.done
+    c.split.ensures.closure
+    (λ x r q k. search (rules, tests))))
 
 pub returns-then-place-kept : goal.returns-then-place-kept
 returns-then-place-kept c =
     let is = c.as_slice-kept.ensures.value in
-    kept_word (λ word. word.now) _ _ 8 (ap (map (λ word. word.now)) is ∙ c.self.invariant.first) c.args.place _ c.if-place-kept.true
+    kept_word (λ word. word.now) _ _ 8
+    (ap (map (λ word. word.now)) is ∙ c.self.invariant.first) c.args.place _ c.if-place-kept.true
     ∙ ap (λ words. slice_get words c.args.place) c.self.view_is

@@ -11,7 +11,8 @@ starts (suc (suc (suc zero))) i p q = omega arith
 starts (suc (suc (suc (suc d)))) i p q = absurd (omega arith)
 
 pub advance-requires : goal.advance-requires
-advance-requires c = let x = starts c.args.depth c.args.i c.requires.depth_in c.requires.within in can_advance c.args.self.entry _ c.requires.entry (omega (arith, x))
+advance-requires c = let x = starts c.args.depth c.args.i c.requires.depth_in c.requires.within in
+    can_advance c.args.self.entry _ c.requires.entry (omega (arith, x))
 
 pub returns : goal.returns
 returns c = search rules

@@ -13,4 +13,8 @@ all_of t p ps is of j q e = ⊎_elim
     (get_end [] p q j (ap (λ l. slice_get l j) (sym is) ∙ e))
 
 pub shutdown-ended-requires : goal.shutdown-ended-requires
-shutdown-ended-requires g c = record { pass = all_of c.args.machine.table c.args.one c.list_of-given.result.items c.list_of-given.ensures c.requires }
+shutdown-ended-requires g c =
+    record {
+      pass = all_of c.args.machine.table c.args.one c.list_of-given.result.items c.list_of-given.ensures
+          c.requires;
+    }

@@ -14,7 +14,8 @@ pub for_each_mut-requires-sync-F : goal.for_each_mut-requires-sync-F
 for_each_mut-requires-sync-F g c κs within = search (sendable, crosses, machine_sync) depth 40 fits 4000
 
 pub for_each_mut-requires-clause-accepts : goal.for_each_mut-requires-clause-accepts
-for_each_mut-requires-clause-accepts g c κs within i p lt e = c.requires i p.now (get_of_or c.args.passes.now i p.now lt e)
+for_each_mut-requires-clause-accepts g c κs within i p lt e =
+    c.requires i p.now (get_of_or c.args.passes.now i p.now lt e)
 
 pub returns : goal.returns
 returns g c j p e =

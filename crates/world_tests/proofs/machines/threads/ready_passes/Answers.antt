@@ -9,6 +9,8 @@ loop-cpu-preserved g c =
       same ∙ c.loop-cpu.invariant.0,
       λ j p e. ⊎_elim
           (λ was. subst (λ t. IsPassOf t p) (sym same) (c.loop-cpu.invariant.1 j p was))
-          (λ (t : (j ≡ length c.loop-cpu.passes.items) × (c.expect_init.new.pass ≡ p)). subst (IsPassOf c.pass.new.self.table) t.1 c.expect_init.ensures)
-          (get_end c.loop-cpu.passes.items c.expect_init.new.pass p j (ap (λ l. slice_get l j) (sym c.in_ok-push.ensures.items) ∙ e)),
+          (λ (t : (j ≡ length c.loop-cpu.passes.items) × (c.expect_init.new.pass ≡ p)). subst
+          (IsPassOf c.pass.new.self.table) t.1 c.expect_init.ensures)
+          (get_end c.loop-cpu.passes.items c.expect_init.new.pass p j
+          (ap (λ l. slice_get l j) (sym c.in_ok-push.ensures.items) ∙ e)),
     )

@@ -9,4 +9,5 @@ returns-clause-small c =
     let b = c.look.ensures.below in
     let d = c.look-high-3.ensures.below in
     let on = rw c.runs-2.ensures.runs at c.look-high-2.ensures.goes_on in
-    small-piece c.args.self.now.lent.runs c.args.low high c.requires.reach.lent a (on (high - 1) (omega (arith, a)) (omega (arith, a, b, d)))
+    small-piece c.args.self.now.lent.runs c.args.low high c.requires.reach.lent a
+    (on (high - 1) (omega (arith, a)) (omega (arith, a, b, d)))

@@ -12,7 +12,8 @@ invariant-loop-worker g l =
       next : (goal.iterator-loop-worker g).can_next l.worker-iterator;
       finite : (goal.iterator-loop-worker g).is_finite l.worker-iterator;
       rest : All (IsReady l.machine.table l.steps) (into_iter_items l.worker-iterator);
-      threads : map (λ h. h.promise.pass.value) l.threads.items ++ map (λ w. w.pass) (into_iter_items l.worker-iterator) ≡ map (λ w. w.pass) (into_iter_items l.initial.worker-iterator);
+      threads : map (λ h. h.promise.pass.value) l.threads.items ++ map (λ w. w.pass) (into_iter_items l.worker-iterator)
+          ≡ map (λ w. w.pass) (into_iter_items l.initial.worker-iterator);
       theirs : All (IsTheirs l.machine.table l.steps) l.threads.items;
       none : l.all.items ≡ l.initial.all.items;
     }
@@ -22,5 +23,7 @@ invariant-loop-thread g l =
     record {
       next : (goal.iterator-loop-thread g).can_next l.thread-iterator;
       finite : (goal.iterator-loop-thread g).is_finite l.thread-iterator;
-      joins : (t : Opened) (steps : List Asked) → All (IsTheirs t steps) (into_iter_items l.initial.thread-iterator) → Joins t steps (into_iter_items l.initial.thread-iterator) (into_iter_items l.thread-iterator) l.all.items;
+      joins : (t : Opened) (steps : List Asked)
+          → All (IsTheirs t steps) (into_iter_items l.initial.thread-iterator)
+          → Joins t steps (into_iter_items l.initial.thread-iterator) (into_iter_items l.thread-iterator) l.all.items;
     }
