@@ -11,11 +11,12 @@ use Rattle.descriptor.specs.declared.Prot.{Prot}
 use Rattle.page_state.specs.Texts.{text_of_prot}
 use Rattle.call_table.specs.declared.step.VmKind.{VmKind}
 
--- a step is what its call makes of its arguments
+-- the call and the arguments of a step make that step again
 abbrev pub StepsAreMade : Type 0
 StepsAreMade = (step : Step) → step_by (named_by step).call (named_by step).arguments ≡ step
 
--- and what a call makes of arguments is a step of that call with those that it has
+-- the step that a call makes has that call and its arguments; those that the call doesn't take are
+-- blank
 abbrev pub CallsAreNamed : Type 0
 CallsAreNamed =
     (call : CallName) (a : Arguments)
@@ -29,7 +30,7 @@ RowsDiffer =
     × numbered (row call).number ≡ Some call
     × length (row call).forms ≤ 4
 
--- the word of a kind of VMs is read as that kind, and that of rights as those
+-- the word for a kind of VMs parses as that kind, and the word for rights as those rights
 abbrev pub WordsAreRead : Type 0
 WordsAreRead =
     ((kind : VmKind) → vm_kind_named (text_of_vm_kind kind) ≡ Some kind)

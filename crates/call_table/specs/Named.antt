@@ -10,7 +10,7 @@ use Rattle.call_table.specs.declared.step.Step.TheVariants.{ShareHyp, UnshareHyp
 use Rattle.call_table.specs.declared.step.VmKind.TheVariants.{Protected}
 use Rattle.call_table.specs.declared.table.NamedCall.{NamedCall}
 
--- the arguments of a call without any
+-- the arguments of a call that takes none
 abbrev pub blank : Arguments
 blank =
     record {
@@ -79,7 +79,7 @@ named_by VcpuPut = record { call = names.VcpuPut; arguments = blank }
 named_by (Teardown vm) = record { call = names.Teardown; arguments = record blank { vm = vm } }
 named_by VmRelease = record { call = names.VmRelease; arguments = blank }
 
--- arguments of which that of one form is another's
+-- `to`, with the argument of this form taken from `from`
 abbrev pub taken : Form → Arguments → Arguments → Arguments
 taken Frame from to = record to { frame = from.frame }
 taken Page from to = record to { page = from.page }
@@ -91,7 +91,7 @@ taken Vm from to = record to { vm = from.vm }
 taken Kind from to = record to { kind = from.kind }
 taken Rights from to = record to { rights = from.rights }
 
--- those of each of these forms are another's
+-- `to`, with the arguments of these forms taken from `from`
 abbrev pub kept : List Form → Arguments → Arguments → Arguments
 kept [] from to = to
 kept (form ∷ more) from to = kept more from (taken form from to)

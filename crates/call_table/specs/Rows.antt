@@ -6,7 +6,7 @@ use Rattle.call_table.specs.declared.argument.Form.TheVariants.{Frame, Page, Cou
 use Rattle.call_table.specs.declared.row.CallName.{CallName}
 use Rattle.call_table.specs.declared.row.CallName.TheVariants.{ShareHyp, UnshareHyp, DonateHyp, HypDonateHost, HostAbort, HostTranslate, HypTranslate, OwnerOf, Fund, Unfund, ShareGuest, UnshareGuest, DonateGuest, GuestShareHost, GuestUnshareHost, Install, Topup, ReclaimPage, ReclaimPool, FinishGuest, GuestRelax, GuestTranslate, MarkDying, VmReserve, VmOpen, VcpuLoad, VcpuPut, Teardown, VmRelease}
 
--- what the table says of a call
+-- the row of the table for a call
 pub record RowOf : Type 0 where
   pub word : List ℕ
   pub number : ℕ

@@ -2,16 +2,16 @@
 use crate::{VmId, VmKind};
 use page_state::Prot;
 
-/// What an argument of a call is: how it is read and written. A call has each form once at most.
+/// The form of an argument of a call: how traces read and write it. A call has each form at most once.
 #[derive(Clone, Copy)]
 pub enum Form {
     /// A frame of memory.
     Frame,
     /// A page of the host, the hypervisor or a guest.
     Page,
-    /// How many frames from the first on.
+    /// The number of frames from the first on.
     Count,
-    /// The same, as the last argument: 1 where it is missing.
+    /// The number of frames as the last argument: 1 if it is missing.
     LastCount,
     /// A number of vCPUs.
     Vcpus,
@@ -24,7 +24,8 @@ pub enum Form {
     Rights,
 }
 
-/// The arguments of a call, each in the field of its form. What the call doesn't have is as in `Arguments::BLANK`.
+/// The arguments of a call, each in the field of its form. The fields that the call doesn't take are as in
+/// `Arguments::BLANK`.
 #[derive(Clone, Copy)]
 pub struct Arguments {
     pub frame: u64,
@@ -38,7 +39,7 @@ pub struct Arguments {
 }
 
 impl Arguments {
-    /// Those of a call without arguments.
+    /// The arguments of a call that takes none.
     pub const BLANK: Arguments = Arguments {
         frame: 0,
         page: 0,

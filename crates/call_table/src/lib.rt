@@ -1,4 +1,4 @@
-//! Steps, replies and calls: what a CPU asks for, what it is answered, and what logs store of both.
+//! Steps, replies and calls: the request of a CPU, the answer to it, and the record of both in logs.
 #![tactic(auto)]
 
 mod argument;

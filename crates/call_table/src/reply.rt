@@ -2,7 +2,7 @@
 use crate::{Step, VmId};
 use page_state::{Entry, Frame, Row};
 
-/// What a call gives on Ok.
+/// The value of a call that returns Ok.
 #[derive(Clone, Copy, PartialEq)]
 pub enum Value {
     /// No value.
@@ -22,13 +22,13 @@ pub enum Value {
 pub enum Refusal {
     /// (-1) The pages or frames aren't in the state that the call requires.
     Perm,
-    /// (-2) There is no such VM, or the CPU hasn't the vCPU or ticket.
+    /// (-2) There is no such VM, or the CPU lacks the vCPU or the ticket.
     NoVm,
     /// (-11) A part that the call uses was taken.
     Contended,
     /// (-12) A growth was refused.
     NoMemory,
-    /// (-16) What the call needs is in use.
+    /// (-16) A slot, vCPU or ticket that the call needs is in use.
     Busy,
     /// (-22) An argument is out of its range.
     Invalid,

@@ -4,7 +4,7 @@ use page_state::Prot;
 /// A slot of the VM part and its generation.
 #[derive(Clone, Copy, PartialEq)]
 pub struct VmId {
-    /// The slot, below 64 where there is such a VM.
+    /// The slot: below 64 if there is such a VM.
     pub slot: u64,
     /// The slot's generation, 1 at boot, one more each time the slot is released.
     pub generation: u64,
@@ -40,7 +40,7 @@ pub enum Step {
         pfn: u64,
         n: u64,
     },
-    /// The host touched `page`, and gets it mapped where it may.
+    /// The host touched `page`, and gets it mapped if it may have it.
     HostAbort {
         page: u64,
     },

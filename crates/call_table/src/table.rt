@@ -12,7 +12,7 @@ pub struct NamedCall {
     pub arguments: Arguments,
 }
 
-/// The step that a call makes of arguments. Those that it doesn't have are left out.
+/// The step that a call makes of its arguments. It ignores the fields that the call doesn't take.
 pub fn step_of(call: CallName, arguments: Arguments) -> Step
     ensures { result ≡ step_by call arguments }
 {

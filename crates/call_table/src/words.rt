@@ -1,4 +1,4 @@
-//! The words of kinds of VMs, and what kinds and rights a word says.
+//! The words for kinds of VMs, and the parsing of kinds and rights.
 ghost use Rattle.std.specs.Prelude.{◌≡◌};
 ghost use Rattle.std.specs.Str.{bytes_eq};
 ghost use Rattle.call_table.specs.Words.{rights_named as rights_named_by, text_of_vm_kind, vm_kind_named as vm_kind_named_by};
@@ -6,7 +6,7 @@ ghost use Rattle.call_table.specs.Words.{rights_named as rights_named_by, text_o
 use crate::VmKind;
 use page_state::Prot;
 
-/// The word of a kind of VMs.
+/// The word for a kind of VMs, as traces have it.
 pub fn vm_kind_word(kind: VmKind) -> &'static str
     ensures { result.now ≡ text_of_vm_kind kind }
 {
@@ -22,7 +22,7 @@ fn is_word(word: &[u8], name: &[u8]) -> bool
     word == name
 }
 
-/// The kind of VMs that a word is.
+/// The kind of VMs that a word names: "protected" or "plain", None for any other.
 pub fn vm_kind_named(word: &[u8]) -> Option<VmKind>
     ensures { result ≡ vm_kind_named_by word.now }
 {
@@ -35,7 +35,7 @@ pub fn vm_kind_named(word: &[u8]) -> Option<VmKind>
     None
 }
 
-/// The rights that a word is.
+/// The rights that a word names: "r", "rw", "rx" or "rwx", None for any other.
 pub fn rights_named(word: &[u8]) -> Option<Prot>
     ensures { result ≡ rights_named_by word.now }
 {

@@ -9,7 +9,7 @@ use Rattle.page_state.specs.Tables.{Edit, edited_map, needs, need, freed, edited
 use Rattle.page_state.specs.Trees.{Block, Tree, root_tree, no_tree}
 use Rattle.coarse_trees.specs.Coarsest.{IsInTree, wants_table, IsCoarsest, IsTreeOf, IsCanonical, IsInRange, map_need}
 
--- the parts of a block that is one word are one word
+-- if a block can be one word, so can each of its 512 parts
 abbrev pub PartsAreOneWord : Type 0
 PartsAreOneWord =
     (m : Map) (d j i : ℕ)
@@ -17,8 +17,8 @@ PartsAreOneWord =
     → is_one_word m (suc d, j) ≡ true
     → is_one_word m (d, 512 * j + i) ≡ true
 
--- a block is one word where its parts are, the first page of each has what one entry advances to,
--- and a word can say that entry
+-- a block can be one word if each of its 512 parts can, one entry advances to the first page of
+-- each part, and a word of the block's depth can encode that entry
 abbrev pub OneWordOfParts : Type 0
 OneWordOfParts =
     (m : Map) (d j : ℕ) (x : Entry)
@@ -33,7 +33,7 @@ OneWordOfParts =
 abbrev pub CoarsestIsCanonical : Type 0
 CoarsestIsCanonical = (depth : ℕ) (t : Tree) → IsCoarsest depth t → IsCanonical depth t
 
--- one with a root is among the trees of its map
+-- a coarsest tree with a root is a tree of its map
 abbrev pub CoarsestIsTree : Type 0
 CoarsestIsTree =
     (depth : ℕ) (t : Tree)
@@ -41,15 +41,15 @@ CoarsestIsTree =
     → is_some (t.table (depth + 1, 0)) ≡ true
     → IsTreeOf depth t
 
--- a tree of its root alone, in which nothing is mapped, is coarsest
+-- a tree that has only its root and maps nothing is coarsest
 abbrev pub RootIsCoarsest : Type 0
 RootIsCoarsest = (depth root : ℕ) → IsCoarsest depth (root_tree depth root)
 
--- and so is no tree
+-- and so is the absent tree
 abbrev pub NoneIsCoarsest : Type 0
 NoneIsCoarsest = (depth : ℕ) → IsCoarsest depth no_tree
 
--- a change of a coarsest tree with frames enough leaves a coarsest tree
+-- a change of a coarsest tree, given enough frames, leaves a coarsest tree
 abbrev pub EditKeepsCoarsest : Type 0
 EditKeepsCoarsest =
     (depth : ℕ) (t : Tree) (e : Edit) (fs : List ℕ)
@@ -58,7 +58,8 @@ EditKeepsCoarsest =
     → need depth t e ≤ length fs
     → IsCoarsest depth (edited depth t e fs)
 
--- the tables that a change needs are those that are wanted afterwards and weren't there
+-- a change needs a table at a block if and only if the block can't be one word afterwards and had
+-- no table
 abbrev pub NeededAreNew : Type 0
 NeededAreNew =
     (depth : ℕ) (t : Tree) (e : Edit)
@@ -69,7 +70,8 @@ NeededAreNew =
     → Contains (needs depth t e) b
     ↔ ((wants_table (edited_map t.map e) b ≡ true) × (t.table b ≡ None))
 
--- those that go are those that were there and aren't wanted afterwards
+-- a change frees the table at a block if and only if the block can be one word afterwards and had a
+-- table
 abbrev pub FreedAreNeedless : Type 0
 FreedAreNeedless =
     (depth : ℕ) (t : Tree) (e : Edit)
@@ -80,7 +82,7 @@ FreedAreNeedless =
     → Contains (freed depth t e) b
     ↔ ((wants_table (edited_map t.map e) b ≡ false) × (is_some (t.table b) ≡ true))
 
--- the need is a function of the maps
+-- the number of tables that a change needs follows from the map alone
 abbrev pub NeedOfMaps : Type 0
 NeedOfMaps =
     (depth : ℕ) (t : Tree) (e : Edit)
@@ -88,8 +90,8 @@ NeedOfMaps =
     → IsCoarsest depth t
     → need depth t e ≡ map_need depth t.map e
 
--- the tree that has a table at each block is one of its map, whatever the map: so a tree of a map
--- may have more tables than it needs
+-- the tree with a table at each block is a tree of any map: a tree may have more tables than it
+-- needs
 abbrev pub FullIsTree : Type 0
 FullIsTree =
     (depth : ℕ) (m : Map) (frame : ℕ) → IsTreeOf depth (record { map = m; table = λ b. Some frame })

@@ -42,8 +42,8 @@ CoarsestOfMap =
 abbrev pub CoarsestExists : Type 0
 CoarsestExists = (rs : List Run) → (cs : List Run) × IsCoarsest cs × (map_of cs ≡ map_of rs)
 
--- a word of a level, by the depth below it, can say an entry just where the word relation has such
--- a word
+-- a word of a level, with that many levels below it, can encode an entry if and only if the
+-- relation of words and descriptors has such a word
 abbrev pub FitsWord : ℕ → Level → Type 0
 FitsWord depth level = (e : Entry) → (fits_word depth e ≡ true) ↔ CanBeSaid level (word_of_entry e)
 
@@ -51,7 +51,7 @@ FitsWord depth level = (e : Entry) → (fits_word depth e ≡ true) ↔ CanBeSai
 abbrev pub FitsEachWord : Type 0
 FitsEachWord = FitsWord 0 Three × FitsWord 1 Two × FitsWord 2 One × FitsWord 3 Zero
 
--- a block can be one word where one entry that fits advances along all of it
+-- a block can be one word if and only if one entry that a word can encode advances along all of it
 abbrev pub OneWordMeans : Type 0
 OneWordMeans =
     (m : Map) (b : Block)
@@ -59,7 +59,7 @@ OneWordMeans =
     ↔ ((fits_word b.0 (m (first_page b)) ≡ true)
     × ((i : ℕ) → i < span b → m (first_page b + i) ≡ advance (m (first_page b)) i))
 
--- a block is empty where none of its pages is mapped
+-- a block is empty if and only if none of its pages is mapped
 abbrev pub EmptyMeans : Type 0
 EmptyMeans =
     (m : Map) (b : Block)

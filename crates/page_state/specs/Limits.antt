@@ -35,7 +35,8 @@ LargestRow =
     × IsAcceptedLayout (record largest { config = config 64 0x100000 48; depth = 3 })
     × IsAcceptedConfig (config 1 1 39)
 
--- one page, CPU or call more isn't, nor are none, nor another width of input addresses
+-- one page, CPU or stored call more is refused, and so is none of them, or another width of input
+-- addresses
 abbrev pub PastLimitsRow : Type 0
 PastLimitsRow =
     ¬ IsInLimits (memory 0x80001)

@@ -4,7 +4,7 @@ use Rattle.page_state.specs.declared.row.Lent.{Lent}
 use Rattle.page_state.specs.declared.row.Row.{Row}
 use Rattle.page_state.specs.declared.row.Usage.TheVariants.{Plain}
 
--- the row of a frame that is the host's, lent to nobody, and in no other use
+-- the row of a frame that the host owns, shares with nobody, and has in no other use
 abbrev pub plain_row : Row
 plain_row = record { owner = record { 0 = 0 }; lent = None; usage = Plain }
 

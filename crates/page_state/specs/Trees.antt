@@ -21,7 +21,7 @@ Pool = List ℕ
 abbrev pub no_tree : Tree
 no_tree = record { map = empty_map; table = λ b. None }
 
--- a tree of its root alone, which has `depth` levels below it, in which nothing is mapped
+-- a tree that has only its root table, with `depth` levels below it, and maps nothing
 abbrev pub root_tree : ℕ → ℕ → Tree
 root_tree depth root =
     record {

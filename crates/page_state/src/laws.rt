@@ -15,7 +15,7 @@ pub fn coarsest_list()
     ensures exists { CoarsestExists }
 {}
 
-/// What the tests of blocks say: that a word can say an entry, that a block can be one word, that it is empty.
+/// The meaning of the tests of blocks: a word can encode an entry, a block can be one word, a block is empty.
 pub fn block_tests()
     ensures fits { FitsEachWord }
     ensures one_word { OneWordMeans }
@@ -28,7 +28,7 @@ pub fn blocks_on_range()
     ensures ordered { BlocksOrdered }
 {}
 
-/// What acceptance answers at the limits of memory, CPUs and logs, and past them.
+/// Acceptance at the limits of memory, CPUs and logs, and past them.
 pub fn limits()
     ensures largest { LargestRow }
     ensures past { PastLimitsRow }
