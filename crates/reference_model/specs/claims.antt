@@ -1,4 +1,4 @@
--- What is claimed of the model.
+-- The claims about the model.
 pub mod Sound
 pub mod Isolation
 pub mod HeldFrames

@@ -1,4 +1,4 @@
--- What laws and contracts between the crates cite; a reader needs none of it to believe the claims.
+-- Definitions for laws and contracts between the crates; the claims don't depend on them.
 pub mod Answers
 pub mod ChangeLaws
 pub mod ConditionChanges

@@ -1,5 +1,5 @@
--- What the model is: the state, the rules, the step, boot, runs and histories, and what code's
--- contracts cite of them.
+-- The model: the state, the rules, the step, boot, runs and histories, and the terms for contracts
+-- of code.
 pub mod State
 pub mod Changes
 pub mod Parts

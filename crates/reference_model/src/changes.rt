@@ -1,4 +1,4 @@
-//! What a call changes on Ok, as data.
+//! The changes of a call that returns Ok, as data.
 use call_table::{Value, VmId, VmKind};
 use page_state::{Entry, PageRange};
 
@@ -11,16 +11,16 @@ pub struct MapChange {
     pub entry: Entry,
 }
 
-/// What a field becomes.
+/// The new value of a field.
 #[derive(Clone, Copy)]
 pub enum Update<T> {
-    /// What it was.
+    /// The old value.
     Keep,
     /// This value.
     Becomes(T),
 }
 
-/// What else than its map changes of the Guest part that a call uses.
+/// The changes of the Guest part that a call uses, apart from its map.
 #[derive(Clone, Copy)]
 pub enum GuestChange {
     /// Nothing.
@@ -41,7 +41,7 @@ pub enum GuestChange {
     Empty,
 }
 
-/// What changes of the slots of the VM part.
+/// The changes of the slots of the VM part.
 #[derive(Clone, Copy)]
 pub enum SlotChange {
     /// Nothing.
@@ -95,7 +95,7 @@ pub struct Loaded {
     pub vcpu: u64,
 }
 
-/// What changes of the CPU's own state.
+/// The changes of the CPU's own state.
 #[derive(Clone, Copy)]
 pub struct CpuChange {
     /// The vCPU that it has loaded.
@@ -106,7 +106,7 @@ pub struct CpuChange {
     pub ticket: Update<Option<Ticket>>,
 }
 
-/// All that a call changes on Ok, and what it gives.
+/// All changes of a call that returns Ok, and its value.
 #[derive(Clone, Copy)]
 pub struct Changes {
     /// The host's map.
@@ -115,13 +115,13 @@ pub struct Changes {
     pub hyp: Option<MapChange>,
     /// The guest's map.
     pub guest: Option<MapChange>,
-    /// What else of the guest.
+    /// The other changes of the guest.
     pub part: GuestChange,
     /// The slots of the VM part.
     pub slot: SlotChange,
     /// The CPU's own state.
     pub cpu: CpuChange,
-    /// The frames that change use where the host's map stays.
+    /// The frames that change use while the host's map stays.
     pub moved: Option<PageRange>,
     /// The value of Ok.
     pub value: Value,

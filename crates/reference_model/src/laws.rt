@@ -16,7 +16,7 @@ ghost use Rattle.reference_model.specs.claims.Isolation.{Isolated, RunIsolated, 
 ghost use Rattle.reference_model.specs.claims.HeldFrames.{HandStays, HeldStays, RunHeldStays};
 ghost use Rattle.reference_model.specs.claims.TreeLaws.{RunCanonical, RunFailsByMaps};
 
-/// A step that refuses leaves the state but for the rooms of logs, and with LogFull these too.
+/// A step that refuses changes nothing but the rooms of logs, and with LogFull not even these.
 pub fn refusal_keeps()
     ensures state { RefusalKeeps }
     ensures log_full { LogFullKeeps }
@@ -48,7 +48,7 @@ pub fn frame_rule()
     ensures agrees { StepAgrees }
 {}
 
-/// What is decided, carried out and stored is a reference step.
+/// A call that is decided, carried out and stored is a reference step.
 pub fn answers()
     ensures barred { BarredAnswers }
     ensures carried { CarriedAnswers }
@@ -60,7 +60,8 @@ pub fn answers()
     ensures held { HeldStored }
 {}
 
-/// What a rule changes is of parts that its step uses, can be written and made, and touches memory frames alone or none.
+/// A rule changes only parts that its step uses; its changes can be written and made, and touch only memory frames or
+/// none.
 pub fn change_laws()
     ensures used { ChangesUsed }
     ensures fit { ChangesFit }
@@ -68,13 +69,15 @@ pub fn change_laws()
     ensures touched { TouchedWhole }
 {}
 
-/// Each stored call lowers just the rooms of its used logs by one, so a log's room follows from its calls.
+/// Each stored call takes one from the room of each log that it uses, and from no other, so a log's room follows from
+/// its calls.
 pub fn rooms()
     ensures falls { StoredFalls }
     ensures told { RunRooms }
 {}
 
-/// One legal history is empty at boot, and grows by each call that leads on from its end and is stored where it is used.
+/// One legal history is empty at boot, and grows by each call that leads on from its end and is stored in the logs of
+/// the parts that it uses and of its CPU.
 pub fn history_grows()
     ensures begins { HistoryBegins }
     ensures grows { HistoryGrows }
@@ -85,7 +88,7 @@ pub fn boot_sound()
     ensures { BootSound }
 {}
 
-/// What the definitions answer on worked rows: changes of trees, boots, and shares that are made and refused.
+/// Values of the definitions on worked rows: changes of trees, boots, and shares that are made and refused.
 pub fn worked_rows()
     ensures need { NeedRow }
     ensures split { SplitRow }
@@ -121,7 +124,7 @@ pub fn legal_sound()
     ensures known { KnownLegalSound }
 {}
 
-/// The boot state is legal, and its rows say that the carve-out is the hypervisor's and all other memory the host's.
+/// The boot state is legal, and by its rows the hypervisor owns the carve-out and the host all other memory.
 pub fn boot_legal()
     ensures legal { BootLegal }
     ensures rows { BootRowsTold }
@@ -137,20 +140,20 @@ pub fn run_legal()
     ensures { RunLegal }
 {}
 
-/// Each state of a run is sound, and its kept rows are those from scratch.
+/// Each state of a run is sound, and its kept rows are the rows from scratch.
 pub fn run_sound()
     ensures sound { RunSound }
     ensures rows { RunRows }
 {}
 
-/// Each tree of each state of a run is the one coarsest tree of its map, and no tree of the map has fewer tables. So a step's
-/// first test that fails is told by maps and numbers of free frames, where it is the pools'.
+/// Each tree of each state of a run is the one coarsest tree of its map, and no tree of the map has fewer tables. So
+/// the maps and the numbers of free frames determine whether a step fails the test of the pools.
 pub fn run_canonical()
     ensures trees { RunCanonical }
     ensures by_maps { RunFailsByMaps }
 {}
 
-/// What is asked of a layout holds of each that is accepted, and its depth is that of its geometry.
+/// Each accepted layout meets the premises of the laws on layouts, and its depth is that of its geometry.
 pub fn accepted_usable()
     ensures usable { AcceptedUsable }
     ensures depth { AcceptedDepth }
@@ -162,7 +165,8 @@ pub fn rows_told()
     ensures { RowsTold }
 {}
 
-/// No step takes a frame from a Live guest or changes its page, and nobody else maps it but the host while the guest shares it.
+/// No step takes a frame from a Live guest or changes its page, and nobody else maps it, except the host while the
+/// guest shares it.
 pub fn isolation()
     ensures isolated { Isolated }
     ensures run { RunIsolated }
@@ -170,8 +174,8 @@ pub fn isolation()
     ensures run_kept_out { RunKeptOut }
 {}
 
-/// A frame that the host gave for a VM's tables stays with the hypervisor: no step takes it back before the guest is Dying, and a
-/// CPU's hand is emptied by that CPU alone.
+/// A frame that the host gave for a VM's tables stays with the hypervisor: no step takes it back before the guest is
+/// Dying, and only the CPU itself empties its hand.
 pub fn held_frames()
     ensures stays { HeldStays }
     ensures run { RunHeldStays }
@@ -184,15 +188,15 @@ pub fn bounds()
     ensures run { RunBounded }
 {}
 
-/// A kept row is true of its frame: who owns it, who borrows it and where, and which place holds it.
-/// No other row does.
+/// A kept row is true of its frame: who owns it, who borrows it and where, and which place holds it. No other row is
+/// true of it.
 pub fn row_laws()
     ensures legal { LegalRowsTrue }
     ensures run { RunRowsTrue }
     ensures once { RowOnce }
 {}
 
-/// A state determines the condition of each frame, and a made step moves it as its changes say.
+/// A state determines the condition of each frame, and a made step moves it as its changes determine.
 pub fn conditions()
     ensures once { ConditionOnce }
     ensures moved { ConditionsMove }
@@ -203,7 +207,7 @@ pub fn pools_in_order()
     ensures { RunInOrder }
 {}
 
-/// What a step may rely on where what it uses belongs to a state that a run can reach.
+/// The facts that a step may rely on if the parts that it uses are those of a state that a run can reach.
 pub fn relies()
     ensures relies { ReachedRelies }
     ensures answers { RelyingAnswers }

@@ -1,5 +1,5 @@
-//! The reference model: the state that all parts of the hypervisor's memory core make up, what each call answers and
-//! changes, and the laws of states and runs.
+//! The reference model: the state that all parts of the hypervisor's memory core make up, the answer and the changes of
+//! each call, and the laws of states and runs.
 #![tactic(auto)]
 
 mod changes;

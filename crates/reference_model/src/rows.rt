@@ -1,4 +1,4 @@
-//! Worked rows: what the definitions answer on small states. Each function does nothing, and its contract is the rows.
+//! Worked rows: values of the definitions on small states. Each function does nothing, and its contract is the rows.
 ghost use Rattle.reference_model.specs.rows.SharedRows.{ShareHypMade, ShareHypNear, ShareHypEnough, ShareHypRefused, UnshareHypMade, UnshareHypRemoves, UnshareHypRefused, DonateHypMade, DonateHypBlock, DonateHypRefused, HypDonateHostMade, HypDonateHostSplits, HypDonateHostRemoves, HypDonateHostRefused};
 ghost use Rattle.reference_model.specs.rows.HandRows.{FundMade, FundRefused, UnfundMade, UnfundSplits, UnfundRefused, InstallMade, InstallPlain, InstallRefused, TopupMade, TopupDying, TopupEnough, TopupRefused};
 ghost use Rattle.reference_model.specs.rows.GuestRows.{ShareGuestMade, ShareGuestNear, ShareGuestRefused, UnshareGuestMade, UnshareGuestRefused, DonateGuestMade, DonateGuestNear};
@@ -105,7 +105,7 @@ pub fn vm_rows()
     ensures vm_release_refused { VmReleaseRefused }
 {}
 
-/// The rows of the calls that map a page for the host, and of those that read.
+/// The rows of the calls that map a page for the host, and of the calls that read.
 pub fn abort_rows()
     ensures host_abort_block { HostAbortBlock }
     ensures host_abort_page { HostAbortPage }
@@ -197,7 +197,7 @@ pub fn range_rows()
     ensures range_moves { RangeMoves }
 {}
 
-/// The rows of the conditions of a frame: what each says of its pages, row and keepers, and where calls move it.
+/// The rows of the conditions of a frame: its pages, row and keepers in each, and the moves that calls make.
 pub fn condition_rows()
     ensures host_alone { HostAloneRow }
     ensures host_shared { HostSharedRow }

@@ -20,7 +20,7 @@ abbrev pub guest_entry_at : Contents → ℕ → ℕ → Entry
 guest_entry_at s v g = (s.guest v).tree.map g
 
 -- the guest itself shares the page with the host, or takes it back, on a CPU that has a vCPU of it
--- loaded: the entry's state alone changes
+-- loaded; only the state of the entry changes
 pub record SharesBack (s t : Contents) (cpu : ℕ) (step : Step) (v g : ℕ) : Type 0 where
   pub loaded : (i : ℕ) × HasLoaded s v i cpu
   pub made :
@@ -39,8 +39,8 @@ pub record FrameStays (l : Layout) (s t : Contents) (c : Call) (v f : ℕ) : Typ
   pub owner_stays : owner l t f ≡ 2 + v
   pub page_stays : (g : ℕ) → Holds s (2 + v) g f → PageStays s t c.cpu c.step v g
 
--- no step from a legal state takes a frame from a Live guest or changes its page, but what the
--- guest itself shares
+-- no step from a legal state takes a frame from a Live guest or changes its page, except when the
+-- guest itself shares the page or takes it back
 abbrev pub Isolated : Type 0
 Isolated =
     (l : Layout) (s t : Reference) (c : Call) (v f : ℕ)

@@ -16,7 +16,7 @@ use Rattle.reference_model.specs.model.Run.{IsRun}
 use Rattle.reference_model.specs.model.History.{calls_on, calls_by, IsStored, Kept, IsHistory}
 use Rattle.reference_model.specs.model.Stored.{StoresCall}
 
--- a step that refuses leaves the state but for the rooms of logs
+-- a step that refuses changes nothing but the rooms of logs
 abbrev pub RefusalKeeps : Type 0
 RefusalKeeps =
     (l : Layout) (s t : Reference) (c : Call) (why : Refusal)
@@ -29,7 +29,7 @@ abbrev pub LogFullKeeps : Type 0
 LogFullKeeps =
     (l : Layout) (s t : Reference) (c : Call) → Steps l s c t → c.reply ≡ Refused LogFull → t ≡ s
 
--- each step of each CPU has a call, whose reply and next state are the foretold ones
+-- each step of each CPU has a call, with the reply and the next state that `foretell` predicts
 abbrev pub StepExists : Type 0
 StepExists =
     (l : Layout) (s : Reference) (cpu : ℕ) (step : Step)
@@ -43,7 +43,7 @@ StepExists =
 abbrev pub StepOnce : Type 0
 StepOnce = (l : Layout) (s t u : Reference) (c : Call) → Steps l s c t → Steps l s c u → t ≡ u
 
--- but for want of memory a step of a CPU has one call, so one reply
+-- a step of a CPU has at most one call, and so one reply, apart from NoMemory
 abbrev pub ReplyOnce : Type 0
 ReplyOnce =
     (l : Layout) (s t u : Reference) (c d : Call)
@@ -85,8 +85,8 @@ guest_in v s = (s.contents.guest v, s.rooms.guest v)
 abbrev pub cpu_in : ℕ → Reference → Cpu × ℕ
 cpu_in c s = (s.contents.cpu c, s.rooms.cpu c)
 
--- two states agree on what a call uses: its parts and its CPU's own state, with the rooms of their
--- logs
+-- two states agree on the parts that a call uses and on its CPU's own state, with the rooms of
+-- their logs
 pub record Agree (c : Call) (s t : Reference) : Type 0 where
   pub vms : IsTrue (call_uses vm_part c) → vms_in t ≡ vms_in s
   pub shared : IsTrue (call_uses shared_part c) → shared_in t ≡ shared_in s
@@ -100,7 +100,7 @@ pub record AgreeBeside (c : Call) (s t : Reference) : Type 0 where
   pub guest : (v : ℕ) → call_uses (guest_part v) c ≡ false → guest_in v t ≡ guest_in v s
   pub cpu : (cpu : ℕ) → cpu ≢ c.cpu → cpu_in cpu t ≡ cpu_in cpu s
 
--- frame rule: a step changes only what its call uses
+-- frame rule: a step changes only the parts that its call uses and its CPU's own state
 abbrev pub StepChanges : Type 0
 StepChanges = (l : Layout) (s t : Reference) (c : Call) → Steps l s c t → AgreeBeside c s t
 
@@ -113,7 +113,8 @@ StepReads =
     → Steps l s c t
     → (t' : Reference) × Steps l s' c t' × Agree c t t'
 
--- frame rule: from states that agree on what a call uses it leads to states that agree there
+-- frame rule: from two states that agree on the parts that a call uses, it leads to states that
+-- agree on them
 abbrev pub StepAgrees : Type 0
 StepAgrees =
     (l : Layout) (s t s' t' : Reference) (c : Call)
@@ -122,7 +123,7 @@ StepAgrees =
     → Steps l s' c t'
     → Agree c t t'
 
--- the boot state is sound, where the carve-out has a frame for each table
+-- the boot state is sound if the carve-out has a frame for each table
 abbrev pub BootSound : Type 0
 BootSound = (l : Layout) → IsCarveEnough l → Sound l (boot l).contents
 
@@ -140,7 +141,8 @@ HistoryBegins =
     })
     []
 
--- a legal history grows by each call that leads on from its end and is stored just where it is used
+-- a legal history grows by each call that leads on from its end and is stored in the logs of the
+-- parts that it uses and of its CPU, and in no other
 abbrev pub HistoryGrows : Type 0
 HistoryGrows =
     (l : Layout) (before after : Kept) (log : List Call) (c : Call) (t : Reference)

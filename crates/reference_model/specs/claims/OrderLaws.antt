@@ -1,4 +1,4 @@
--- Laws of the order of calls: those that share no part and no CPU can be made in either order.
+-- Laws of the order of calls: calls that share no part and no CPU can be made in either order.
 use Rattle.std.specs.Prelude.{◌≡◌, ℕ, List}
 use Rattle.call_table.specs.declared.reply.Call.{Call}
 use Rattle.reference_model.specs.model.State.{Reference}

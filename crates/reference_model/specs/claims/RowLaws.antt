@@ -1,5 +1,5 @@
--- What an owner row says of its frame, in the words of maps and places, and that the kept rows of a
--- run say so.
+-- The meaning of the owner row of a frame, in terms of maps and places; the kept rows of a run have
+-- this meaning.
 use Rattle.std.specs.Prelude.{◌≡◌, ◌≢◌, ℕ, zero, suc, ◌↔◌, true, List, Option, Some, None}
 use Rattle.descriptor.specs.declared.State.TheVariants.{SharedBorrowed}
 use Rattle.call_table.specs.declared.reply.Call.{Call}
@@ -29,7 +29,7 @@ pub record IsBorrower (s : Contents) (f : ℕ) (lent : Lent) : Type 0 where
       → Maps s component page f SharedBorrowed
       → (component ≡ lent.owner.0) × (page ≡ lent.page)
 
--- a row is lent to the frame's borrower, and to nobody where nobody borrows the frame
+-- the row names the borrower of the frame, or None if nobody borrows it
 abbrev pub IsLentTo : Contents → ℕ → Option Lent → Type 0
 IsLentTo s f (Some lent) = IsBorrower s f lent
 IsLentTo s f None = ¬ IsBorrowed s f
@@ -43,8 +43,8 @@ use_of (table_of (suc zero) b) = SharedPool
 use_of (table_of (suc (suc v)) b) = VmPool v
 use_of (hand c) = InHand c
 
--- a row's use: Plain exactly where no place holds the frame, and any other where a place of that
--- use does; no place of another use holds it
+-- a row's use: Plain if and only if no place holds the frame; any other use means that a place of
+-- that use holds it, and no place of another use does
 pub record IsUse (s : Contents) (f : ℕ) (usage : Usage) : Type 0 where
   pub plain : usage ≡ Plain ↔ ((p : Place) → ¬ IsHeld s f p)
   pub held : usage ≢ Plain → (p : Place) × IsHeld s f p × (use_of p ≡ usage)
@@ -65,7 +65,7 @@ LegalRowsTrue =
     → is_memory l f ≡ true
     → IsRowOf s f (s.shared.row f)
 
--- and so it does in each state of a run
+-- the kept row of each memory frame is true in each state of a run
 abbrev pub RunRowsTrue : Type 0
 RunRowsTrue =
     (l : Layout) (cs : List Call) (t : Reference) (f : ℕ)

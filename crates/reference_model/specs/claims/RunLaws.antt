@@ -32,8 +32,8 @@ LegalRows =
 abbrev pub LegalSound : Type 0
 LegalSound = (l : Layout) (s : Contents) → Legal l s → IsUsable l → Sound l s
 
--- nobody need hold how a state is legal: that it is so is enough to have all of Sound, the pages
--- and places that it names too
+-- that a state is legal is enough for all of Sound, with the pages and places that it names; the
+-- evidence for legality isn't needed
 abbrev pub KnownLegalSound : Type 0
 KnownLegalSound = (l : Layout) (s : Contents) → IsUsable l → ∥ Legal l s ∥₁ → Sound l s
 
@@ -71,7 +71,7 @@ abbrev pub RunSound : Type 0
 RunSound =
     (l : Layout) (cs : List Call) (t : Reference) → CanBoot l → IsRun l cs t → Sound l t.contents
 
--- and its kept rows are those from scratch
+-- its kept rows are the rows from scratch
 abbrev pub RunRows : Type 0
 RunRows =
     (l : Layout) (cs : List Call) (t : Reference)

@@ -1,4 +1,4 @@
--- Sound: what holds of each state of a run, in four groups of facts.
+-- Sound: the invariant of all states of a run, in four groups of facts.
 use Rattle.std.specs.Prelude.{◌≡◌, ◌≢◌, ℕ, zero, suc, ◌⊎◌, ◌↔◌, IsTrue, Some, Contains}
 use Rattle.descriptor.specs.declared.State.{State}
 use Rattle.descriptor.specs.declared.State.TheVariants.{Owned, SharedOwned, SharedBorrowed}
@@ -15,11 +15,11 @@ use Rattle.reference_model.specs.model.State.{Contents, Phase, empty, live, dyin
 use Rattle.page_state.specs.Layouts.{Layout, is_memory}
 use Rattle.reference_model.specs.model.Owner.{row_of, is_in_hand}
 
--- there is exactly one
+-- exactly one value has the property
 abbrev pub IsOne : {X : Type 0} → (X → Type 0) → Type 0
 IsOne {X} P = (x : X) × P x × ((y : X) → P y → y ≡ x)
 
--- the tree of a component, by its number as an owner
+-- the tree of the component with this owner number
 abbrev pub tree_at : Contents → ℕ → Tree
 tree_at s zero = s.shared.host
 tree_at s (suc zero) = s.shared.hyp
@@ -34,7 +34,7 @@ IsLeafOf f state other = ⊥
 abbrev pub Maps : Contents → ℕ → ℕ → ℕ → State → Type 0
 Maps s component page f state = IsLeafOf f state ((tree_at s component).map page)
 
--- a component has an entry of the frame that its owner alone has
+-- a component has an entry of the frame that only its owner may have
 abbrev pub Holds : Contents → ℕ → ℕ → ℕ → Type 0
 Holds s component page f = Maps s component page f Owned ⊎ Maps s component page f SharedOwned
 
@@ -50,8 +50,9 @@ owner l s f = (row_of l s f).owner.0
 abbrev pub usage : Layout → Contents → ℕ → Usage
 usage l s f = (row_of l s f).usage
 
--- one owner of each memory frame: what it owns the host has Unmapped, Owned or SharedOwned; another
--- owner has exactly one such entry. Of any frame, memory or not, nobody but the owner has one
+-- one owner of each memory frame: the host's page of a frame that it owns is Unmapped, Owned or
+-- SharedOwned; any other owner has exactly one Owned or SharedOwned entry of its frame. Nobody but
+-- the owner has such an entry of any frame, memory or not
 pub record OneOwner (l : Layout) (s : Contents) : Type 0 where
   pub host_owned : (f : ℕ)
       → IsTrue (is_memory l f)
@@ -67,7 +68,7 @@ pub record OneOwner (l : Layout) (s : Contents) : Type 0 where
 abbrev pub IsBorrowed : Contents → ℕ → Type 0
 IsBorrowed s f = (component : ℕ) × (page : ℕ) × Maps s component page f SharedBorrowed
 
--- one borrower: at most one entry of a frame is SharedBorrowed, and there is one exactly where the
+-- one borrower: at most one entry of a frame is SharedBorrowed, and there is one if and only if the
 -- owner's entry is SharedOwned
 pub record OneBorrower (l : Layout) (s : Contents) : Type 0 where
   pub one_borrower : (f a page b other : ℕ)
@@ -110,8 +111,8 @@ StageFits closing_vm stand phase = (stand ≡ closing) × (phase ≡ live)
 StageFits dying_vm stand phase = (stand ≡ closing) × (phase ≡ dying)
 StageFits finished stand phase = (stand ≡ closing) × (phase ≡ empty)
 
--- slots and loads agree: a CPU has a vCPU loaded exactly where the VM part names it, and the slot
--- is then Open, of that generation
+-- slots and loads agree: a CPU has a vCPU loaded if and only if the VM part names the CPU for it;
+-- the slot is then Open, of that generation
 pub record LoadsAgree (s : Contents) : Type 0 where
   pub loaded : (c : ℕ) (k : Loaded)
       → (s.cpu c).loaded ≡ Some k
@@ -132,7 +133,7 @@ pub record GuestsAgree (s : Contents) : Type 0 where
   pub vacant_empty : (v : ℕ) → (s.vms.slot v).stand ≡ vacant → (s.guest v).phase ≡ empty
   pub same_vm : (v : ℕ) → (s.guest v).phase ≢ empty → IsGuestOf s v
 
--- a ticket's slot is in the stage that the ticket says, with its generation and kind
+-- a ticket's slot is in the stage of the ticket, with its generation and kind
 pub record IsTicketOf (s : Contents) (t : Ticket) : Type 0 where
   pub fits : StageFits t.stage (s.vms.slot t.vm.slot).stand (s.guest t.vm.slot).phase
   pub generation : t.vm.generation ≡ (s.vms.slot t.vm.slot).generation

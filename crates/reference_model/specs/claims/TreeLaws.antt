@@ -1,5 +1,5 @@
--- Laws of the trees of runs: each is the one coarsest tree of its map, so maps and numbers of free
--- frames alone tell whether a pool is short.
+-- Laws of the trees of runs: each is the one coarsest tree of its map, so the maps and the numbers
+-- of free frames determine whether a pool is short.
 use Rattle.std.specs.Prelude.{◌≡◌, ℕ, ◌+◌, ◌<◌, Bool, ◌||◌, nat_lt, List, length, Option, Some, None, if◌then◌else◌}
 use Rattle.coarse_trees.specs.Coarsest.{IsCanonical, map_need}
 use Rattle.page_state.specs.Layouts.{Layout}
@@ -23,7 +23,7 @@ pub record AreCanonical (l : Layout) (s : Contents) : Type 0 where
   pub hyp : IsCanonical l.depth s.shared.hyp
   pub guest : (v : ℕ) → IsCanonical l.depth (s.guest v).tree
 
--- so are the trees of each state of a run
+-- the trees of each state of a run are canonical
 abbrev pub RunCanonical : Type 0
 RunCanonical =
     (l : Layout) (cs : List Call) (t : Reference)
@@ -47,7 +47,7 @@ fails_by_maps l cpu slot step x =
     or_else (first_test r (lacks_slot (names step) slot))
     (if is_short_by_maps l.depth r.changes x then Some NoPool else None)
 
--- in each state of a run maps and numbers of free frames tell it
+-- in each state of a run, the maps and the numbers of free frames determine that test
 abbrev pub RunFailsByMaps : Type 0
 RunFailsByMaps =
     (l : Layout) (cs : List Call) (t : Reference) (cpu : ℕ) (slot : Option ℕ) (step : Step)

@@ -17,7 +17,7 @@ use Rattle.reference_model.specs.model.Step.{is_short, changed, Answered, is_ful
 use Rattle.reference_model.specs.model.Decides.{decides}
 
 module _ (l : Layout) (cpu : ℕ) (slot : Option ℕ) (step : Step) where
-  -- all changes are made, and the rows of the touched range are those that the changes tell
+  -- all changes are made, and the touched range gets the rows that follow from the changes
   pub record IsCarried (h : Changes) (x : Used) (reply : Reply) (y : Used) : Type 0 where
     pub enough : is_short l.depth h x ≡ false
     pub reply_is : reply ≡ Done h.value
@@ -29,7 +29,7 @@ module _ (l : Layout) (cpu : ℕ) (slot : Option ℕ) (step : Step) where
     pub reply_is : reply ≡ Refused NoPool
     pub next : y ≡ x
 
-  -- memory was wanted, and nothing has changed
+  -- memory ran out, and nothing has changed
   pub record IsHalted (wants : Bool) (h : Changes) (x : Used) (reply : Reply)
       (y : Used) : Type 0 where
     pub enough : is_short l.depth h x ≡ false
@@ -38,7 +38,7 @@ module _ (l : Layout) (cpu : ℕ) (slot : Option ℕ) (step : Step) where
     pub reply_is : reply ≡ Refused NoMemory
     pub next : y ≡ x
 
-  -- how changes are carried out; `wants`: memory can be wanted
+  -- the outcomes of carrying out changes; `wants`: memory may run out
   abbrev pub CarriesOut : Bool → Changes → Used → Reply → Used → Type 0
   CarriesOut wants h x reply y =
       IsCarried h x reply y ⊎ IsShort h x reply y ⊎ IsHalted wants h x reply y
@@ -60,14 +60,14 @@ module _ (l : Layout) (cpu : ℕ) (slot : Option ℕ) (step : Step) where
   abbrev pub Does : Bool → Used → Reply → Used → Type 0
   Does wants x reply y = IsBarred x reply y ⊎ IsLet wants x reply y
 
--- a barred call is answered so, and leaves the used parts
+-- a barred call is answered with its refusal, and leaves the used parts as they are
 abbrev pub BarredAnswers : Type 0
 BarredAnswers =
     (l : Layout) (cpu : ℕ) (slot : Option ℕ) (step : Step) (wants : Bool) (x : Used) (why : Refusal)
     → decides l cpu slot step x ≡ Err why
     → Answered l cpu slot step wants x (Refused why) x
 
--- what isn't barred in a legal state is answered by carrying out the rule's changes
+-- a step that isn't barred in a legal state is answered by carrying out the changes of its rule
 abbrev pub CarriedAnswers : Type 0
 CarriedAnswers =
     (l : Layout) (s : Contents) (cpu : ℕ) (slot : Option ℕ) (step : Step) (wants : Bool)
@@ -82,7 +82,7 @@ CarriedAnswers =
     → CarriesOut l cpu slot step wants h x reply y
     → Answered l cpu slot step wants x reply y
 
--- an answer that is stored where each log has room is a reference step
+-- an answer that is stored, if each log has room, is a reference step
 abbrev pub AnswerSteps : Type 0
 AnswerSteps =
     (l : Layout) (c : Call) (wants : Bool) (x : Used) (r : UsedRooms) (y : Used)
@@ -92,7 +92,7 @@ AnswerSteps =
     → Answered l c.cpu c.slot c.step wants x c.reply y
     → StepsOn l c x r y (stored r)
 
--- and so is LogFull, where a log has none
+-- the reply LogFull, if a log is full, is a reference step
 abbrev pub FullSteps : Type 0
 FullSteps =
     (l : Layout) (c : Call) (x : Used) (r : UsedRooms)
@@ -100,7 +100,7 @@ FullSteps =
     → c.number ≡ l.config.log - r.cpu + 1
     → is_full (names c.step) c.slot r ≡ true → c.reply ≡ Refused LogFull → StepsOn l c x r x r
 
--- a step on what a call uses of a state is one of the state
+-- a step on the parts that a call uses of a state is a step of the whole state
 abbrev pub UsedSteps : Type 0
 UsedSteps =
     (l : Layout) (s : Reference) (c : Call) (y : Used) (q : UsedRooms)

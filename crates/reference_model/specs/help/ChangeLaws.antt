@@ -35,15 +35,15 @@ pub record OnlyUses (n : Names) (slot : Option ℕ) (h : Changes) : Type 0 where
   pub guest : slot ≡ None → h.guest ≡ None
   pub part : slot ≡ None → h.part ≡ KeepGuest
 
--- what a rule changes is of parts that its step uses
+-- the rule of a step changes only parts that the step uses
 abbrev pub ChangesUsed : Type 0
 ChangesUsed =
     (l : Layout) (cpu : ℕ) (slot : Option ℕ) (step : Step) (x : Used) (h : Changes)
     → decides l cpu slot step x ≡ Ok h
     → OnlyUses (names step) slot h
 
--- a change of a map that words of the last level can say, in trees of the depth: some pages, all of
--- them input pages
+-- a change of a map that words of the last level can encode, in trees of the depth: at least one
+-- page, all of them input pages
 pub record Fits (d : ℕ) (c : MapChange) : Type 0 where
   pub some : 1 ≤ c.range.count
   pub within : end_of c.range ≤ pages_below d
@@ -60,7 +60,7 @@ pub record AllFit (d : ℕ) (h : Changes) : Type 0 where
   pub hyp : FitsWhere d h.hyp
   pub guest : FitsWhere d h.guest
 
--- what a step decides to change in a legal state fits
+-- the changes that a step decides on in a legal state fit
 abbrev pub ChangesFit : Type 0
 ChangesFit =
     (l : Layout) (s : Contents) (cpu : ℕ) (slot : Option ℕ) (step : Step) (h : Changes)
@@ -77,7 +77,8 @@ pub record TouchedFits (l : Layout) (cpu : ℕ) (slot : Option ℕ) (h : Changes
   pub small : (r : PageRange) → touched h ≡ Some r → end_of r ≤ 2 ^ 63
   pub row : (r : PageRange) → touched h ≡ Some r → HasPageBelow (first_row cpu slot h) r.count
 
--- so are those that a step decides to touch in a legal state
+-- the frames that a step decides to touch in a legal state are all memory if the first one is, and
+-- the given row can advance along them
 abbrev pub TouchedWhole : Type 0
 TouchedWhole =
     (l : Layout) (s : Contents) (cpu : ℕ) (slot : Option ℕ) (step : Step) (h : Changes)
@@ -114,7 +115,7 @@ pub record CanGain (l : Layout) (g : Guest) (r : PageRange) : Type 0 where
   pub few : guest_table_count l g.tree + length g.free + r.count ≤ 512
   pub low : end_of r ≤ 2 ^ 36
 
--- what else than its map can change of a guest
+-- the changes of a guest, apart from its map, that can be made
 abbrev pub FitsPart : Layout → Guest → GuestChange → Type 0
 FitsPart l g KeepGuest = Unit {0}
 FitsPart l g (Install kind generation hand) = CanInstall g hand
@@ -123,13 +124,13 @@ FitsPart l g LoseLowest = Unit {0}
 FitsPart l g Die = g.phase ≢ empty
 FitsPart l g Empty = Unit {0}
 
--- what changes of the slots and of the guest can be made: an Empty guest's map stays
+-- the changes of the slots and of the guest can be made; an Empty guest's map stays
 pub record PartsFit (l : Layout) (h : Changes) (g : Guest) : Type 0 where
   pub slot : FitsTable h.slot
   pub mapped : is_some h.guest ≡ true → g.phase ≢ empty
   pub part : FitsPart l g h.part
 
--- so is it of what a step decides to change in a legal state of bounded numbers
+-- the changes that a step decides on in a legal state of bounded numbers can be made
 abbrev pub PartChangesFit : Type 0
 PartChangesFit =
     (l : Layout) (s : Reference) (cpu : ℕ) (slot : Option ℕ) (step : Step) (h : Changes)

@@ -1,4 +1,4 @@
--- The condition that a call's changes give to the frames that they touch, by the changes alone.
+-- The condition of the frames that a call's changes touch, from the changes only.
 use Rattle.std.specs.Prelude.{◌≡◌, ℕ, ◌+◌, ◌-◌, true, false, ◌&&◌, ◌<◌, unwrap_or, Option, Some, None}
 use Rattle.descriptor.specs.declared.State.TheVariants.{SharedOwned, SharedBorrowed}
 use Rattle.reference_model.specs.declared.changes.Changes.{Changes}
@@ -14,8 +14,8 @@ use Rattle.reference_model.specs.model.State.{Contents}
 use Rattle.reference_model.specs.model.Step.{is_touched, rule_of, fails, made}
 use Rattle.reference_model.specs.model.Used.{used_of, put_back}
 
--- the condition of a frame of the range, counted from its first, where the host gives its page
--- away: to the guest whose page changes too, or to the hypervisor
+-- the condition of a frame of the range, counted from its first, if the host gives its page away:
+-- to the guest whose page also changes, or to the hypervisor
 abbrev pub given_away : ℕ → Option ℕ → Changes → ℕ → Condition
 given_away cpu slot h i =
     elim (h.guest) [
@@ -23,25 +23,26 @@ given_away cpu slot h i =
       | None ↦ hyps (use_by cpu h.cpu.hand)
     ]
 
--- where the host shares it: with the guest whose page changes too, or with the hypervisor
+-- its condition if the host shares it: with the guest whose page also changes, or with the
+-- hypervisor
 abbrev pub lent_out : Option ℕ → Changes → ℕ → Condition
 lent_out slot h i =
     elim (h.guest)
     [ Some c ↦ with_guest (unwrap_or slot 0) (c.range.first.0 + i) | None ↦ with_hyp ]
 
--- where the host borrows it: from the guest whose page changes too
+-- its condition if the host borrows it: from the guest whose page also changes
 abbrev pub borrowed : Option ℕ → Changes → ℕ → Condition
 borrowed slot h i =
     elim (h.guest) [ Some c ↦ lent_back (unwrap_or slot 0) (c.range.first.0 + i) | None ↦ hosts ]
 
--- the condition by what the host's pages get
+-- the condition of the frame, from the entry that the host's pages get
 abbrev pub condition_by : ℕ → Option ℕ → Changes → ℕ → Entry → Condition
 condition_by cpu slot h i (Annotated owner) = given_away cpu slot h i
 condition_by cpu slot h i (Leaf frame prot kind SharedOwned) = lent_out slot h i
 condition_by cpu slot h i (Leaf frame prot kind SharedBorrowed) = borrowed slot h i
 condition_by cpu slot h i other = hosts
 
--- the condition of a touched frame; where the host's map stays, it goes to the guest's pool
+-- the condition of a touched frame; if the host's map stays, the frame goes to the guest's pool
 abbrev pub told_condition : ℕ → Option ℕ → Changes → ℕ → Condition
 told_condition cpu slot h f =
     elim (h.host) [

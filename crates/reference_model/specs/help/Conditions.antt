@@ -1,5 +1,5 @@
--- The invariant of runs: each memory frame is in one condition, and all that a state says of the
--- frame follows from its condition.
+-- The invariant of runs: each memory frame is in one condition, and its entries, holders and row in
+-- a state follow from the condition.
 use Rattle.std.specs.Prelude.{◌≡◌, ◌≢◌, ℕ, ◌+◌, ◌≤◌, ◌<◌, ◌⊎◌, Bool, true, false, ◌==◌, Some, None, if◌then◌else◌}
 use Rattle.descriptor.specs.declared.Prot.{Prot}
 use Rattle.descriptor.specs.declared.Prot.TheVariants.{RW, RWX}
@@ -35,7 +35,8 @@ pub data Condition : Type 0 where
   guests : (v page : ℕ) → Condition
   lent_back : (v page : ℕ) → Condition
 
--- what the host's map may say of the page: only its own frame, in the state of the condition
+-- the entries that the host's map may have at the page: only the page's own frame, in the state of
+-- the condition
 abbrev pub HostFits : ℕ → Condition → Entry → Type 0
 HostFits p outside e = (e ≡ Unmapped) ⊎ (e ≡ device_leaf p)
 HostFits p hosts e = (e ≡ Unmapped) ⊎ (e ≡ leaf RWX p Owned)
@@ -45,7 +46,7 @@ HostFits p (with_guest v g) e = e ≡ leaf RWX p SharedOwned
 HostFits p (guests v g) e = e ≡ annotation (2 + v)
 HostFits p (lent_back v g) e = e ≡ leaf RWX p SharedBorrowed
 
--- what the hypervisor's map says of its page of the frame
+-- the entry of the hypervisor's map at its page of the frame
 abbrev pub hyp_says : ℕ → Condition → Entry
 hyp_says f with_hyp = leaf RW f SharedBorrowed
 hyp_says f (hyps usage) = leaf RW f Owned
@@ -66,7 +67,7 @@ pub record IsGuestLeaf (condition : ℕ → Condition) (v g : ℕ) (e : Entry) :
   pub leaf_is : e ≡ leaf prot frame state
   pub named : condition frame ≡ guest_condition state v g
 
--- what a guest's map may say of a page
+-- the entries that a guest's map may have at a page
 abbrev pub GuestFits : (ℕ → Condition) → ℕ → ℕ → Entry → Type 0
 GuestFits condition v g e = (e ≡ Unmapped) ⊎ IsGuestLeaf condition v g e
 
@@ -74,7 +75,7 @@ GuestFits condition v g e = (e ≡ Unmapped) ⊎ IsGuestLeaf condition v g e
 abbrev pub IsMemoryLeaf : ℕ → State → Entry → Type 0
 IsMemoryLeaf f state e = (prot : Prot) × (e ≡ leaf prot f state)
 
--- all maps say what the conditions ask, and nothing else is mapped
+-- all maps have the entries of the conditions, and map nothing else
 pub record MapsFit (s : Contents) (condition : ℕ → Condition) : Type 0 where
   pub host : (p : ℕ) → HostFits p (condition p) (s.shared.host.map p)
   pub hyp : (f : ℕ) → s.shared.hyp.map (hyp_page f) ≡ hyp_says f (condition f)
@@ -89,7 +90,7 @@ abbrev pub is_inside : Condition → Bool
 is_inside outside = false
 is_inside other = true
 
--- the numbers in a condition are those of a guest, of a page of its tree, and of a CPU
+-- the numbers in a condition are in range: a guest, a page of its tree, a CPU
 abbrev pub IsGood : Layout → Condition → Type 0
 IsGood l (hyps (VmPool v)) = v < 64
 IsGood l (hyps (InHand c)) = c < l.config.cpus
@@ -113,7 +114,7 @@ abbrev pub in_hand : ℕ → Condition → Bool
 in_hand c (hyps (InHand d)) = d == c
 in_hand c other = false
 
--- 1 where a test holds
+-- 1 if a test holds, else 0
 abbrev pub one : Bool → ℕ
 one b = if b then 1 else 0
 
@@ -130,13 +131,13 @@ shared_uses depth x f =
 abbrev pub guest_uses : ℕ → Guest → ℕ → ℕ
 guest_uses depth g f = frame_count f g.free + table_uses depth g.tree f
 
--- each frame is held once, and there alone where its condition says
+-- each frame is held only in the place of its condition, and once there
 pub record HeldFit (l : Layout) (s : Contents) (condition : ℕ → Condition) : Type 0 where
   pub shared : (f : ℕ) → shared_uses l.depth s.shared f ≡ one (in_shared (condition f))
   pub vm : (v f : ℕ) → guest_uses l.depth (s.guest v) f ≡ one (in_vm v (condition f))
   pub hand : (c f : ℕ) → is_in_hand (s.cpu c).hand f ≡ in_hand c (condition f)
 
--- the row of a frame by its condition
+-- the row of a frame in a condition
 abbrev pub row_in : ℕ → Condition → Row
 row_in f with_hyp = record plain_row { lent = Some (lent_at 1 (hyp_page f)) }
 row_in f (hyps usage) = record { owner = record { 0 = 1 }; lent = None; usage = usage }

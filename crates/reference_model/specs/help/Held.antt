@@ -1,4 +1,4 @@
--- From what there is, parts and their logs, to a longer history: the law that code's step ends in.
+-- From the parts and their logs to a longer history: the law that code's step ends in.
 use Rattle.std.specs.Prelude.{◌≡◌, ◌+◌, ◌<◌, Bool, false, List, [], ◌∷◌, ◌++◌, length}
 use Rattle.call_table.specs.declared.reply.Call.{Call}
 use Rattle.reference_model.specs.model.Boot.{CanBoot}
@@ -11,7 +11,7 @@ use Rattle.reference_model.specs.model.Rules.{names, guest_slot}
 use Rattle.reference_model.specs.model.Used.{Used, UsedRooms}
 use Rattle.reference_model.specs.model.Stored.{held_state}
 
--- a step on what a call uses of what there is, stored there, makes the history longer
+-- a step on the parts that a call uses, stored in their logs, makes the history longer
 abbrev pub HistorySteps : Type 0
 HistorySteps =
     (l : Layout) (before after : Kept) (log : List Call) (c : Call) (y : Used) (q : UsedRooms)
@@ -23,8 +23,7 @@ HistorySteps =
     → StoresCall c (with_used c (held_state l before) y q).contents before after
     → IsHistory l after (log ++ c ∷ [])
 
--- a call that code does on what there is, with room in each log, and stores, makes the history
--- longer
+-- a call that code makes on the parts, with room in each log, and stores, makes the history longer
 abbrev pub CallGrows : Type 0
 CallGrows =
     (l : Layout) (before after : Kept) (log : List Call) (c : Call) (wants : Bool) (y : Used)

@@ -7,7 +7,7 @@ use Rattle.reference_model.specs.model.Run.{IsRun}
 use Rattle.page_state.specs.Trees.{Pool}
 use Rattle.reference_model.specs.model.State.{Contents, Reference}
 
--- each frame is lower than those behind it: the pool is a set, and its first frames are its lowest
+-- each frame is lower than those after it: the pool is a set, and its first frames are its lowest
 abbrev pub IsInOrder : Pool → Type 0
 IsInOrder free = AllPairs (λ f g. f < g) free
 

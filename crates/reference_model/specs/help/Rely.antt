@@ -1,4 +1,5 @@
--- What a step may rely on if the parts that it uses are those of a state that a run leaves.
+-- The facts that a step may rely on if the parts that it uses are those of a state that a run
+-- leaves.
 use Rattle.std.specs.Prelude.{◌≡◌, ℕ, ◌<◌, Bool, Option, Some, None, Ok}
 use Rattle.call_table.specs.declared.reply.Reply.{Reply}
 use Rattle.call_table.specs.declared.step.Step.{Step}
@@ -13,9 +14,9 @@ use Rattle.reference_model.specs.model.Step.{rule_of, fails, made, changed, Answ
 use Rattle.reference_model.specs.model.Used.{Used}
 use Rattle.reference_model.specs.model.Reached.{IsReached}
 
--- what a step may rely on: its slot is one of the 64, what it decides to change can be written in
--- the maps and made of the slots and the guest, and the rows that it finds again are those that its
--- changes tell
+-- the facts that a step may rely on: its slot is one of the 64; the changes that it decides on can
+-- be written in the maps and made to the slots and the guest; and the rows that it finds again are
+-- those that follow from its changes
 pub record CanRely (l : Layout) (cpu : ℕ) (slot : Option ℕ) (step : Step) (x : Used) : Type 0 where
   pub slot_low : (v : ℕ) → slot ≡ Some v → v < 64
   pub fit : (h : Changes) → decides l cpu slot step x ≡ Ok h → AllFit l.depth h
@@ -26,7 +27,7 @@ pub record CanRely (l : Layout) (cpu : ℕ) (slot : Option ℕ) (step : Step) (x
       ≡ with_told l cpu slot (rule_of l cpu slot step x).changes
       (changed l.depth (rule_of l cpu slot step x).changes x)
 
--- so it may where a run leaves what it uses
+-- a step may rely on them if the parts that it uses are those of a state that a run leaves
 abbrev pub ReachedRelies : Type 0
 ReachedRelies =
     (l : Layout) (cpu : ℕ) (slot : Option ℕ) (step : Step) (x : Used)
@@ -35,7 +36,7 @@ ReachedRelies =
     → ∥ IsReached l (names step) slot cpu x ∥₁
     → CanRely l cpu slot step x
 
--- and then carrying out the decision answers the step
+-- a step that may rely on them is answered by carrying out its decision
 abbrev pub RelyingAnswers : Type 0
 RelyingAnswers =
     (l : Layout) (cpu : ℕ) (slot : Option ℕ) (step : Step) (x : Used) (wants : Bool) (h : Changes)

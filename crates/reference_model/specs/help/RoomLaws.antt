@@ -19,7 +19,7 @@ pub record RoomsFall (c : Call) (before after : Rooms) : Type 0 where
   pub guest : (v : ℕ) → after.guest v + one (call_uses (guest_part v) c) ≡ before.guest v
   pub cpu : (cpu : ℕ) → after.cpu cpu + one (c.cpu == cpu) ≡ before.cpu cpu
 
--- each stored call lowers just the rooms of its used logs by one
+-- each stored call takes one from the room of each log that it uses, and from no other
 abbrev pub StoredFalls : Type 0
 StoredFalls =
     (l : Layout) (s t : Reference) (c : Call)

@@ -1,4 +1,4 @@
--- The row that a call's changes give to the frames that they touch, by the changes alone.
+-- The rows of the frames that a call's changes touch, from the changes only.
 use Rattle.std.specs.Prelude.{ℕ, true, false, ◌-◌, ◌&&◌, option_map, unwrap_or, Option, Some, None}
 use Rattle.descriptor.specs.declared.State.TheVariants.{SharedOwned, SharedBorrowed}
 use Rattle.reference_model.specs.declared.changes.Changes.{Changes}
@@ -20,19 +20,20 @@ use Rattle.reference_model.specs.model.State.{plain_row}
 use Rattle.reference_model.specs.model.Step.{is_touched}
 use Rattle.reference_model.specs.model.Used.{Used}
 
--- the use of frames that the hypervisor gets: they are in the hand that the CPU gets, or in none
+-- the use of frames that the hypervisor gets: in the CPU's hand if the CPU gets a hand, else Plain
 abbrev pub use_by : ℕ → Update (Option PageRange) → Usage
 use_by cpu (Becomes (Some hand)) = InHand cpu
 use_by cpu other = Plain
 
--- the borrower of what the host shares: the hypervisor at its page, or the guest at its page
+-- the borrower of the frames that the host shares: the hypervisor at its page, or the guest at its
+-- page
 abbrev pub borrower : Option ℕ → Changes → Option Lent
 borrower slot h = elim (h.hyp) [
   | Some c ↦ Some (lent_at 1 c.range.first.0)
   | None ↦ option_map (λ c. lent_at (guest_owner slot) c.range.first.0) h.guest
 ]
 
--- the row of the first frame, by what the host's page gets
+-- the row of the first frame, from the entry that the host's page gets
 abbrev pub row_by : ℕ → Option ℕ → Changes → ℕ → Entry → Row
 row_by cpu slot h f (Annotated owner) =
     record { owner = owner; lent = None; usage = use_by cpu h.cpu.hand }
@@ -41,7 +42,7 @@ row_by cpu slot h f (Leaf frame prot kind SharedBorrowed) =
     record { owner = record { 0 = guest_owner slot }; lent = Some (lent_at 0 f); usage = Plain }
 row_by cpu slot h f other = plain_row
 
--- the row of the first frame; where the host's map stays, the frames go to the guest's pool
+-- the row of the first frame; if the host's map stays, the frames go to the guest's pool
 abbrev pub first_row : ℕ → Option ℕ → Changes → Row
 first_row cpu slot h = elim (h.host) [
   | Some c ↦ row_by cpu slot h c.range.first.0 c.entry

@@ -12,8 +12,8 @@ use Rattle.page_state.specs.Layouts.{Layout, is_memory, hyp_page}
 use Rattle.reference_model.specs.model.Owner.{row_of}
 use Rattle.page_state.specs.Tables.{Edit, put, need, edited}
 
--- the row of a frame that the Shared part holds: the hypervisor's, lent to nobody, in the shared
--- pool
+-- the row of a frame that the Shared part holds: owned by the hypervisor, lent to nobody, in the
+-- shared pool
 abbrev pub pool_row : Row
 pool_row = record { owner = record { 0 = 1 }; lent = None; usage = SharedPool }
 
@@ -42,7 +42,7 @@ module _ (l : Layout) where
   abbrev pub spare : Pool
   spare = drop 2 (frames_from carve_first l.memory.carve.count)
 
-  -- the tables that the host's tree needs beside its root
+  -- the number of tables that the host's tree needs at boot apart from its root
   abbrev pub host_need : ℕ
   host_need = need l.depth host_root host_edit
 
@@ -63,11 +63,11 @@ module _ (l : Layout) where
     row = λ f. plain_row;
   }
 
-  -- what there is at boot, before its rows are found
+  -- the contents at boot, before its rows are found
   abbrev pub boot_without_rows : Contents
   boot_without_rows = record blank { shared = boot_shared }
 
-  -- what there is at boot: the row of each memory frame is that from scratch
+  -- the contents at boot, with the row from scratch of each memory frame
   unfoldable pub booted : Contents
   booted =
       record boot_without_rows {

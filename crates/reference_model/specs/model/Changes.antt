@@ -1,4 +1,4 @@
--- What each change, as data, does to the reference state.
+-- The effect of each change, as data, on the reference state.
 use Rattle.std.specs.Prelude.{ℕ, ◌+◌, Option, Some, None, [], ◌∷◌}
 use Rattle.page_state.specs.declared.entry.Entry.{Entry}
 use Rattle.page_state.specs.declared.entry.PageRange.{PageRange}
@@ -98,6 +98,7 @@ no_changes =
       value = Nothing;
     }
 
--- the frames whose rows a call finds again: those of the host's change, or those that change use
+-- the frames whose rows a call finds again: those of the host's change, or else those that change
+-- use
 abbrev pub touched : Changes → Option PageRange
 touched h = elim (h.host) [ Some c ↦ Some c.range | None ↦ h.moved ]

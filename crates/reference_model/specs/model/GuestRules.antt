@@ -1,4 +1,4 @@
--- The call rules of the steps on a Guest part, alone or with the Shared part.
+-- The call rules of the steps on a Guest part, with or without the Shared part.
 use Rattle.std.specs.Prelude.{ℕ, ◌+◌, Bool, true, false, not, ◌&&◌, ◌||◌, ◌==◌, nat_le, nat_lt, is_some, unwrap_or, [], ◌∷◌, length, Option, Some, None, if◌then◌else◌, codes}
 use Rattle.descriptor.specs.declared.Prot.{Prot}
 use Rattle.descriptor.specs.declared.Prot.TheVariants.{RWX}
@@ -130,7 +130,7 @@ share_guest f g rights n x = record fine {
   changes = two_ranges f (leaf RWX f SharedOwned) g (leaf rights f SharedBorrowed) n;
 }
 
--- the host takes back what it shared with the guest
+-- the host takes back the page that it shared with the guest
 abbrev pub unshare_guest : VmId → ℕ → Reads → Rule
 unshare_guest vm g x = let e = guest_entry x.used g in record fine {
   valid = vm_and_page x.layout vm g;

@@ -24,14 +24,16 @@ IsStored (Refused LogFull) = ⊥
 IsStored (Refused Contended) = ⊥
 IsStored other = Unit {0}
 
--- what there is: of each part its content and its log, of each CPU its own state and its own list
+-- the parts and the CPUs with their logs: each part has its content and its log, each CPU its own
+-- state and its own log
 pub record Kept : Type 0 where
   pub vms : Vms × List Call
   pub shared : Shared × List Call
   pub guest : ℕ → Guest × List Call
   pub cpu : ℕ → Cpu × List Call
 
--- one legal history: the list is a run of stored calls, and what there is is as after it
+-- one legal history: the list is a run of stored calls, and the parts, the CPUs and their logs are
+-- as after it
 pub record IsHistory (l : Layout) (kept : Kept) (log : List Call) : Type 0 where
   pub end : Reference
   pub run : IsRun l log end

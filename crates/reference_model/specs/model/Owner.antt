@@ -1,5 +1,5 @@
--- Owner from scratch: the row of a frame, found from the maps, the pools, the tables and the hands
--- alone.
+-- Owner from scratch: the row of a frame, found only from the maps, the pools, the tables and the
+-- hands.
 use Rattle.std.specs.Prelude.{ℕ, zero, suc, ◌+◌, ◌-◌, Bool, true, false, ◌||◌, ◌==◌, nat_lt, is_some, Option, Some, None, [], ◌∷◌}
 use Rattle.descriptor.specs.declared.State.{State}
 use Rattle.descriptor.specs.declared.State.TheVariants.{SharedOwned, SharedBorrowed}
@@ -62,17 +62,17 @@ module _ (l : Layout) (s : Contents) (f : ℕ) where
   abbrev pub is_lent_to_host : Bool
   is_lent_to_host = is_some (page_of l s.shared.host.map SharedBorrowed f)
 
-  -- the owner where the host borrows the frame: the first guest that shares it, else the host
+  -- the owner of a frame that the host borrows: the first guest that shares it, else the host
   abbrev pub sharer : ℕ
   sharer = elim (guest_with SharedOwned) [ Some v ↦ 2 + v | None ↦ 0 ]
 
-  -- the owner by the host's entry of the frame's page: the number of its annotation, and else the
-  -- host, but where the host borrows the frame
+  -- the owner by the host's entry of the frame's page: the number of its annotation, the sharer of
+  -- a frame that the host borrows, and else the host
   abbrev pub owner_by : Entry → ℕ
   owner_by (Annotated owner) = owner.0
   owner_by other = elim is_lent_to_host [ true ↦ sharer | false ↦ 0 ]
 
-  -- lent to the first guest and page that map the frame SharedBorrowed, or to nobody
+  -- the loan to the first guest and page that map the frame SharedBorrowed, or none
   abbrev pub lent_to_guest : Option Lent
   lent_to_guest = elim (guest_with SharedBorrowed) [
     | Some v ↦ elim (page_of l (s.guest v).tree.map SharedBorrowed f)

@@ -1,4 +1,4 @@
--- The parts that a call uses, and where the slot of its guest is found.
+-- The parts that a call uses, and the source of its guest's slot.
 use Rattle.std.specs.Prelude.{ℕ, Bool, true, false, ◌==◌, nat_lt, is_some, is_none, option_map, Option, Some, None, if◌then◌else◌}
 use Rattle.reference_model.specs.declared.changes.Stage.{Stage}
 use Rattle.reference_model.specs.declared.changes.Stage.TheVariants.{Booked as booked, Installed as installed, Closing as closing_vm, Dying as dying_vm, Finished as finished}
@@ -11,7 +11,7 @@ pub data Part : Type 0 where
   shared_part : Part
   guest_part : ℕ → Part
 
--- the parts that a step names; the slot of the Guest part is found beside
+-- the parts that a step names; the slot of the Guest part is found separately
 pub data Names : Type 0 where
   shared : Names
   shared_and_guest : Names
@@ -23,7 +23,7 @@ pub data Names : Type 0 where
 abbrev pub is_good_vm : VmId → Bool
 is_good_vm vm = nat_lt vm.slot 64
 
--- the slot of a VmId, where there is such a slot
+-- the slot of a VmId, if it is below 64
 abbrev pub slot_of : VmId → Option ℕ
 slot_of vm = if is_good_vm vm then Some vm.slot else None
 
@@ -71,7 +71,7 @@ abbrev pub is_slot : Option ℕ → ℕ → Bool
 is_slot None v = false
 is_slot (Some u) v = v == u
 
--- whether a part is used, by what the step names and the slot that was found
+-- whether a part is used, by the parts that the step names and the slot that was found
 abbrev pub is_used : Names → Option ℕ → Part → Bool
 is_used n slot vm_part = uses_vms n
 is_used n slot shared_part = uses_shared n slot

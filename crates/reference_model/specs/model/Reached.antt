@@ -1,4 +1,4 @@
--- What a call uses, where a run leaves it.
+-- The parts that a call uses, as a run leaves them.
 use Rattle.std.specs.Prelude.{◌≡◌, ℕ, List, Option}
 use Rattle.call_table.specs.declared.reply.Call.{Call}
 use Rattle.page_state.specs.Layouts.{Layout}

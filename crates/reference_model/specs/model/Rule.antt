@@ -1,12 +1,13 @@
--- The form of a call rule: what it reads, its tests in their order with words for each, and what
--- changes on Ok.
+-- The form of a call rule: its inputs, its tests in order with a text for each, and the changes on
+-- Ok.
 use Rattle.std.specs.Prelude.{ℕ, Bool, true, Option, List, codes}
 use Rattle.page_state.specs.Layouts.{Layout}
 use Rattle.reference_model.specs.declared.changes.Changes.{Changes}
 use Rattle.reference_model.specs.model.Changes.{no_changes}
 use Rattle.reference_model.specs.model.Used.{Used}
 
--- what a rule reads: the layout, the CPU's number, the slot of its guest, and what the call uses
+-- the inputs of a rule: the layout, the CPU's number, the slot of its guest, and the parts that the
+-- call uses
 pub record Reads : Type 0 where
   pub layout : Layout
   pub id : ℕ
@@ -16,7 +17,7 @@ pub record Reads : Type 0 where
 abbrev pub reads : Layout → ℕ → Option ℕ → Used → Reads
 reads l cpu slot x = record { layout = l; id = cpu; slot = slot; used = x }
 
--- a test: whether it passes, and what is so where it fails, in words
+-- a test: whether it passes, and a text for the reason if it fails
 pub record Test : Type 0 where
   pub passes : Bool
   pub failing : List ℕ
@@ -25,7 +26,7 @@ infix 4 ◌otherwise◌
 abbrev pub ◌otherwise◌ : Bool → List ℕ → Test
 b otherwise words = record { passes = b; failing = words }
 
--- a call rule: its tests, in the order in which they are made, and what changes where each passes
+-- a call rule: its tests, in the order in which they are made, and the changes if each passes
 pub record Rule : Type 0 where
   pub valid : Test
   pub has_vm : Test

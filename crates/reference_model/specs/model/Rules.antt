@@ -1,5 +1,5 @@
--- The rule of each step: the parts that it names, where its guest is found, whether it can want
--- memory, its tests and its changes.
+-- The rule of each step: the parts that it names, the source of its guest's slot, whether it can
+-- run out of memory, its tests and its changes.
 use Rattle.std.specs.Prelude.{ℕ, Bool, true, false, Option, Some, None, List, codes}
 use Rattle.call_table.specs.declared.reply.Call.{Call}
 use Rattle.call_table.specs.declared.step.Step.{Step}
@@ -16,9 +16,9 @@ use Rattle.reference_model.specs.declared.changes.Stage.{Stage}
 use Rattle.call_table.specs.declared.step.VmId.{VmId}
 use Rattle.reference_model.specs.declared.changes.Stage.TheVariants.{Booked as booked, Closing as closing_vm, Dying as dying_vm}
 
--- what the model says of a step: the parts that it names; the slot of its Guest part, by its VmId
--- or by what the CPU has loaded or holds a ticket of; whether it can be refused for want of memory;
--- its rule; and what is so where no slot is found, in words, if the rule has none
+-- the model's data on a step: the parts that it names; the slot of its Guest part, by its VmId or
+-- by the vCPU or ticket of its CPU; whether it can be refused for lack of memory; its rule; and a
+-- text for the refusal if no slot is found, if the rule has none
 pub record StepRule : Type 0 where
   pub parts : Names
   pub slot : Cpu → Option ℕ
@@ -30,7 +30,7 @@ pub record StepRule : Type 0 where
 abbrev pub on_shared : (Reads → Rule) → StepRule
 on_shared r = record { parts = shared; slot = λ k. None; may_grow = true; rule = r; lacking = None }
 
--- on the Shared part alone, which it only looks at
+-- on the Shared part alone, which it only reads
 abbrev pub looks_at_shared : (Reads → Rule) → StepRule
 looks_at_shared r = record (on_shared r) { may_grow = false }
 
@@ -61,11 +61,11 @@ abbrev pub with_ticket : Stage → (Reads → Rule) → StepRule
 with_ticket stage r =
     record (with_loaded r) { slot = ticket_slot stage; lacking = no_ticket_of stage }
 
--- on that guest alone
+-- the same step on its guest alone
 abbrev pub alone : StepRule → StepRule
 alone s = record s { parts = guest }
 
--- such a one that can't be refused for want of memory
+-- the same step, which can't be refused for lack of memory
 abbrev pub grows_none : StepRule → StepRule
 grows_none s = record s { may_grow = false }
 
@@ -110,15 +110,15 @@ step_rule VmRelease = on_vms vms vm_release
 abbrev pub names : Step → Names
 names step = (step_rule step).parts
 
--- the slot of the Guest part that a step names; none where there is none
+-- the slot of the Guest part that a step names; None if it names none or none is found
 abbrev pub guest_slot : Cpu → Step → Option ℕ
 guest_slot k step = (step_rule step).slot k
 
--- the steps that can be refused for want of memory
+-- the steps that can be refused for lack of memory
 abbrev pub may_grow : Step → Bool
 may_grow step = (step_rule step).may_grow
 
--- the rule of a step of a CPU, with the slot of its guest and what it uses
+-- the rule of a step of a CPU, from the slot of its guest and the parts that it uses
 unfoldable pub rule : Layout → ℕ → Option ℕ → Step → Used → Rule
 rule l cpu slot step x = (step_rule step).rule (reads l cpu slot x)
 

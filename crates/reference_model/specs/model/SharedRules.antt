@@ -32,7 +32,7 @@ host_entry x f = x.shared.host.map f
 abbrev pub hyp_entry : Used → ℕ → Entry
 hyp_entry x f = x.shared.hyp.map (hyp_page f)
 
--- what a share changes of the host's tree
+-- the change of the host's tree for a share
 abbrev pub host_share : ℕ → Option MapChange
 host_share f = change f 1 (leaf RWX f SharedOwned)
 
@@ -75,7 +75,7 @@ is_plain other = false
 abbrev pub no_range : PageRange
 no_range = record { first = record { 0 = 0 }; count = 0 }
 
--- the CPU's hand, and a range of no frame where it is empty
+-- the CPU's hand, or an empty range if it has none
 abbrev pub hand_of : Cpu → PageRange
 hand_of k = unwrap_or k.hand no_range
 
@@ -118,7 +118,7 @@ abort_leaf r first = if is_memory_kind r.kind then leaf RWX first Owned else dev
 abbrev pub abort_depth : Map → Region → ℕ → ℕ
 abort_depth m r page = if may_map m r 2 page then 2 else if may_map m r 1 page then 1 else 0
 
--- what host_abort changes of the host's tree
+-- the change of the host's tree for host_abort
 unfoldable pub abort_edit : Map → Option Region → ℕ → Option MapChange
 abort_edit m None page = None
 abort_edit m (Some r) page =
@@ -126,7 +126,7 @@ abort_edit m (Some r) page =
     if is_unmapped (m page) then change (first_page b) (span b) (abort_leaf r (first_page b))
     else None
 
--- the host takes back what it shared with the hypervisor
+-- the host takes back the page that it shared with the hypervisor
 abbrev pub unshare_hyp : ℕ → Reads → Rule
 unshare_hyp f x = record fine {
   valid = memory_frame x.layout f;

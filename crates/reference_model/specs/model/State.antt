@@ -1,5 +1,5 @@
 -- The reference state: what the VM part, the Shared part, the Guest parts and the CPUs hold, and
--- the rooms of their logs.
+-- the room left in each of their logs.
 use Rattle.std.specs.Prelude.{ℕ, ◌==◌, [], Option, None, if◌then◌else◌}
 use Rattle.reference_model.specs.declared.changes.Ticket.{Ticket}
 use Rattle.reference_model.specs.declared.changes.Loaded.{Loaded}
@@ -56,7 +56,7 @@ pub record Cpu : Type 0 where
   pub hand : Option PageRange
   pub ticket : Option Ticket
 
--- what the parts hold, and the CPUs' own states
+-- the contents of the parts, and the CPUs' own states
 pub record Contents : Type 0 where
   pub vms : Vms
   pub shared : Shared

@@ -60,7 +60,8 @@ module _ (depth : ℕ) (h : Changes) where
         (drop (shared_need x) x.free);
   }
 
-  -- the guest with its map changed from its own pool, and then what else changes of it
+  -- the guest with its map changed, which takes tables from its own pool, and then its other
+  -- changes
   unfoldable pub guest_after : Guest → Guest
   guest_after g = guest_by depth h.part (record g {
     tree = edited depth g.tree (edit_of h.guest) g.free;
@@ -77,8 +78,8 @@ module _ (depth : ℕ) (h : Changes) where
         cpu = cpu_by h.cpu x.cpu;
       }
 
--- the first of a rule's tests that fails, in this order; `lacks`: the step names a guest where
--- there is none
+-- the first of a rule's tests that fails, in this order; `lacks`: the step names a guest and there
+-- is none
 abbrev pub first_test : Rule → Bool → Option Refusal
 first_test r lacks =
     if not r.valid.passes then Some Invalid
@@ -87,7 +88,7 @@ first_test r lacks =
     else if not r.allowed.passes then Some Perm
     else None
 
--- the first refusal, where there is one, and else the second
+-- the first refusal if there is one, else the second
 abbrev pub or_else : Option Refusal → Option Refusal → Option Refusal
 or_else (Some why) next = Some why
 or_else None next = next
@@ -98,7 +99,7 @@ refusal depth r lacks x =
     or_else (first_test r lacks) (if is_short depth r.changes x then Some NoPool else None)
 
 module _ (l : Layout) (cpu : ℕ) (slot : Option ℕ) (step : Step) where
-  -- the owner row from scratch over what a call uses: its parts and its CPU's own hand
+  -- the owner row from scratch over the parts that a call uses and its CPU's own hand
   unfoldable pub own_row : Used → ℕ → Row
   own_row x f = row_of l (put_back (names step) slot cpu blank x) f
 
@@ -130,7 +131,7 @@ module _ (l : Layout) (cpu : ℕ) (slot : Option ℕ) (step : Step) where
       elim (fails x)
       [ Some why ↦ (Refused why, x) | None ↦ (Done (rule_of x).changes.value, made x) ]
 
-  -- made: no test fails, and all that the rule says has changed
+  -- made: no test fails, and all changes of the rule are made
   pub record IsMade (x : Used) (reply : Reply) (y : Used) : Type 0 where
     pub passes : fails x ≡ None
     pub reply_is : reply ≡ Done (rule_of x).changes.value
@@ -143,7 +144,7 @@ module _ (l : Layout) (cpu : ℕ) (slot : Option ℕ) (step : Step) where
     pub reply_is : reply ≡ Refused why
     pub next : y ≡ x
 
-  -- wanting memory: no test fails, but a growth was refused, and nothing has changed
+  -- out of memory: no test fails, but the allocator refused a growth, and nothing has changed
   pub record IsWanting (wants : Bool) (x : Used) (reply : Reply) (y : Used) : Type 0 where
     pub passes : fails x ≡ None
     pub grows : may_grow step ≡ true
@@ -151,11 +152,11 @@ module _ (l : Layout) (cpu : ℕ) (slot : Option ℕ) (step : Step) where
     pub reply_is : reply ≡ Refused NoMemory
     pub next : y ≡ x
 
-  -- how a step is answered, logs apart; `wants`: memory can be wanted
+  -- the answers to a step, logs apart; `wants`: memory may run out
   abbrev pub Answered : Bool → Used → Reply → Used → Type 0
   Answered wants x reply y = IsMade x reply y ⊎ IsRefused x reply y ⊎ IsWanting wants x reply y
 
--- a log is full: the reply says so, and nothing has changed
+-- a log is full: the reply is LogFull, and nothing has changed
 pub record FindsFull (c : Call) (x : Used) (r : UsedRooms) (y : Used) (q : UsedRooms) : Type 0 where
   pub full : is_full (names c.step) c.slot r ≡ true
   pub reply : c.reply ≡ Refused LogFull
@@ -169,15 +170,15 @@ pub record IsStoredAnswer (l : Layout) (c : Call) (x : Used) (r : UsedRooms) (y 
   pub answered : Answered l c.cpu c.slot c.step true x c.reply y
   pub rooms : q ≡ stored r
 
--- the reference step on what a call uses and the rooms of its logs; a call's number is one more
--- than its CPU's log held
+-- the reference step on the parts that a call uses and the rooms of its logs; a call's number is
+-- one more than the number of calls in its CPU's log before
 pub record StepsOn (l : Layout) (c : Call) (x : Used) (r : UsedRooms) (y : Used)
     (q : UsedRooms) : Type 0 where
   pub slot : c.slot ≡ guest_slot x.cpu c.step
   pub number : c.number ≡ l.config.log - r.cpu + 1
   pub answers : FindsFull c x r y q ⊎ IsStoredAnswer l c x r y q
 
--- what a call uses of a state
+-- the parts of a state that a call uses
 abbrev pub used_by : Call → Reference → Used
 used_by c s = used_of (names c.step) c.slot c.cpu s.contents
 
@@ -185,7 +186,7 @@ used_by c s = used_of (names c.step) c.slot c.cpu s.contents
 abbrev pub rooms_by : Call → Reference → UsedRooms
 rooms_by c s = rooms_of (names c.step) c.slot c.cpu s.rooms
 
--- a state with what a call uses replaced, and the rooms of its logs
+-- a state with the parts that a call uses replaced, and the rooms of its logs
 abbrev pub with_used : Call → Reference → Used → UsedRooms → Reference
 with_used c s x r =
     record {
@@ -193,7 +194,7 @@ with_used c s x r =
       rooms = put_rooms (names c.step) c.slot c.cpu s.rooms r;
     }
 
--- the reference step: on what the call uses, and all else stays
+-- the reference step: on the parts that the call uses; all else stays
 pub record Steps (l : Layout) (s : Reference) (c : Call) (t : Reference) : Type 0 where
   pub after : Used
   pub left : UsedRooms
@@ -207,7 +208,8 @@ predict l cpu slot step x r =
     let a = answer l cpu slot step x in
     if is_full (names step) slot r then (Refused LogFull, x, r) else (a.0, a.1, stored r)
 
--- the reference step but for want of memory, as a function: the reply, and the state after it
+-- the reference step as a function, for memory that doesn't run out: the reply, and the state after
+-- it
 unfoldable pub foretell : Layout → Reference → ℕ → Step → Reply × Reference
 foretell l s cpu step =
     let n = names step in

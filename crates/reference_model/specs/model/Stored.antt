@@ -1,4 +1,4 @@
--- What there is, parts and CPUs with their logs, and a call that is stored there.
+-- The parts and the CPUs with their logs, and a call that is stored there.
 use Rattle.std.specs.Prelude.{◌≡◌, ℕ, ◌-◌, Bool, true, false, ◌==◌, List, [], ◌∷◌, ◌++◌, length}
 use Rattle.call_table.specs.declared.reply.Call.{Call}
 use Rattle.page_state.specs.Layouts.{Layout}
@@ -7,13 +7,13 @@ use Rattle.reference_model.specs.model.Parts.{vm_part, shared_part, guest_part}
 use Rattle.reference_model.specs.model.Rules.{call_uses}
 use Rattle.reference_model.specs.model.State.{Contents, Reference}
 
--- what a part or a CPU has, before and after a call: where the call uses it, the content of the
--- next state and the log with the call, and else the same
+-- a part or a CPU before and after a call: if the call uses it, it gets the content of the next
+-- state and the call at the end of its log; else it stays
 abbrev pub Stores : {X : Type 0} → Bool → Call → X → X × List Call → X × List Call → Type 0
 Stores used c next before after =
     elim used [ true ↦ after ≡ (next, before.1 ++ c ∷ []) | false ↦ after ≡ before ]
 
--- what there is stores a call that leads to a state
+-- the parts and CPUs, before and after they store a call that leads to a state
 pub record StoresCall (c : Call) (t : Contents) (before after : Kept) : Type 0 where
   pub vms : Stores (call_uses vm_part c) c t.vms before.vms after.vms
   pub shared : Stores (call_uses shared_part c) c t.shared before.shared after.shared
@@ -25,7 +25,7 @@ pub record StoresCall (c : Call) (t : Contents) (before after : Kept) : Type 0 w
 abbrev pub left_of : Layout → List Call → ℕ
 left_of l log = l.config.log - length log
 
--- what there is, as a state: a log's room is what its calls leave
+-- the state of the parts and CPUs: the room of a log is the part of its size that its calls leave
 abbrev pub held_state : Layout → Kept → Reference
 held_state l k = record {
   contents =

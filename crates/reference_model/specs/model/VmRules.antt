@@ -32,7 +32,7 @@ is_open vm x = stand_eq x.stand opened && x.generation == vm.generation
 abbrev pub is_any_loaded : Slot → Bool
 is_any_loaded x = not (all_below 8 (λ i. is_none (x.loaded i)))
 
--- what a CPU has loaded, and a vCPU of no VM where it is none
+-- the vCPU that a CPU has loaded, or a vCPU of no VM if it has none
 abbrev pub load_of : Cpu → Loaded
 load_of k = unwrap_or k.loaded (record { vm = record { slot = 0; generation = 0 }; vcpu = 0 })
 

@@ -1,5 +1,5 @@
--- Worked rows of the calls that map a page for the host, and of those that read, mostly in trees of
--- two levels.
+-- Worked rows of the calls that map a page for the host, and of the calls that read, most of them
+-- in trees of two levels.
 use Rattle.std.specs.Prelude.{◌≡◌, ℕ, [], ◌∷◌, Some, None}
 use Rattle.descriptor.specs.declared.Prot.TheVariants.{RW, RWX}
 use Rattle.descriptor.specs.declared.State.TheVariants.{Owned, SharedBorrowed}
@@ -73,8 +73,8 @@ devices = record (small 1) {
   };
 }
 
--- a page of an empty block of a device region: the block is mapped as one word; where the block
--- lies in two regions, the page alone
+-- a page of an empty block of a device region: the block is mapped as one word; if the block lies
+-- in two regions, only the page is mapped
 abbrev pub HostAbortDeviceBlock : Type 0
 HostAbortDeviceBlock =
     let r = foretell devices (with_free [] scene) 2 (HostAbort 0x905) in
@@ -98,7 +98,7 @@ halves = record (small 1) {
   };
 }
 
--- where a block lies in two regions, the one page is mapped on either side of their edge
+-- if a block lies in two regions, only one page is mapped on either side of their edge
 abbrev pub HostAbortRegions : Type 0
 HostAbortRegions =
     let r = foretell halves scene 2 (HostAbort 0x147f) in
@@ -122,7 +122,7 @@ stretches carve = record (small 2) {
   };
 }
 
--- a block needs a table above it, and one free frame is just enough
+-- a block needs a table above it, and one free frame is enough
 abbrev pub HostAbortTable : Type 0
 HostAbortTable =
     let r = foretell (stretches 7) (boot (stretches 7)) 0 (HostAbort 0x40201) in
@@ -131,7 +131,7 @@ HostAbortTable =
     ≡ Unmapped ∷ leaf RWX 0x40200 Owned ∷ leaf RWX 0x403ff Owned ∷ Unmapped ∷ [])
     × (r.1.contents.shared.host.table (2, 1) ≡ Some 0x80006) × (r.1.contents.shared.free ≡ [])
 
--- an abort is refused: a page in no region, just before and behind each; an annotated page, the
+-- an abort is refused: a page in no region, right before and after each; an annotated page, the
 -- hypervisor's or a guest's; too few free frames, and no smaller block is tried
 abbrev pub HostAbortRefused : Type 0
 HostAbortRefused =

@@ -54,7 +54,8 @@ BootBlock =
     × (s.hyp.table (1, 0x20203) ≡ None)
     × (s.free ≡ frames_from 0x40604 508)
 
--- in trees of one level: the rows of the roots, of a free frame, and of memory beside the carve-out
+-- in trees of one level: the rows of the roots, of a free frame, and of memory outside the
+-- carve-out
 abbrev pub BootOwners : Type 0
 BootOwners =
     let s = (boot (small 0)).contents.shared in
@@ -91,7 +92,7 @@ UnshareTables =
     × (s.free ≡ 0x40607 ∷ frames_from 0x40608 56)
     × (s.host.map 0x40100 ≡ leaf RWX 0x40100 Owned) × (s.hyp.map 0x4040100 ≡ Unmapped)
 
--- a carve-out of eight frames is just enough for the boot and a share, and the pool is then empty
+-- a carve-out of eight frames suffices for the boot and a share, and the pool is then empty
 abbrev pub ShareEnough : Type 0
 ShareEnough = let r = foretell (layout 8 64) (boot (layout 8 64)) 0 (ShareHyp 0x40100) in
     (r.0 ≡ ok)

@@ -1,4 +1,5 @@
--- Worked rows of the conditions of a frame: what each says of frame 5, and how calls move it.
+-- Worked rows of the conditions of a frame: the entries, holders and row of frame 5 in each, and
+-- the moves that calls make.
 use Rattle.std.specs.Prelude.{◌≡◌, ℕ, true, false, List, [], ◌∷◌, map, Some, None}
 use Rattle.descriptor.specs.declared.Prot.TheVariants.{RW, RWX}
 use Rattle.descriptor.specs.declared.State.TheVariants.{Owned, SharedOwned, SharedBorrowed}
@@ -26,7 +27,7 @@ each =
 abbrev pub of_each : {X : Type 0} → (Condition → X) → List X
 of_each f = map f each
 
--- the host's page where the frame is no memory, and where it is the host's alone
+-- the host's page if the frame is no memory, and if only the host has it
 abbrev pub HostAloneRow : Type 0
 HostAloneRow =
     HostFits 5 outside Unmapped
@@ -39,7 +40,7 @@ HostAloneRow =
     × ¬ HostFits 5 hosts (leaf RWX 5 SharedOwned)
     × ¬ HostFits 5 hosts (annotation 1)
 
--- and where another has a part in it
+-- the host's page if another component shares, borrows or owns the frame
 abbrev pub HostSharedRow : Type 0
 HostSharedRow =
     HostFits 5 with_hyp (leaf RWX 5 SharedOwned)
@@ -62,7 +63,7 @@ HypRow =
     ∷ (leaf RW 5 SharedBorrowed
     ∷ (leaf RW 5 Owned ∷ (Unmapped ∷ (Unmapped ∷ (Unmapped ∷ []))))))
 
--- what a guest's page says of the frame that it maps
+-- the condition of the frame that a guest's page maps
 abbrev pub GuestRow : Type 0
 GuestRow =
     (guest_condition Owned 2 9 ≡ guests 2 9)

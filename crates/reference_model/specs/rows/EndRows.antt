@@ -1,5 +1,5 @@
--- Worked rows of the calls that end a guest, in trees of two levels, and of one level where a whole
--- guest is searched.
+-- Worked rows of the calls that end a guest, in trees of two levels, and of one level for searches
+-- of a whole guest.
 use Rattle.std.specs.Prelude.{◌≡◌, [], ◌∷◌, Some, None}
 use Rattle.descriptor.specs.declared.Prot.TheVariants.{RW, RWX}
 use Rattle.descriptor.specs.declared.State.TheVariants.{Owned, SharedOwned, SharedBorrowed}
@@ -36,7 +36,7 @@ MarkDyingRefused =
     × Refuses (small 1) scene 7 MarkDying NoVm
     × Refuses (small 1) scene 8 MarkDying NoVm
 
--- a page that a Dying guest owned is nobody's entry: unmapped on both sides
+-- a page that a Dying guest owned is unmapped on both sides
 abbrev pub ReclaimPageOwned : Type 0
 ReclaimPageOwned =
     let r = foretell (small 1) scene 2 (ReclaimPage (vm 5 3) 1) in

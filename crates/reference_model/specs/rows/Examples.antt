@@ -1,4 +1,4 @@
--- Worked rows: what the definitions answer on small layouts and states written out, each proved on
+-- Worked rows: values of the definitions on small layouts and on states written out, each proved on
 -- the contract of `worked_rows`.
 use Rattle.std.specs.Prelude.{◌≡◌, ℕ, [], ◌∷◌, length, Some, None}
 use Rattle.descriptor.specs.declared.Prot.TheVariants.{RW, RWX}
@@ -59,8 +59,8 @@ first_share l f = share l (boot l) 0 f
 abbrev pub need_of : ℕ → ℕ → Entry → ℕ
 need_of first count entry = need 2 (root_tree 2 0) (put first count entry)
 
--- two pages on either side of a block's edge need three tables; an aligned block none at its own
--- level, but for a frame that isn't aligned; what isn't mapped needs none
+-- two pages on either side of a block's edge need three tables; an aligned block needs none at its
+-- own level, unless its frame isn't aligned; a range that isn't mapped needs none
 abbrev pub NeedRow : Type 0
 NeedRow =
     (need_of 0x401ff 2 (leaf RWX 0x401ff Owned) ≡ 3)
@@ -78,7 +78,7 @@ SplitRow =
     × (split.table (1, 0x201) ≡ Some 2)
     × (need 2 split (put 0x40300 1 (leaf RWX 0x40300 Owned)) ≡ 0)
 
--- in trees of one level less: where the last mapped page of a block is unmapped, the block's table
+-- in trees of one level less: if the last mapped page of a block is unmapped, the block's table
 -- goes, and the root stays
 abbrev pub RemovalRow : Type 0
 RemovalRow =
@@ -91,8 +91,8 @@ RemovalRow =
     × (gone.table (2, 0) ≡ Some 0)
 
 -- there too: a page of a mapped block is shared, which splits the block, and the share ends: the
--- block is one word again, and its table goes; where the page has another state in the end, the
--- table stays
+-- block is one word again, and its table goes; if the page has another state at the end, the table
+-- stays
 abbrev pub FoldRow : Type 0
 FoldRow =
     let block = edited 1 (root_tree 1 0) (put 0x200 512 (leaf RWX 0x200 Owned)) [] in
@@ -105,7 +105,7 @@ FoldRow =
     × (folded.map 0x300 ≡ leaf RWX 0x300 Owned)
     × (returned 1 split (put 0x301 1 (leaf RWX 0x301 SharedOwned)) ≡ [])
 
--- pages whose frames advance are one word only where the first frame is aligned
+-- pages whose frames advance are one word only if the first frame is aligned
 abbrev pub UnalignedRow : Type 0
 UnalignedRow =
     let pages = edited 1 (root_tree 1 0) (put 0x200 511 (leaf RWX 0x201 Owned)) (1 ∷ []) in
@@ -132,14 +132,14 @@ ShareRow = let r = first_share (layout 64 64) 0x40100 in
     × (r.1.contents.shared.hyp.map 0x4040100 ≡ leaf RW 0x40100 SharedBorrowed)
     × (free_count r.1 ≡ 56)
 
--- and leaves the pages beside it
+-- and leaves the pages next to it
 abbrev pub BesideRow : Type 0
 BesideRow = let r = first_share (layout 64 64) 0x40100 in
     (r.1.contents.shared.host.map 0x40101 ≡ Unmapped)
     × (r.1.contents.shared.host.map 0x40600 ≡ annotation 1)
     × (r.1.contents.shared.hyp.map 0x4040600 ≡ leaf RW 0x40600 Owned)
 
--- a share whose tables are there takes none
+-- a share whose tables exist takes no frame
 abbrev pub NearRow : Type 0
 NearRow = let r = first_share (layout 64 64) 0x40700 in (r.0 ≡ ok) × (free_count r.1 ≡ 58)
 
@@ -177,7 +177,7 @@ abbrev pub FullLogRow : Type 0
 FullLogRow =
     (share (layout 64 1) (first_share (layout 64 1) 0x40100).1 0 0x9000).0 ≡ Refused LogFull
 
--- and where the Shared part's is, though another CPU's has room
+-- and if the Shared part's log is full, though another CPU's has room
 abbrev pub FullSharedRow : Type 0
 FullSharedRow =
     (share (layout 64 1) (first_share (layout 64 1) 0x9000).1 1 0x40100).0 ≡ Refused LogFull
@@ -187,8 +187,8 @@ abbrev pub RoomRow : Type 0
 RoomRow = let r = first_share (layout 64 64) 0x9000 in
     (r.1.rooms.shared ≡ 63) × (r.1.rooms.cpu 0 ≡ 63) × (r.1.rooms.cpu 1 ≡ 64)
 
--- where the host borrows a frame at a page that isn't the frame's own, the guest that shares the
--- frame is its owner still
+-- if the host borrows a frame at a page that isn't the frame's own, the guest that shares the frame
+-- is still its owner
 abbrev pub OwnerRow : Type 0
 OwnerRow =
     let host = record no_tree { map = put_at empty_map 3 (leaf RWX 7 SharedBorrowed) } in

@@ -1,5 +1,5 @@
--- Worked rows of owner rows found from scratch, and of those that steps keep, in trees of one
--- level, where pages and frames are below 512.
+-- Worked rows of owner rows found from scratch, and of the rows that steps keep, in trees of one
+-- level, with pages and frames below 512.
 use Rattle.std.specs.Prelude.{◌≡◌, ℕ, [], ◌∷◌, Some}
 use Rattle.descriptor.specs.declared.Prot.TheVariants.{RW, RWX}
 use Rattle.descriptor.specs.declared.State.TheVariants.{Owned, SharedOwned, SharedBorrowed}
@@ -143,8 +143,8 @@ OwnersFound =
     ≡ row 5 Plain ∷ lent_row 5 0 0x101 ∷ lent_row 0 6 16 ∷ lent_row 0 1 0x50 ∷ plain_row
     ∷ plain_row ∷ []
 
--- where several borrow a frame, it is lent to the first: the hypervisor before a guest, the host
--- before both, and of guests the first by slot; where several guests share one that the host
+-- if several borrow a frame, it is lent to the first: the hypervisor before a guest, the host
+-- before both, and of guests the first by slot; if several guests share a frame that the host
 -- borrows, the first owns it
 abbrev pub FirstFound : Type 0
 FirstFound =
@@ -159,7 +159,7 @@ UsesFound =
     ≡ row 1 SharedPool ∷ row 1 SharedPool ∷ row 1 SharedPool ∷ row 1 (VmPool 3)
     ∷ row 1 (VmPool 3) ∷ row 1 (InHand 3) ∷ row 1 (InHand 3) ∷ row 1 Plain ∷ []
 
--- the rows that steps on guests' pages keep, and that of a page beside
+-- the rows that steps on guests' pages keep, and the row of a page next to them
 abbrev pub GuestKept : Type 0
 GuestKept =
     (kept 0 (DonateGuest 0x10d 9 1) 0x10d ≡ row 5 Plain)

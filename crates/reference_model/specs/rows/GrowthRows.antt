@@ -1,4 +1,4 @@
--- Worked rows of the calls that can be refused for want of memory, and of the number of a call.
+-- Worked rows of the calls that can be refused for lack of memory, and of the number of a call.
 use Rattle.std.specs.Prelude.{◌≡◌, true, false}
 use Rattle.descriptor.specs.declared.Prot.TheVariants.{RW}
 use Rattle.call_table.specs.declared.step.Step.TheVariants.{ShareHyp, UnshareHyp, DonateHyp, HypDonateHost, HostAbort, HostTranslate, HypTranslate, OwnerOf, Fund, Unfund, ShareGuest, UnshareGuest, DonateGuest, GuestShareHost, GuestUnshareHost, Install, Topup, ReclaimPage, ReclaimPool, FinishGuest, GuestRelax, GuestTranslate, MarkDying, VmReserve, VmOpen, VcpuLoad, VcpuPut, Teardown, VmRelease}
@@ -6,7 +6,7 @@ use Rattle.call_table.specs.declared.step.VmKind.TheVariants.{Protected}
 use Rattle.reference_model.specs.model.Rules.{may_grow}
 use Rattle.reference_model.specs.rows.Scene.{vm}
 
--- the calls that change a tree, a pool or a guest's root can want memory
+-- the calls that change a tree, a pool or a guest's root can run out of memory
 abbrev pub Grows : Type 0
 Grows =
     (may_grow (ShareHyp 0) ≡ true)
@@ -28,7 +28,7 @@ Grows =
     × (may_grow FinishGuest ≡ true)
     × (may_grow (GuestRelax 0 RW) ≡ true)
 
--- the calls that read alone, and those that change slots or phases, can't
+-- the calls that only read, and those that change slots or phases, can't
 abbrev pub NeverGrows : Type 0
 NeverGrows =
     (may_grow (HostTranslate 0) ≡ false)

@@ -29,8 +29,8 @@ ShareGuestMade =
     × (r.1.contents.cpu 1 ≡ scene.contents.cpu 1)
     × (r.1.contents.vms ≡ scene.contents.vms)
 
--- an Owned page is shared as well, and where tables are there none is taken; one free frame in each
--- pool is just enough where they aren't
+-- an Owned page can be shared as well; tables that exist are used, and if they don't exist, one
+-- free frame in each pool is enough
 abbrev pub ShareGuestNear : Type 0
 ShareGuestNear =
     let r = foretell (small 1) scene 1 (ShareGuest 0x1000 17 RX 1) in
@@ -117,7 +117,7 @@ DonateGuestMade =
     × (r.1.contents.guest 4 ≡ plain_guest)
     × (r.1.contents.cpu 0 ≡ scene.contents.cpu 0)
 
--- an Owned page is donated as well, and where tables are there none is taken
+-- an Owned page can be donated as well, and tables that exist take no frame
 abbrev pub DonateGuestNear : Type 0
 DonateGuestNear =
     let r = foretell (small 1) scene 0 (DonateGuest 0x1000 9 1) in

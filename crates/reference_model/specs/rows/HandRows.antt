@@ -55,7 +55,7 @@ UnfundMade =
     ≡ leaf RW 0x1003 Owned ∷ Unmapped ∷ Unmapped ∷ Unmapped ∷ [])
     × (r.1.contents.shared.free ≡ 0x1610 ∷ 0x1612 ∷ 0x1620 ∷ [])
 
--- where the hand lies in a block, that is split in both trees; the CPU's ticket stays
+-- if the hand lies in a block, the block is split in both trees; the CPU's ticket stays
 abbrev pub UnfundSplits : Type 0
 UnfundSplits =
     let r = foretell (small 1) scene 4 Unfund in
@@ -158,7 +158,7 @@ TopupDying =
     ≡ record dying_guest { free = 0x1703 ∷ 0x1704 ∷ 0x1722 ∷ 0x1724 ∷ [] })
     × (r.1.contents.cpu 7 ≡ no_cpu)
 
--- with two tables and two free frames, 508 more make just 512
+-- with two tables and two free frames, 508 more make 512, the most
 abbrev pub TopupEnough : Type 0
 TopupEnough =
     (foretell (small 1) (with_cpu 2 (record no_cpu { hand = Some (range 0x1200 508) }) scene) 2

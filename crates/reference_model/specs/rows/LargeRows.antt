@@ -19,12 +19,12 @@ use Rattle.reference_model.specs.rows.SceneState.{scene, with_free}
 abbrev pub stretch : ℕ → Region
 stretch count = record { kind = MemoryKind; pages = range 0x40000 count }
 
--- the host's map after a boot whose carve-out is behind that region
+-- the host's map after a boot whose carve-out is after that region
 abbrev pub behind : Map
 behind = update empty_map 0x80000 64 (annotation 1)
 
 -- an empty block of 262,144 pages that lies in its region is mapped whole; in a region that is one
--- page shorter, or starts behind the block's first page, the empty block of 512 is
+-- page shorter, or starts after the block's first page, the empty block of 512 is
 abbrev pub HostAbortLargest : Type 0
 HostAbortLargest =
     (abort_edit behind (Some (stretch 0x40000)) 0x51234
@@ -34,7 +34,7 @@ HostAbortLargest =
     × (abort_edit behind (Some (record (stretch 1) { pages = range 0x40001 0x3ffff })) 0x51234
     ≡ change 0x51200 512 (leaf RWX 0x51200 Owned))
 
--- where a page of the largest block isn't unmapped, the block of 512 is mapped
+-- if a page of the largest block isn't unmapped, the block of 512 is mapped
 abbrev pub HostAbortSmaller : Type 0
 HostAbortSmaller =
     abort_edit (update behind 0x40100 1 (annotation 2)) (Some (stretch 0x40000)) 0x51234

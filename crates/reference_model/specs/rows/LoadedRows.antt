@@ -1,5 +1,5 @@
--- Worked rows of the calls on a Live guest's pages, continued: refused donations, and what a guest
--- does with its own pages.
+-- Worked rows of the calls on a Live guest's pages, continued: refused donations, and the calls of
+-- a guest on its own pages.
 use Rattle.std.specs.Prelude.{◌≡◌, [], ◌∷◌}
 use Rattle.descriptor.specs.declared.Prot.TheVariants.{R, RW, RX, RWX}
 use Rattle.descriptor.specs.declared.State.TheVariants.{Owned, SharedOwned, SharedBorrowed}

@@ -15,7 +15,7 @@ abbrev pub shared_as : ℕ → ℕ → ℕ → Reply → Call
 shared_as cpu number frame reply =
     record { cpu = cpu; number = number; step = ShareHyp frame; reply = reply; slot = None }
 
--- the scene where the log of CPU 2 holds four calls, and that of CPU 3 is full
+-- the scene in which the log of CPU 2 holds four calls, and that of CPU 3 is full
 abbrev pub begun : Reference
 begun = record scene { rooms = record (all_rooms 64) { cpu = put_at (put_at (λ c. 64) 2 60) 3 0 } }
 
@@ -29,7 +29,7 @@ NumbersMade =
     (foretell (small 1) t 2 (ShareHyp 0x1401)).1
     × Steps (small 1) t (shared_as 4 1 0x1000 ok) (foretell (small 1) t 4 (ShareHyp 0x1000)).1
 
--- and no other number: not where the call is made, and not where its CPU's log of 64 calls is full
+-- and no other number, whether the call is made or its CPU's log of 64 calls is full
 abbrev pub NumbersOnly : Type 0
 NumbersOnly =
     ((number : ℕ) (t : Reference)

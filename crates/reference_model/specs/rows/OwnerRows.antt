@@ -1,4 +1,5 @@
--- Worked rows of the owner rows that each call's changes tell of the frames that it touches.
+-- Worked rows of the owner rows that follow from each call's changes for the frames that it
+-- touches.
 use Rattle.std.specs.Prelude.{◌≡◌, ℕ, [], ◌∷◌, Some}
 use Rattle.descriptor.specs.declared.Prot.TheVariants.{RW}
 use Rattle.page_state.specs.declared.row.Row.{Row}
@@ -16,14 +17,14 @@ use Rattle.reference_model.specs.model.Used.{used_of}
 use Rattle.reference_model.specs.rows.Scene.{small, vm, pages, at, row, old_row}
 use Rattle.reference_model.specs.rows.SceneState.{scene, with_guest_part, with_kept_rows}
 
--- the row of a frame after a step, as the step's changes tell it
+-- the row of a frame after a step, as it follows from the step's changes
 abbrev pub told : Layout → Reference → ℕ → Step → ℕ → Row
 told l s cpu step f =
     let slot = guest_slot (s.contents.cpu cpu) step in
     let x = used_of (names step) slot cpu s.contents in
     (with_told l cpu slot (rule l cpu slot step x).changes x).shared.row f
 
--- the same from the scene, in trees of two levels, where each frame has an old row
+-- the same from the scene, in trees of two levels, in which each frame has an old row
 abbrev pub here : ℕ → Step → ℕ → Row
 here cpu step f = told (small 1) (with_kept_rows (λ g. old_row) scene) cpu step f
 
@@ -32,8 +33,8 @@ abbrev pub lent_row : ℕ → ℕ → ℕ → Row
 lent_row owner borrower page =
     record { owner = record { 0 = owner }; lent = Some (lent_at borrower page); usage = Plain }
 
--- shared with the hypervisor, the frame is lent to its page; taken back, it is the host's alone;
--- the frames beside it keep their rows
+-- shared with the hypervisor, the frame is lent to its page; taken back, only the host has it; the
+-- frames next to it keep their rows
 abbrev pub ShareRows : Type 0
 ShareRows =
     (at (here 2 (ShareHyp 0x1401)) (0x1400 ∷ 0x1401 ∷ 0x1402 ∷ [])
@@ -57,8 +58,8 @@ FundRows =
     × (at (here 3 Unfund) (0x1003 ∷ 0x1004 ∷ 0x1005 ∷ 0x1006 ∷ [])
     ≡ old_row ∷ plain_row ∷ plain_row ∷ old_row ∷ [])
 
--- what the host maps is its own, the whole block; a device page has no row, and a mapped page and a
--- page that is read keep theirs
+-- the host owns the pages that it maps, the whole block; a device page has no row, and a mapped
+-- page and a page that is read keep theirs
 abbrev pub MapRows : Type 0
 MapRows =
     (at (here 2 (HostAbort 0x1405)) (0x13ff ∷ 0x1400 ∷ 0x15ff ∷ 0x1600 ∷ [])
@@ -67,7 +68,7 @@ MapRows =
     × (here 2 (HostAbort 0x1001) 0x1001 ≡ old_row)
     × (here 2 (HostTranslate 0x1002) 0x1002 ≡ old_row)
 
--- shared with a plain guest, the frame is lent to its page; taken back, it is the host's alone
+-- shared with a plain guest, the frame is lent to its page; taken back, only the host has it
 abbrev pub LendRows : Type 0
 LendRows =
     (at (here 1 (ShareGuest 0x1401 0x300 RW 1)) (0x1400 ∷ 0x1401 ∷ 0x1402 ∷ [])
@@ -75,8 +76,8 @@ LendRows =
     × (at (here 2 (UnshareGuest (vm 4 2) 16)) (0x1005 ∷ 0x1006 ∷ 0x1007 ∷ [])
     ≡ old_row ∷ plain_row ∷ old_row ∷ [])
 
--- a protected guest owns what it is given, also where it lends it to the host, and when it takes
--- that back
+-- a protected guest owns the frames that it is given, also while it shares them with the host, and
+-- after it takes them back
 abbrev pub GuestOwns : Type 0
 GuestOwns =
     (at (here 0 (DonateGuest 0x1401 9 1)) (0x1400 ∷ 0x1401 ∷ 0x1402 ∷ [])
@@ -94,7 +95,8 @@ PoolRows =
     × (at (here 3 (Topup (vm 4 2))) (0x1003 ∷ 0x1004 ∷ 0x1005 ∷ 0x1006 ∷ [])
     ≡ old_row ∷ row 1 (VmPool 4) ∷ row 1 (VmPool 4) ∷ old_row ∷ [])
 
--- what comes back from a Dying guest is the host's alone: its pages, its pool's frames, its root
+-- only the host has the frames that come back from a Dying guest: its pages, its pool's frames, its
+-- root
 abbrev pub EndedRows : Type 0
 EndedRows =
     let s = with_kept_rows (λ f. old_row) (with_guest_part 8 (flat_guest (pages []) []) scene) in

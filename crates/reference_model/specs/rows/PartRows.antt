@@ -16,11 +16,11 @@ abbrev pub rooms : Reference → ℕ → ℕ → List ℕ
 rooms s cpu v =
     s.rooms.vms ∷ s.rooms.shared ∷ s.rooms.guest v ∷ s.rooms.cpu cpu ∷ s.rooms.cpu (cpu + 1) ∷ []
 
--- the same rooms_after a step in trees of one level, where each log could store 64 calls
+-- the rooms of logs after a step in trees of one level, if each log can store 64 calls
 abbrev pub rooms_after : ℕ → Step → ℕ → List ℕ
 rooms_after cpu step v = rooms (foretell (small 0) scene cpu step).1 cpu v
 
--- stored in the CPU's own log alone
+-- stored only in the CPU's own log
 abbrev pub own_log : List ℕ
 own_log = 64 ∷ 64 ∷ 64 ∷ 63 ∷ 64 ∷ []
 

@@ -66,8 +66,8 @@ BlockSplit =
     × (t.contents.shared.free ≡ frames_from 0x1606 58)
     × ((t.contents.guest 0).free ≡ 0x1401 ∷ 0x1402 ∷ 0x1403 ∷ [])
 
--- a range is refused, and nothing of it is given, where its last page is the guest's; where it
--- leaves the memory or the guest's pages; and where it has more than 512 pages
+-- a range is refused, and nothing of it is given, if its last page is the guest's; if it leaves the
+-- memory or the guest's pages; and if it has more than 512 pages
 abbrev pub BlockRefused : Type 0
 BlockRefused =
     Refuses (small 1) given_block 0 (DonateGuest 0x1001 0x600 512) Perm

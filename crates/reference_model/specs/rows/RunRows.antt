@@ -74,7 +74,7 @@ LifeEnds =
     × (t.contents.shared.free ≡ frames_from 0x1e2 14)
 
 -- in trees of two levels: a protected VM gets a page in a table of its own, shares it, and is ended
--- but for its root; its table's frame comes back to its pool, and to the host with the others
+-- up to its root; its table's frame comes back to its pool, and to the host with the others
 abbrev pub LifeTables : Type 0
 LifeTables =
     let steps =
@@ -90,7 +90,7 @@ LifeTables =
     × (replies (small 1) s ends
     ≡ ok ∷ ok ∷ ok ∷ ok ∷ frame 0x1401 ∷ frame 0x1402 ∷ frame 0x1403 ∷ Refused Perm ∷ [])
 
--- a plain VM with its root alone can't have a page; with two more frames it can, and gets more
+-- a plain VM that has only its root can't get a page; with two more frames it can, and gets more
 -- rights to it
 abbrev pub PlainLife : Type 0
 PlainLife =

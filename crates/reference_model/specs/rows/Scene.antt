@@ -1,4 +1,4 @@
--- The words of the worked rows: a small layout, a state written out, and what a step shows.
+-- The terms of the worked rows: a small layout, a state written out, and the effects of a step.
 use Rattle.std.specs.Prelude.{◌≡◌, ℕ, ◌+◌, ◌*◌, ◌==◌, List, [], ◌∷◌, Option, Some, None, if◌then◌else◌}
 use Rattle.page_state.specs.declared.entry.Entry.{Entry}
 use Rattle.page_state.specs.declared.entry.Entry.TheVariants.{Unmapped}
@@ -72,7 +72,7 @@ abbrev pub at : {X : Type 0} → (ℕ → X) → List ℕ → List X
 at f [] = []
 at f (k ∷ ks) = f k ∷ at f ks
 
--- a row of nobody's loan: the owner, and the use
+-- a row without a borrower: the owner, and the use
 abbrev pub row : ℕ → Usage → Row
 row owner usage = record { owner = record { 0 = owner }; lent = None; usage = usage }
 
@@ -86,7 +86,7 @@ pub record Refuses (l : Layout) (s : Reference) (cpu : ℕ) (step : Step)
   pub reply : (foretell l s cpu step).0 ≡ Refused why
   pub left : (foretell l s cpu step).1.contents ≡ s.contents
 
--- beside the Shared part nothing has changed: no slot, no guest and nothing of the CPU
+-- only the Shared part has changed: no slot, no guest and nothing of the CPU
 abbrev pub SharedAlone : Reference → ℕ → Reference → Type 0
 SharedAlone s cpu t =
     (t.contents.vms ≡ s.contents.vms)

@@ -29,8 +29,8 @@ host_map = update (update (pages (
     ∷ (0x1011, leaf RWX 0x1011 SharedOwned)
     ∷ [])) 0x1200 512 (annotation 1)) 0x1600 512 (annotation 1)
 
--- the hypervisor's pages: one borrowed, those of the host's donations, and three that the host's
--- pages don't fit
+-- the hypervisor's pages: one borrowed page, those of the host's donations, and three that disagree
+-- with the host's pages
 abbrev pub hyp_map : Map
 hyp_map = update (update (pages (
     (0x4001001, leaf RW 0x1001 SharedBorrowed) ∷ (0x4001002, leaf RW 0x1002 Owned)
@@ -40,7 +40,7 @@ hyp_map = update (update (pages (
     ∷ (0x4001010, leaf RW 0x1010 SharedBorrowed) ∷ (0x4001011, leaf RW 0x1011 Owned)
     ∷ [])) 0x4001200 512 (leaf RW 0x1200 Owned)) 0x4001600 512 (leaf RW 0x1600 Owned)
 
--- the Shared part: tables where single pages are mapped, none on the blocks, and three free frames
+-- the Shared part: tables for single mapped pages, none at the blocks, and three free frames
 abbrev pub scene_shared : Shared
 scene_shared = record {
   host = record { map = host_map; table = tables (((2, 0), 0x1600) ∷ ((1, 8), 0x1602) ∷ []) };
@@ -99,7 +99,7 @@ dying_guest = record {
       ∷ (3, leaf RW 0x100c SharedBorrowed) ∷ []));
 }
 
--- a guest of the generation 1 with its root alone
+-- a guest of generation 1 that has only its root
 abbrev pub bare_guest : ℕ → Guest
 bare_guest root =
     record {
@@ -110,7 +110,7 @@ bare_guest root =
       tree = record { map = pages []; table = tables (((2, 0), root) ∷ []) };
     }
 
--- an Open slot of a VM with four vCPUs, where CPUs have these vCPUs loaded
+-- an Open slot of a VM with four vCPUs; CPUs have these vCPUs loaded
 abbrev pub open_slot : ℕ → VmKind → List (ℕ × Option ℕ) → Slot
 open_slot generation kind loads =
     record {

@@ -10,7 +10,7 @@ use Rattle.reference_model.specs.model.Step.{foretell}
 use Rattle.reference_model.specs.rows.Scene.{small, ok, at, Refuses, SharedAlone}
 use Rattle.reference_model.specs.rows.SceneState.{scene, with_free, lonely}
 
--- a share marks the host's page and the hypervisor's alone; the host's new table gets the lowest
+-- a share marks only the host's page and the hypervisor's; the host's new table gets the lowest
 -- free frame, the hypervisor's the next
 abbrev pub ShareHypMade : Type 0
 ShareHypMade =
@@ -24,7 +24,7 @@ ShareHypMade =
     × (r.1.contents.shared.hyp.table (1, 0x2000a) ≡ Some 0x1612)
     × (r.1.contents.shared.free ≡ 0x1620 ∷ [])
 
--- an Owned page is shared as well, and where tables are there none is taken
+-- an Owned page can be shared as well, and tables that exist take no frame
 abbrev pub ShareHypNear : Type 0
 ShareHypNear =
     let r = foretell (small 1) scene 2 (ShareHyp 0x1000) in
@@ -35,7 +35,7 @@ ShareHypNear =
     ≡ leaf RW 0x1000 SharedBorrowed ∷ leaf RW 0x1001 SharedBorrowed ∷ [])
     × (r.1.contents.shared.free ≡ 0x1610 ∷ 0x1612 ∷ 0x1620 ∷ [])
 
--- two free frames are just enough for a share that needs two tables
+-- two free frames are enough for a share that needs two tables
 abbrev pub ShareHypEnough : Type 0
 ShareHypEnough = let r =
     foretell (small 1) (with_free (0x1615 ∷ 0x1630 ∷ []) scene) 2 (ShareHyp 0x1401) in
@@ -69,8 +69,8 @@ UnshareHypMade =
     ≡ Unmapped ∷ Unmapped ∷ leaf RW 0x1002 Owned ∷ [])
     × (r.1.contents.shared.free ≡ 0x1610 ∷ 0x1612 ∷ 0x1620 ∷ [])
 
--- where it was the last page of the hypervisor's table, that table goes, and its frame comes back
--- to its place in the pool's order; the roots and the host's table stay
+-- if it was the last page of the hypervisor's table, that table goes, and its frame comes back to
+-- its place in the pool's order; the roots and the host's table stay
 abbrev pub UnshareHypRemoves : Type 0
 UnshareHypRemoves =
     let r = foretell (small 1) lonely 2 (UnshareHyp 0x1001) in
@@ -129,7 +129,7 @@ DonateHypRefused =
     × Refuses (small 1) (with_free [] scene) 2 (DonateHyp 0x1200 3) Perm
     × Refuses (small 1) (with_free (0x1610 ∷ []) scene) 2 (DonateHyp 0x1410 3) NoPool
 
--- what the hypervisor gives back is unmapped on both sides
+-- a page that the hypervisor gives back is unmapped on both sides
 abbrev pub HypDonateHostMade : Type 0
 HypDonateHostMade =
     let r = foretell (small 1) scene 2 (HypDonateHost 0x1002 2) in

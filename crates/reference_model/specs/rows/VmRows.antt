@@ -71,7 +71,7 @@ VmOpenRefused =
     × Refuses (small 1) scene 6 VmOpen NoVm
     × Refuses (small 1) scene 8 VmOpen NoVm
 
--- a vCPU is loaded by the CPU, and both say so; its slot's other vCPUs stay
+-- the CPU loads a vCPU: the CPU and the slot name each other; the slot's other vCPUs stay
 abbrev pub VcpuLoadMade : Type 0
 VcpuLoadMade =
     let r = foretell (small 1) scene 2 (VcpuLoad (vm 4 2) 2) in
@@ -110,7 +110,7 @@ VcpuPutMade =
     × ((r.1.contents.vms.slot 3).loaded 1 ≡ Some 0)
     × (r.1.contents.cpu 9 ≡ no_cpu)
 
--- it is refused where none is loaded
+-- it is refused if none is loaded
 abbrev pub VcpuPutRefused : Type 0
 VcpuPutRefused = Refuses (small 1) scene 2 VcpuPut NoVm × Refuses (small 1) scene 7 VcpuPut NoVm
 
