@@ -1,4 +1,4 @@
--- What contracts see of a component, in the words of the reference state.
+-- The view of a component in contracts, as part of the reference state.
 use Rattle.std.specs.Prelude.{◌≡◌, ℕ, ◌≤◌, List, Option, Some, None}
 use Rattle.component.specs.declared.Plan.{Plan}
 use Rattle.page_state.specs.Trees.{Tree}
@@ -23,7 +23,7 @@ pub record IsPlanFor {A : Type 0} (c : Option MapChange) (m : KeptMaplets)
 abbrev pub need_for : {A : Type 0} → TableTree A → Option MapChange → ℕ
 need_for t c = need_in t (edit_of c)
 
--- the tree after it, where the new tables get the lowest of these frames
+-- the tree after the change; the new tables get the lowest of these frames
 abbrev pub tree_after : {A : Type 0} → TableTree A → Option MapChange → List ℕ → Tree
 tree_after t c fs = after_in t (edit_of c) fs
 

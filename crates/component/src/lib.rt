@@ -1,4 +1,4 @@
-//! A tree and the maplets that say the same.
+//! A tree and the maplets of the same map.
 #![tactic(auto)]
 
 ghost use Rattle.std.specs.Prelude.{◌≡◌, ℕ, ◌+◌, ◌≤◌, ◌^◌, length, IsOk, IfOk, OnOk, OnErr, Some};
@@ -43,7 +43,7 @@ pub struct Plan<A: Allocator> {
 }
 
 impl<A: Allocator> Component<A> {
-    /// A tree in which nothing is mapped, and maplets that say so. It takes no memory.
+    /// A tree that maps nothing, with empty maplets. It takes no memory.
     pub fn new(global: Global, tree: Tree<A>) -> Component<A>
         requires { meaning tree ≡ empty_map }
         ensures { result.tree ≡ tree }
@@ -54,14 +54,14 @@ impl<A: Allocator> Component<A> {
         }
     }
 
-    /// The entry of a page, as the tree says it.
+    /// The entry of a page in the tree.
     pub fn translate(&self, page: Page) -> Entry
         ensures { result ≡ meaning self.now.tree page.0 }
     {
         self.tree.look(page)
     }
 
-    /// The tables that a change of the tree needs, and 0 where nothing changes.
+    /// The number of tables that a change of the tree needs; 0 for no change.
     pub fn need(&self, change: &Option<MapChange>) -> usize
         requires { FitsWhere (levels_below self.now.tree.geometry) change.now }
         ensures value { result ≡ need_for self.now.tree change.now }
@@ -89,7 +89,7 @@ impl<A: Allocator> Component<A> {
         }
     }
 
-    /// Makes a change in the tree and in the maplets, with the tables in hand for exactly this change. It can't fail.
+    /// Makes a change in the tree and in the maplets, with the tables reserved for exactly this change. It can't fail.
     pub fn commit(&mut self, pool: &mut Pool, plan: Plan<A>)
         requires change { FitsWhere (levels_below self.old.tree.geometry) plan.change }
         requires just { length (frames_of plan.spare.stock) ≡ need_for self.old.tree plan.change }
@@ -120,8 +120,8 @@ impl<A: Allocator> Component<A> {
         self.maplets.set(range, entry.target());
     }
 
-    /// Gives all that is in hand for a change back, and makes none: the frames to the pool, the tables to the tree's spares.
-    /// Requires that all frames are distinct and that the pool's room covers them.
+    /// Cancels a change and gives back all that is reserved for it: the frames to the pool, the tables to the tree's
+    /// spares. Requires that all frames are distinct and that the pool's room covers them.
     pub fn release(&mut self, pool: &mut Pool, plan: Plan<A>)
         requires distinct { (f : ℕ) → frame_count f (frames_of plan.spare.stock) + frame_count f pool.old.frames ≤ 1 }
         requires covered { length (frames_of plan.spare.stock) + length pool.old.frames ≤ pool.old.room }
@@ -146,8 +146,8 @@ impl<A: Allocator> Component<A> {
         &self.maplets
     }
 
-    /// Whether nothing is mapped on the block that holds a page and has `depth` levels below it, at most the root's words', as
-    /// the tree says it. It looks at one slot of each table on the page's path.
+    /// Whether the tree maps nothing on the block that holds a page and has `depth` levels below it, at most as many as
+    /// a word of the root has. It reads one slot of each table on the page's path.
     pub fn is_empty(&self, depth: u32, page: Page) -> bool
         requires { depth ≤ levels_below self.now.tree.geometry }
         ensures { result ≡ is_empty_block (meaning self.now.tree) (block_at depth page.0) }
@@ -157,9 +157,10 @@ impl<A: Allocator> Component<A> {
 }
 
 impl<A: Allocator + Copy> Component<A> {
-    /// Takes what a change needs in hand: the lowest frames of the pool, a table for each, the tree's spares first, and room
-    /// in the maplets. Requires that so many frames are free. It is refused only where the spares are too few or that room
-    /// isn't there, and memory was refused; then runs, pool and tree are as they were, but that the tree may have more spares.
+    /// Reserves all that a change needs: the lowest frames of the pool, a table for each, the tree's spares first, and
+    /// room in the maplets. Requires that this many frames are free. It is refused only if the spares or the room are
+    /// too few and the allocator refused memory; then runs, pool and tree are as they were, except that the tree may
+    /// have more spares.
     pub fn reserve(
         &mut self,
         alloc: A,

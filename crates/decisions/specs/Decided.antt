@@ -1,4 +1,4 @@
--- What a call on a guest is decided on.
+-- The inputs of the decision of a call on a guest.
 use Rattle.std.specs.Prelude.{◌≡◌, ℕ, true, false, Bool, not, ◌&&◌, ◌==◌, length, Option, Some, Result, MatchOption, if◌then◌else◌}
 use Rattle.guest_component.specs.declared.Guest.{Guest}
 use Rattle.guest_component.specs.View.{guest_of}
@@ -19,11 +19,11 @@ use Rattle.call_table.specs.declared.reply.Refusal.TheVariants.{Invalid, NoVm}
 use Rattle.call_table.specs.declared.step.Step.{Step}
 
 module _ {A : Type 0} where
-  -- what a call on the Shared part and a guest uses
+  -- the parts of a call that uses the Shared part and a guest
   abbrev pub used_with : SharedPart A → Guest A → CpuState → Used
   used_with s g k = with_guest (shared_of s) (guest_of g) (cpu_of k)
 
-  -- the result is what a call on the Shared part and the guest of a slot decides, whichever CPU
+  -- the result is the decision of a call on the Shared part and the guest of a slot, whichever CPU
   -- makes it
   abbrev pub IsDecidedByParts : Layout → ℕ → SharedPart A → Guest A → Step → Result Changes Refusal
       → Type 0
@@ -31,31 +31,30 @@ module _ {A : Type 0} where
       (id : ℕ) (k : Cpu)
       → r ≡ decides l id (Some slot) step (with_guest (shared_of s) (guest_of g) k)
 
-  -- it is that of a call on a guest alone, whichever CPU makes it, and whichever slot the guest is
-  -- of
+  -- the result is the decision of a call on a guest alone, for any CPU and any slot of the guest
   abbrev pub IsDecidedByGuest : Layout → Guest A → Step → Result Changes Refusal → Type 0
   IsDecidedByGuest l g step r =
       (id slot : ℕ) (k : Cpu) → r ≡ decides l id (Some slot) step (guest_alone (guest_of g) k)
 
-  -- it is that of a call that looks at a guest and at what its CPU holds, whatever the Shared part
-  -- is
+  -- the result is the decision of a call that reads a guest and its CPU's own state, whatever the
+  -- Shared part is
   abbrev pub IsDecidedByHolder : Layout → Guest A → CpuState → Step → Result Changes Refusal
       → Type 0
   IsDecidedByHolder l g k step r =
       (id slot : ℕ) (s : Shared)
       → r ≡ decides l id (Some slot) step (with_guest s (guest_of g) (cpu_of k))
 
--- it is that of a call that looks at what its CPU holds, whatever the parts are
+-- the result is the decision of a call that reads only its CPU's own state, whatever the parts are
 abbrev pub IsDecidedByCpu : CpuState → Step → Result Changes Refusal → Type 0
 IsDecidedByCpu k step r =
     (l : Layout) (id slot : ℕ) (s : Shared) (g : ReferenceGuest)
     → r ≡ decides l id (Some slot) step (with_guest s g (cpu_of k))
 
--- why a call on a guest that there is none of is refused, by the test of its arguments
+-- the refusal of a call on a guest if there is no such guest, by the test of its arguments
 abbrev pub unloaded_why : Bool → Refusal
 unloaded_why valid = if valid then NoVm else Invalid
 
--- the ticket that the CPU has, where it passes a test; none where it doesn't
+-- the CPU's ticket if it passes a test, else None
 abbrev pub IsTicketIf : Bool → CpuState → Option Ticket → Type 0
 IsTicketIf passes k r = MatchOption r (passes ≡ false) (λ t. (passes ≡ true) × (k.ticket ≡ Some t))
 

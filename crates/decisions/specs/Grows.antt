@@ -1,4 +1,4 @@
--- What grows no tree.
+-- Changes that grow no tree.
 use Rattle.std.specs.Prelude.{◌≡◌, false, None}
 use Rattle.call_table.specs.declared.step.Step.{Step}
 use Rattle.guest_component.specs.Wants.{MakesNone}

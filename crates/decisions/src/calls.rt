@@ -1,4 +1,5 @@
-//! What each call decides: the first of its tests that fails, or all that it changes. Nothing is changed here.
+//! The decision of each call: the refusal of the first of its tests that fails, or all its changes. Nothing is changed
+//! here.
 ghost use Rattle.std.specs.Prelude.{◌≡◌, ◌<◌, ℕ, true, false, ◌&&◌, Some, None, Err, IfOk};
 ghost use Rattle.guest_component.specs.View.{guest_depth, guest_of};
 ghost use Rattle.part_types.specs.Lent.{SharedSuits};
@@ -61,7 +62,7 @@ fn change(first: Page, count: u64, entry: Entry) -> Option<MapChange>
     })
 }
 
-/// What a call on the VM part decides.
+/// The decision of a call on the VM part.
 pub fn decide_vms(vms: &VmPart, cpu: &CpuState, step: Step) -> Result<Changes, Refusal>
     requires names { uses_vms (names step) ≡ true }
     ensures decided { (l : ReferenceLayout)
@@ -80,7 +81,7 @@ pub fn decide_vms(vms: &VmPart, cpu: &CpuState, step: Step) -> Result<Changes, R
     }
 }
 
-/// What a call on the Shared part decides.
+/// The decision of a call on the Shared part.
 pub fn decide_shared<A: Allocator>(
     layout: &Layout,
     shared: &SharedPart<A>,
@@ -111,7 +112,7 @@ pub fn decide_shared<A: Allocator>(
     }
 }
 
-/// What a call on the Shared part and a guest decides.
+/// The decision of a call on the Shared part and a guest.
 pub fn decide_with_guest<A: Allocator>(
     layout: &Layout,
     shared: &SharedPart<A>,
@@ -151,7 +152,7 @@ pub fn decide_with_guest<A: Allocator>(
     }
 }
 
-/// What a call on a guest alone decides.
+/// The decision of a call on a guest alone.
 pub fn decide_guest<A: Allocator>(
     layout: &Layout,
     guest: &Guest<A>,
@@ -173,8 +174,8 @@ pub fn decide_guest<A: Allocator>(
     }
 }
 
-/// The refusal of a call on a guest that there is none of: Invalid where the frames aren't a good range, or the pages not all
-/// input pages.
+/// The refusal of a call on a guest if there is no such guest: Invalid if the frames aren't a good range or a page
+/// isn't an input page.
 fn unloaded(layout: &Layout, pfn: u64, gfn: u64, n: u64) -> Refusal
     ensures { result
         ≡ unloaded_why

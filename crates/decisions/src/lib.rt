@@ -1,4 +1,5 @@
-//! What each call decides on the parts that it uses: the first of its tests that fails, or all that it changes.
+//! The decision of each call on the parts that it uses: the refusal of the first of its tests that fails, or all its
+//! changes.
 #![tactic(auto)]
 
 mod calls;

@@ -86,7 +86,7 @@ pub fn is_mapped(entry: Entry) -> bool
     !matches!(entry, Entry::Unmapped)
 }
 
-/// The frame of a leaf, and 0 where an entry is none.
+/// The frame of a leaf, or 0 for any other entry.
 pub(crate) fn entry_frame(entry: Entry) -> u64
     ensures { result ≡ frame_of_entry entry }
 {
@@ -96,7 +96,7 @@ pub(crate) fn entry_frame(entry: Entry) -> u64
     }
 }
 
-/// An entry with another state, where it is a leaf.
+/// A leaf with another state; any other entry stays.
 pub(crate) fn with_state(state: State, entry: Entry) -> Entry
     ensures { result ≡ with_state_of state entry }
 {
@@ -129,7 +129,7 @@ fn join(a: Prot, b: Prot) -> Prot
     }
 }
 
-/// An entry with more rights, where it is a leaf.
+/// A leaf with more rights; any other entry stays.
 pub(crate) fn with_rights(prot: Prot, entry: Entry) -> Entry
     ensures { result ≡ with_rights_of prot entry }
 {

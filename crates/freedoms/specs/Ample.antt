@@ -1,5 +1,5 @@
--- The model's step where the pools' test isn't asked, and when a judge that leaves tables and free
--- frames out agrees.
+-- The model's step without the test of the pools, and when a judge that ignores tables and free
+-- frames agrees.
 use Rattle.std.specs.Prelude.{◌≡◌, ◌⊎◌, ℕ, Bool, true, false, Option, Some, None}
 use Rattle.call_table.specs.declared.reply.Refusal.{Refusal}
 use Rattle.call_table.specs.declared.reply.Refusal.TheVariants.{NoMemory, NoPool}
@@ -33,7 +33,7 @@ abbrev pub is_done : Reply → Bool
 is_done (Done value) = true
 is_done other = false
 
--- want of memory, by either name
+-- lack of memory: NoMemory or NoPool
 abbrev pub IsWant : Reply → Type 0
 IsWant reply = (reply ≡ Refused NoMemory) ⊎ (reply ≡ Refused NoPool)
 
@@ -42,32 +42,31 @@ module _ (l : Layout) (cpu : ℕ) (slot : Option ℕ) (step : Step) where
   abbrev pub rule_fails : Used → Option Refusal
   rule_fails x = first_test (rule_of l cpu slot step x) (lacks_slot (names step) slot)
 
-  -- made: no test of the rule fails, and all that the rule says has changed
+  -- made: no test of the rule fails, and all changes of the rule are made
   pub record IsMadeAmply (x : Used) (reply : Reply) (y : Used) : Type 0 where
     pub passes : rule_fails x ≡ None
     pub reply_is : reply ≡ Done (rule_of l cpu slot step x).changes.value
     pub next : y ≡ made l cpu slot step x
 
-  -- refused: the rule's first test that fails is told, and nothing has changed
+  -- refused: the reply is the refusal of the rule's first test that fails, and nothing has changed
   pub record IsRefusedByRule (x : Used) (reply : Reply) (y : Used) : Type 0 where
     pub why : Refusal
     pub fail : rule_fails x ≡ Some why
     pub reply_is : reply ≡ Refused why
     pub next : y ≡ x
 
-  -- wanting memory, of the pools or from elsewhere: no test of the rule fails, and nothing has
-  -- changed
+  -- out of memory, in the pools or elsewhere: no test of the rule fails, and nothing has changed
   pub record IsInWant (x : Used) (reply : Reply) (y : Used) : Type 0 where
     pub passes : rule_fails x ≡ None
     pub grows : may_grow step ≡ true
     pub reply_is : IsWant reply
     pub next : y ≡ x
 
-  -- how a step is answered where its pools may hold any number of frames, logs apart
+  -- the answers to a step whose pools may hold any number of frames, logs apart
   abbrev pub AnswersAmply : Used → Reply → Used → Type 0
   AnswersAmply x reply y = IsMadeAmply x reply y ⊎ IsRefusedByRule x reply y ⊎ IsInWant x reply y
 
-  -- the same as a function, but for want of memory
+  -- the same as a function, for memory that doesn't run out
   unfoldable pub answer_amply : Used → Reply × Used
   answer_amply x =
       elim (rule_fails x) [
@@ -75,8 +74,8 @@ module _ (l : Layout) (cpu : ℕ) (slot : Option ℕ) (step : Step) where
         | None ↦ (Done (rule_of l cpu slot step x).changes.value, made l cpu slot step x)
       ]
 
--- the reply of a step, but for want of memory, and the state after it, where the pools may hold any
--- number of frames and logs aren't asked
+-- the reply of a step, unless memory runs out, and the state after it, if the pools may hold any
+-- number of frames and logs are ignored
 unfoldable pub foretell_amply : Layout → Contents → ℕ → Step → Reply × Contents
 foretell_amply l s cpu step =
     let n = names step in
@@ -84,7 +83,7 @@ foretell_amply l s cpu step =
     let r = answer_amply l cpu slot step (used_of n slot cpu s) in
     (r.0, put_back n slot cpu s r.1)
 
--- a step of a CPU leads from a state to another, where its pools may hold any number of frames
+-- a step of a CPU leads from a state to another, if its pools may hold any number of frames
 pub record StepsAmply (l : Layout) (s : Contents) (cpu : ℕ) (step : Step) (reply : Reply)
     (t : Contents) : Type 0 where
   pub after : Used
@@ -92,8 +91,8 @@ pub record StepsAmply (l : Layout) (s : Contents) (cpu : ℕ) (step : Step) (rep
       (used_of (names step) (guest_slot (s.cpu cpu) step) cpu s) reply after
   pub next : t ≡ put_back (names step) (guest_slot (s.cpu cpu) step) cpu s after
 
--- judged with own tables: some legal state that differs from the one before in tables and free
--- frames alone steps so, to one that differs so from the one after
+-- judged with own tables: some legal state that differs from the one before only in tables and free
+-- frames makes the step, to a state that differs from the one after only in these
 pub record JudgedWithOwnTables (l : Layout) (before : Contents) (cpu : ℕ) (step : Step)
     (reply : Reply) (after : Contents) : Type 0 where
   pub state : Contents
@@ -103,30 +102,30 @@ pub record JudgedWithOwnTables (l : Layout) (before : Contents) (cpu : ℕ) (ste
   pub steps : StepsAmply l state cpu step reply next
   pub ends : OwnTables next after
 
--- what a program computes: the state before steps so without any table and free frame, and what
--- comes of it has all but these of the state after
+-- the judgement that a program computes: the state before, without tables and free frames, makes
+-- the step, and the result equals the state after apart from these
 pub record IsJudgedByMaps (l : Layout) (before : Contents) (cpu : ℕ) (step : Step) (reply : Reply)
     (after : Contents) : Type 0 where
   pub next : Contents
   pub steps : StepsAmply l (without_tables before) cpu step reply next
   pub ends : OwnTables next after
 
--- what the model says of a step of a state without tables and free frames
+-- the model's reply and next state for a step from a state without tables and free frames
 abbrev pub told_bare : Layout → Contents → ℕ → Step → Reply × Contents
 told_bare l before cpu step = foretell_amply l (without_tables before) cpu step
 
--- a reply is want of memory, the step can take some, and the model makes it
+-- a reply is a lack of memory, the step may allocate, and the model makes it
 pub record WantsAnyMemory (step : Step) (reply told : Reply) : Type 0 where
   pub reply_is : IsWant reply
   pub grows : may_grow step ≡ true
   pub made : is_done told ≡ true
 
--- the reply is the model's, and so is the state after it but for tables and free frames
+-- the reply is the model's, and so is the state after it apart from tables and free frames
 pub record IsAsToldBare (reply : Reply) (after : Contents) (told : Reply × Contents) : Type 0 where
   pub reply_is : reply ≡ told.0
   pub contents_are : OwnTables told.1 after
 
--- want of memory, and nothing but tables and free frames changed
+-- memory ran out, and only tables and free frames changed
 pub record IsUnchangedBare (before : Contents) (step : Step) (reply : Reply) (after : Contents)
     (told : Reply × Contents) : Type 0 where
   pub wants : WantsAnyMemory step reply told.0

@@ -9,12 +9,11 @@ use Rattle.reference_model.specs.help.Conditions.{Condition, IsOfLayout, MapsFit
 use Rattle.reference_model.specs.claims.Sound.{tree_at}
 use Rattle.reference_model.specs.model.State.{Contents}
 
--- tables are at blocks of the tree alone
+-- tables are only at blocks of the tree
 abbrev pub IsInside : ℕ → Tree → Type 0
 IsInside depth t = (b : Block) (f : ℕ) → t.table b ≡ Some f → IsInTree depth b
 
--- each frame is in one condition, which decides all that the maps, the holders and the rows say of
--- it
+-- each frame is in one condition, which determines its entries in the maps, its holders and its row
 pub record AreFramesLegal (l : Layout) (s : Contents) : Type 0 where
   pub condition : ℕ → Condition
   pub of_layout : IsOfLayout l condition
@@ -22,8 +21,7 @@ pub record AreFramesLegal (l : Layout) (s : Contents) : Type 0 where
   pub held : HeldFit l s condition
   pub rows : RowsFit l s condition
 
--- the state is legal, but for the tables that its trees need: they are at blocks of the trees, and
--- that is all
+-- the state is legal, except that its trees' tables need only be at blocks of the trees
 pub record IsLegalButForTrees (l : Layout) (s : Contents) : Type 0 where
   pub frames : AreFramesLegal l s
   pub inside : (t : ℕ) → IsInside l.depth (tree_at s t)
@@ -35,8 +33,8 @@ abbrev pub HasRootAlone : ℕ → Tree → Type 0
 HasRootAlone depth t =
     ((g : ℕ) → t.map g ≡ Unmapped) → (b : Block) (f : ℕ) → t.table b ≡ Some f → b ≡ (depth + 1, 0)
 
--- legal in any trees: but for the tables that trees need, and a guest that loses its last page
--- gives its tables back
+-- legal in any trees: legal apart from the tables that trees need, and a guest that loses its last
+-- page gives its tables back
 pub record LegalInAnyTrees (l : Layout) (s : Contents) : Type 0 where
   pub state : IsLegalButForTrees l s
   pub emptied : (v : ℕ) → HasRootAlone l.depth (s.guest v).tree

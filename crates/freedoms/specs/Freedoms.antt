@@ -1,4 +1,4 @@
--- More freedoms beside own tables: a lazy host, any kind of a device's page, any name of a refusal;
+-- More freedoms than own tables: a lazy host, any kind of a device's page, any name of a refusal;
 -- and when a judge with these agrees.
 use Rattle.std.specs.Prelude.{◌≡◌, ◌⊎◌, ℕ, Bool, true, false, not, Some, None, if◌then◌else◌}
 use Rattle.descriptor.specs.declared.Kind.TheVariants.{Device}
@@ -21,7 +21,7 @@ use Rattle.freedoms.specs.Ample.{is_done, StepsAmply}
 use Rattle.freedoms.specs.AnyTrees.{LegalInAnyTrees}
 use Rattle.freedoms.specs.OwnTables.{OwnTables, bare_shared, without_tables}
 
--- what the host's map says of its own page: what host_abort maps there
+-- the host's entry of its own page: the one that host_abort maps there
 abbrev pub own_entry : Layout → ℕ → Entry
 own_entry l p = elim (region_of l.memory p) [ Some r ↦ abort_leaf r p | None ↦ Unmapped ]
 
@@ -72,8 +72,8 @@ is_test Busy = true
 is_test Perm = true
 is_test other = false
 
--- what is said stands for what the model says: it is the same, or, by any name, a refusal where a
--- rule's test refuses
+-- a given reply counts as the model's: it is the same, or, with the freedom of names, any refusal
+-- if a rule's test refuses
 abbrev pub SaysAs : Freedoms → Reply → Reply → Type 0
 SaysAs w told said =
     (said ≡ told)
@@ -103,9 +103,9 @@ Touches step reply after =
     → is_done reply ≡ true
     → is_unmapped (after.shared.host.map p) ≡ false
 
--- judged with freedoms: some legal state like the one before steps with a reply that the given one
--- stands for, to a state like the one after; a read is of the state itself, and a lazy host has the
--- page that it touched
+-- judged with freedoms: some legal state like the one before makes the step with a reply that the
+-- given one counts as, to a state like the one after; a read is from the state itself, and a lazy
+-- host maps the page that it touched
 pub record JudgedWith (w : Freedoms) (l : Layout) (before : Contents) (cpu : ℕ) (step : Step)
     (reply : Reply) (after : Contents) : Type 0 where
   pub state : Contents
@@ -119,8 +119,8 @@ pub record JudgedWith (w : Freedoms) (l : Layout) (before : Contents) (cpu : ℕ
   pub ends : Alike w l next after
   pub mapped : w.lazy_host ≡ true → Touches step reply after
 
--- what a program computes: what the freedoms leave of the state before steps so, and what they
--- leave of the state after it comes of that
+-- the judgement that a program computes: the state before, as far as the freedoms fix it, makes the
+-- step, and the result equals the state after as far as they fix that
 pub record IsJudgedInView (w : Freedoms) (l : Layout) (before : Contents) (cpu : ℕ) (step : Step)
     (reply : Reply) (after : Contents) : Type 0 where
   pub next : Contents

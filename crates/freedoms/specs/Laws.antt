@@ -27,7 +27,7 @@ use Rattle.freedoms.specs.declared.Freedoms.{Freedoms}
 use Rattle.freedoms.specs.Freedoms.{SaysAs, JudgedWith, Touches, no_more, view, Alike, reads_host, is_read, IsJudgedInView}
 use Rattle.freedoms.specs.OwnTables.{OwnTables, without_tables}
 
--- each stored step of the model is a step where the pools aren't asked
+-- each stored step of the model is also a step without the test of the pools
 abbrev pub AmpleSteps : Type 0
 AmpleSteps =
     (l : Layout) (s t : Reference) (c : Call)
@@ -35,8 +35,8 @@ AmpleSteps =
     → c.reply ≢ Refused LogFull
     → StepsAmply l s.contents c.cpu c.step c.reply t.contents
 
--- such a step of a legal state does the same, but for tables and free frames, where there are none,
--- and the other way round
+-- such a step from a legal state and from that state without tables and free frames gives the same,
+-- apart from these, in either direction
 pub record StepsAlike (l : Layout) (s : Contents) (cpu : ℕ) (step : Step)
     (reply : Reply) : Type 0 where
   pub down : (t : Contents)
@@ -53,8 +53,8 @@ BareSteps =
     → asks_pool step ≡ false
     → StepsAlike l s cpu step reply
 
--- where some legal state differs from the one before in tables and free frames alone, the judgement
--- with own tables is the one by maps
+-- if some legal state differs from the one before only in tables and free frames, the judgement
+-- with own tables is the judgement by maps
 abbrev pub JudgedByMaps : Type 0
 JudgedByMaps =
     (l : Layout) (before legal : Contents) (cpu : ℕ) (step : Step) (reply : Reply)
@@ -66,7 +66,7 @@ JudgedByMaps =
     ↔ IsJudgedByMaps l before cpu step reply after
 
 -- each stored step of the model from a legal state is judged to agree, whatever tables and free
--- frames are told of the states before and after it
+-- frames are reported for the states before and after it
 abbrev pub StepsJudged : Type 0
 StepsJudged =
     (l : Layout) (s t : Reference) (c : Call) (before after : Contents)
@@ -77,7 +77,8 @@ StepsJudged =
     → OwnTables t.contents after
     → JudgedWithOwnTables l before c.cpu c.step c.reply after
 
--- the judgement by maps, by what the model says of the state before without tables and free frames
+-- the judgement by maps follows from the model's step of the state before without tables and free
+-- frames
 abbrev pub JudgedByTold : Type 0
 JudgedByTold =
     (l : Layout) (before : Contents) (cpu : ℕ) (step : Step) (reply : Reply) (after : Contents)
@@ -93,7 +94,8 @@ pub record IsSpare (l : Layout) (s : Contents) (v f : ℕ) : Type 0 where
   pub row : s.shared.row f ≡ pool_row v
   pub no_root : (s.guest v).tree.table (l.depth + 1, 0) ≡ Some f → ⊥
 
--- whatever a pool's order, reclaim_pool gives a frame whose row says the pool, and not the root
+-- in any order of the pool, reclaim_pool gives a frame whose row has the pool as its use, and not
+-- the root
 abbrev pub ReclaimsSpare : Type 0
 ReclaimsSpare =
     (l : Layout) (s t : Contents) (cpu v f : ℕ) (vm : VmId)
@@ -102,7 +104,7 @@ ReclaimsSpare =
     → StepsAmply l s cpu (ReclaimPool vm) (Done (FrameOf (record { 0 = f }))) t
     → IsSpare l s v f
 
--- and finish_guest is of a guest that has a root, whose row says the pool
+-- and a guest that finish_guest ends has a root, whose row has the pool as its use
 abbrev pub FinishesRoot : Type 0
 FinishesRoot =
     (l : Layout) (s : Contents) (cpu v : ℕ)
@@ -124,12 +126,12 @@ HoldsAsMany =
     → guest_table_count l (s.guest v).tree + length (s.guest v).free
     ≡ guest_table_count l (t.guest v).tree + length (t.guest v).free
 
--- a step that leads from one state leads from another to the same, but for tables and free frames
+-- a step from one state can also be made from another, with the same result apart from tables and
+-- free frames
 abbrev pub LeadsToo : Layout → Contents → ℕ → Step → Reply → Contents → Type 0
 LeadsToo l t cpu step reply u = (w : Contents) × StepsAmply l t cpu step reply w × OwnTables u w
 
--- two legal states that differ in tables and free frames alone make the same steps, whichever the
--- tables are
+-- two legal states that differ only in tables and free frames make the same steps
 abbrev pub StepsOfAny : Type 0
 StepsOfAny =
     (l : Layout) (s t : Contents) (cpu : ℕ) (step : Step) (reply : Reply) (u : Contents)
@@ -140,7 +142,7 @@ StepsOfAny =
     → is_by_order step ≡ false
     → StepsAmply l s cpu step reply u → LeadsToo l t cpu step reply u
 
--- and reclaim_pool too, where the pool of each has the same frame first
+-- and reclaim_pool too, if the pool of each has the same frame first
 abbrev pub ReclaimsOfAny : Type 0
 ReclaimsOfAny =
     (l : Layout) (s t : Contents) (cpu v f : ℕ) (vm : VmId) (fs : List ℕ) (u : Contents)
@@ -152,8 +154,8 @@ ReclaimsOfAny =
     → StepsAmply l s cpu (ReclaimPool vm) (Done (FrameOf (record { 0 = f }))) u
     → LeadsToo l t cpu (ReclaimPool vm) (Done (FrameOf (record { 0 = f }))) u
 
--- so the judgement with own tables is one step of any one legal state that differs from the one
--- before in tables and free frames alone
+-- so the judgement with own tables is one step from any legal state that differs from the one
+-- before only in tables and free frames
 abbrev pub JudgedFromAny : Type 0
 JudgedFromAny =
     (l : Layout) (before legal : Contents) (cpu : ℕ) (step : Step) (reply : Reply)
@@ -171,7 +173,8 @@ NoMoreIsOwn =
     → JudgedWith no_more l before cpu step reply after
     ↔ JudgedWithOwnTables l before cpu step reply after
 
--- more freedoms let all that through, where a page that the host touched is mapped
+-- a judge with more freedoms accepts all these steps too, if the page that the host touched is
+-- mapped
 abbrev pub MoreLetsThrough : Type 0
 MoreLetsThrough =
     (w : Freedoms) (l : Layout) (before : Contents) (cpu : ℕ) (step : Step) (reply : Reply)
@@ -180,8 +183,8 @@ MoreLetsThrough =
     → JudgedWithOwnTables l before cpu step reply after
     → JudgedWith w l before cpu step reply after
 
--- a step of a state without tables does the same, as far as the freedoms leave it to the model, as
--- it does of what they leave of the state
+-- a step from a state without tables gives the same, as far as the freedoms fix it, as from the
+-- state as far as they fix it
 pub record StepsInView (w : Freedoms) (l : Layout) (s : Contents) (cpu : ℕ) (step : Step)
     (reply : Reply) : Type 0 where
   pub down : (t : Contents)
@@ -198,8 +201,8 @@ ViewSteps =
     → reads_host step ≡ false
     → StepsInView w l s cpu step reply
 
--- where some legal state is like the one before, the judgement with freedoms is the one of what
--- they leave
+-- if some legal state is like the one before, the judgement with freedoms is the judgement in the
+-- view that they leave
 abbrev pub JudgedInView : Type 0
 JudgedInView =
     (w : Freedoms) (l : Layout) (before legal : Contents) (cpu : ℕ) (step : Step) (reply : Reply)
@@ -216,13 +219,13 @@ abbrev pub is_pool_of : ℕ → Usage → Bool
 is_pool_of v (VmPool u) = u == v
 is_pool_of v other = false
 
--- a root and free frames are the frames whose rows say the guest's pool, each once
+-- a root and free frames are the frames whose rows have the guest's pool as their use, each once
 abbrev pub IsPoolByRows : Layout → Contents → ℕ → ℕ → List ℕ → Type 0
 IsPoolByRows l s v root free =
     (f : ℕ)
     → frame_count f (root ∷ free) ≡ one (is_memory l f && is_pool_of v (s.shared.row f).usage)
 
--- a guest with its root alone as a table, and these free frames
+-- a guest with its root as its only table, and these free frames
 abbrev pub with_root : ℕ → ℕ → List ℕ → Guest → Guest
 with_root depth root free g =
     record g
@@ -233,8 +236,8 @@ abbrev pub with_pool : Layout → ℕ → ℕ → List ℕ → Contents → Cont
 with_pool l v root free s =
     record s { guest = put_at s.guest v (with_root l.depth root free (s.guest v)) }
 
--- so a legal state that has the pool of a guest's rows, in any order, is one of the legal states
--- that differ in tables and free frames alone
+-- so a legal state with a guest's pool replaced by the frames of its rows, in any order, is one of
+-- the legal states that differ only in tables and free frames
 abbrev pub PoolsByRows : Type 0
 PoolsByRows =
     (l : Layout) (s : Contents) (v root : ℕ) (free : List ℕ)
@@ -243,7 +246,7 @@ PoolsByRows =
     → IsPoolByRows l s v root free
     → LegalInAnyTrees l (with_pool l v root free s) × OwnTables s (with_pool l v root free s)
 
--- and reclaim_pool, where that pool has the frame first that the reply names
+-- and reclaim_pool, if that pool has the frame first that the reply names
 abbrev pub ReclaimsByRows : Type 0
 ReclaimsByRows =
     (l : Layout) (before legal : Contents) (cpu v root f : ℕ) (fs : List ℕ) (vm : VmId)
@@ -257,7 +260,7 @@ ReclaimsByRows =
     ↔ LeadsToo l (with_pool l v root (f ∷ fs) legal) cpu (ReclaimPool vm)
     (Done (FrameOf (record { 0 = f }))) after
 
--- a lazy host's abort is judged so too, where besides the page that it touched is mapped
+-- a lazy host's abort is judged in this way too, if the page that it touched is also mapped
 abbrev pub AbortInView : Type 0
 AbortInView =
     (w : Freedoms) (l : Layout) (before legal : Contents) (cpu p : ℕ) (reply : Reply)
@@ -281,6 +284,6 @@ AbortOfAnyKind =
     → JudgedWith w l before cpu (HostAbort p) reply after
     ↔ IsJudgedInView w l before cpu (HostAbort p) reply after
 
--- no freedom tells what is refused as made, or what is made as refused
+-- with no freedom does a refused step count as made, or a made step as refused
 abbrev pub RefusalsStay : Type 0
 RefusalsStay = (w : Freedoms) (told said : Reply) → SaysAs w told said → is_done said ≡ is_done told

@@ -1,4 +1,4 @@
--- The freedom of own tables: two states that differ in tables and free frames alone.
+-- The freedom of own tables: two states that differ only in tables and free frames.
 use Rattle.std.specs.Prelude.{◌≡◌, []}
 use Rattle.page_state.specs.Trees.{Tree, no_tree}
 use Rattle.reference_model.specs.model.State.{Shared, Guest, Contents}
@@ -23,7 +23,7 @@ bare_guest g =
       free = [];
     }
 
--- what a call uses, without them
+-- the parts that a call uses, without tables and free frames
 abbrev pub bare_used : Used → Used
 bare_used x =
     record { vms = x.vms; shared = bare_shared x.shared; guest = bare_guest x.guest; cpu = x.cpu }

@@ -1,4 +1,5 @@
--- When a judge with freedoms agrees, by what the model says of one state: what a program computes.
+-- When a judge with freedoms agrees, by the model's step from one state: the judgement that a
+-- program computes.
 use Rattle.std.specs.Prelude.{◌⊎◌, ◌↔◌, ◌≡◌, ℕ, true}
 use Rattle.call_table.specs.declared.reply.Reply.{Reply}
 use Rattle.call_table.specs.declared.step.Step.{Step}
@@ -10,14 +11,14 @@ use Rattle.freedoms.specs.AnyTrees.{LegalInAnyTrees}
 use Rattle.freedoms.specs.Freedoms.{Alike, SaysAs, is_read, view, IsJudgedInView, JudgedWith}
 use Rattle.freedoms.specs.OwnTables.{OwnTables, without_tables}
 
--- the reply stands for the model's, and what the freedoms leave of the state after it is that of
--- the model's
+-- the reply counts as the model's, and the state after it is the model's as far as the freedoms fix
+-- it
 pub record IsAsSeen (w : Freedoms) (l : Layout) (reply : Reply) (after : Contents)
     (told : Reply × Contents) : Type 0 where
   pub says : SaysAs w told.0 reply
   pub contents_are : Alike w l told.1 after
 
--- want of memory, and nothing changed but what the freedoms leave to the hypervisor
+-- memory ran out, and nothing changed apart from the hypervisor's freedoms
 pub record IsUnchangedSeen (w : Freedoms) (l : Layout) (before : Contents) (step : Step)
     (reply : Reply) (after : Contents) (told : Reply × Contents) : Type 0 where
   pub wants : WantsAnyMemory step reply told.0
@@ -29,7 +30,7 @@ abbrev pub AgreesSeen : Freedoms → Layout → Contents → Step → Reply → 
 AgreesSeen w l before step reply after told =
     IsAsSeen w l reply after told ⊎ IsUnchangedSeen w l before step reply after told
 
--- the judgement of what the freedoms leave, by what the model says of that
+-- the judgement in the view that the freedoms leave follows from the model's step in that view
 abbrev pub SeenByTold : Type 0
 SeenByTold =
     (w : Freedoms) (l : Layout) (before : Contents) (cpu : ℕ) (step : Step) (reply : Reply)
@@ -37,8 +38,8 @@ SeenByTold =
     → IsJudgedInView w l before cpu step reply after
     ↔ AgreesSeen w l before step reply after (foretell_amply l (view w l before) cpu step)
 
--- where some legal state has all but tables and free frames of the one before, a read is judged by
--- what the model says of that state without them
+-- if some legal state equals the one before apart from tables and free frames, a read is judged by
+-- the model's step from that state without them
 abbrev pub ReadsSeen : Type 0
 ReadsSeen =
     (w : Freedoms) (l : Layout) (before legal : Contents) (cpu : ℕ) (step : Step) (reply : Reply)

@@ -1,4 +1,4 @@
--- What contracts see of a guest that isn't Empty, in the words of the reference state.
+-- The view in contracts of a guest that isn't Empty, as part of the reference state.
 use Rattle.std.specs.Prelude.{◌≡◌, Option, Some, None}
 use Rattle.std.specs.Coded.{Unit-prop}
 use Rattle.std.proofs.Props.{props}

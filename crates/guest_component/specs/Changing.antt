@@ -1,4 +1,4 @@
--- What is asked of a change of a guest.
+-- The conditions on a change of a guest.
 use Rattle.std.specs.Prelude.{◌≡◌, ◌≢◌, ℕ, ◌+◌, ◌≤◌, ◌^◌, true, is_some, length, drop, Option}
 use Rattle.hyp_pool.specs.Pools.{StoredFrames}
 use Rattle.page_state.specs.declared.entry.PageRange.{PageRange}
@@ -16,11 +16,11 @@ use Rattle.reference_model.specs.model.State.{Guest, empty}
 use Rattle.table_tree.specs.declared.tree.Tree.{Tree as TableTree}
 use Rattle.table_tree.specs.View.{uses, tables_of}
 
--- what else than its map changes of a guest can be made, in a layout whose trees have the depth
+-- the changes of a guest apart from its map can be made, in a layout whose trees have the depth
 abbrev pub PartFits : ℕ → Guest → GuestChange → Type 0
 PartFits d g c = (l : Layout) × ((l.depth ≡ d) × FitsPart l g c)
 
--- what changes of a guest can be made, in trees of the depth: an Empty guest's map stays
+-- the changes of a guest can be made, in trees of the depth; an Empty guest's map stays
 pub record GuestCanChange (d : ℕ) (h : Changes) (g : Guest) : Type 0 where
   pub map : FitsWhere d h.guest
   pub mapped : is_some h.guest ≡ true → g.phase ≢ empty
@@ -42,20 +42,20 @@ pub record IsHand (hand : PageRange) : Type 0 where
   pub few : hand.count ≤ 512
   pub low : end_of hand ≤ 2 ^ 36
 
--- the change, where it is an install, is one from such a hand
+-- if the change is an install, it is from such a hand
 abbrev pub CanInstallFrom : GuestChange → Type 0
 CanInstallFrom (Install kind generation hand) = IsHand hand
 CanInstallFrom other = Unit {0}
 
--- the frames of a range can come to a pool beside a tree: neither has them, they are 512 at most
--- with them, and they are low
+-- the frames of a range can be added to a pool next to a tree: neither has them, all are at most
+-- 512 then, and the new ones are below the limit of frames
 pub record CanGainFrames {A : Type 0} (t : TableTree A) (p : StoredFrames)
     (r : PageRange) : Type 0 where
   pub apart : (f : ℕ) → is_in_range r f ≡ true → uses t f + frame_count f p.frames ≡ 0
   pub few : tables_of t + length p.frames + r.count ≤ 512
   pub low : end_of r ≤ 2 ^ 36
 
--- the change, where it is one of frames that come, can be made
+-- if the change adds frames to the pool, it can be made
 abbrev pub CanTake : {A : Type 0} → TableTree A → StoredFrames → GuestChange → Type 0
 CanTake t p (Gain r) = CanGainFrames t p r
 CanTake t p other = Unit {0}

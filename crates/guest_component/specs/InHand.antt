@@ -1,4 +1,4 @@
--- What is in hand for a change of a guest's map.
+-- The tables and frames reserved for a change of a guest's map.
 use Rattle.std.specs.Prelude.{◌≡◌, ◌++◌, length, Option}
 use Rattle.component.specs.declared.Plan.{Plan}
 use Rattle.component.specs.View.{HasRoomFor, need_for}
@@ -17,7 +17,7 @@ pool_with p b = record { frames = frames_of p.spare.stock ++ b.pool.frames; room
 abbrev pub body_with : {A : Type 0} → Plan A → Body A → Guest
 body_with p b = record (body_of b) { free = frames_of p.spare.stock ++ b.pool.frames }
 
--- a plan has just the tables that a change needs, with the lowest frames of the pool as it was, and
+-- a plan has exactly the tables that a change needs, with the lowest frames of the pool before, and
 -- the maplets have room
 pub record IsInHand {A : Type 0} (c : Option MapChange) (b : Body A) (p : Plan A) : Type 0 where
   pub change : p.change ≡ c

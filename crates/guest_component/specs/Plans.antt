@@ -25,7 +25,8 @@ IsMadeFor geometry (Install kind generation hand) (Some b) =
     × (b.map.tree.geometry ≡ geometry)
 IsMadeFor geometry other o = Unit {0}
 
--- there is a plan of the map's change exactly if there is a guest, and it is for its present tree
+-- there is a plan of the map's change if and only if there is a guest, and it is for the guest's
+-- present tree
 abbrev pub IsMapInHand : {A : Type 0} → Option (Body A) → Option (Plan A) → Type 0
 IsMapInHand None None = Unit {0}
 IsMapInHand (Some b) (Some p) = IsInHand p.change b p

@@ -1,4 +1,4 @@
--- What contracts see of a guest, in the words of the reference state.
+-- The view of a guest in contracts, as part of the reference state.
 use Rattle.std.specs.Prelude.{ℕ, List, [], Option, Some, None}
 use Rattle.page_state.specs.declared.entry.Run.{Run}
 use Rattle.page_state.specs.Geometries.{levels_below}
@@ -8,7 +8,7 @@ use Rattle.guest_component.specs.declared.body.Body.{Body}
 use Rattle.guest_component.specs.declared.guest.Guest.{Guest as GuestComponent}
 use Rattle.guest_component.specs.Bodies.{body_of}
 
--- the guest of a body, and an Empty one where there is none
+-- the guest of a body; an Empty one if there is none
 abbrev pub guest_in : {A : Type 0} → Option (Body A) → Guest
 guest_in None = no_guest
 guest_in (Some b) = body_of b

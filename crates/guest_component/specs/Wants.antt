@@ -1,4 +1,4 @@
--- Where changes of a guest need no memory.
+-- Conditions under which changes of a guest need no memory.
 use Rattle.std.specs.Prelude.{ℕ, ◌≤◌, Option, Some, None}
 use Rattle.component.specs.View.{HasRoomFor}
 use Rattle.reference_model.specs.declared.changes.Changes.{Changes}

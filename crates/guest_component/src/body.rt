@@ -130,7 +130,7 @@ impl<A: Allocator> Body<A> {
         give_frames(pool, frames);
     }
 
-    /// The pool loses its lowest frame, where it has one.
+    /// Removes the lowest frame of the pool, if there is one.
     fn lose_lowest(&mut self)
         ensures made { (d : ℕ) → body_of self.new ≡ guest_by d LoseLowest (body_of self.old) }
         ensures geometry { self.new.map.tree.geometry ≡ self.old.map.tree.geometry }
@@ -222,8 +222,8 @@ impl<A: Allocator + Copy> Body<A> {
     ghost use Rattle.reference_model.specs.help.ChangeLaws.{FitsWhere};
     ghost use Rattle.table_tree.specs.View.{spares_of};
 
-    /// Takes what a change of the map needs in hand. NoPool is answered exactly where the pool has fewer frames than it needs
-    /// tables, before memory is asked for. A refusal changes nothing but the number of spares.
+    /// Reserves all that a change of the map needs. It returns NoPool if and only if the pool has fewer frames than the
+    /// change needs tables, and does so before any allocation. A refusal changes nothing but the number of spares.
     pub(crate) fn reserve(
         &mut self,
         alloc: A,

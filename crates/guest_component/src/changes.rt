@@ -57,7 +57,7 @@ impl<A: Allocator> Guest<A> {
         }
     }
 
-    /// Gives all that is in hand for changes back, and makes none. It can't fail.
+    /// Cancels changes and gives back all that is reserved for them. It can't fail.
     pub fn release(&mut self, plan: GuestPlan<A>)
         requires { IsMapInHand self.old.body plan.map }
         ensures same { guest_of self.new ≡ guest_with plan self.old }
@@ -85,7 +85,7 @@ impl<A: Allocator> Guest<A> {
         }
     }
 
-    /// The guest becomes another one, or Empty. What it was is let go.
+    /// The guest becomes another one, or Empty. The old one is dropped.
     fn put(&mut self, plan: Option<Plan<A>>, body: Option<Body<A>>)
         requires alike { IsOfGeometry self.old.geometry body }
         requires in_hand { IsMapInHand self.old.body plan }
@@ -96,7 +96,7 @@ impl<A: Allocator> Guest<A> {
         self.body = body;
     }
 
-    /// Changes that make no guest and end none: those of what isn't Empty.
+    /// Makes the changes that make no guest and end none: those of a guest that isn't Empty.
     fn change_body(&mut self, changes: &Changes, plan: Option<Plan<A>>)
         requires stays { StaysMade changes.now.part }
         requires fits { GuestCanChange (guest_depth self.old) changes.now (map_with plan self.old.body) }
@@ -113,7 +113,7 @@ impl<A: Allocator> Guest<A> {
 }
 
 impl<A: Allocator + Copy> Guest<A> {
-    /// Takes what the change of its map needs in hand.
+    /// Reserves all that the change of its map needs.
     fn reserve_map(&mut self, alloc: A, changes: &Changes) -> Result<Option<Plan<A>>, PoolFault>
         requires { GuestCanChange (guest_depth self.old) changes.now (guest_of self.old) }
         ensures planned { IfOk result (IsMapPlanned changes.now.guest self.old self.new) }
@@ -133,10 +133,11 @@ impl<A: Allocator + Copy> Guest<A> {
         }
     }
 
-    /// Takes all that changes need in hand: tables with frames of its pool, room in the maplets, and for an install the new
-    /// guest. NoPool is answered exactly where its pool has fewer frames than its map's change needs tables, before memory is
-    /// asked for, NoMemory only for an install, or where its tree has fewer spares than that, or its maplets no room, and
-    /// memory was refused. Then it is as it was, but for the number of spares. Requires changes that can be made of the guest.
+    /// Reserves all that changes need: tables with frames of its pool, room in the maplets, and for an install the new
+    /// guest. It returns NoPool if and only if its pool has fewer frames than its map's change needs tables, before any
+    /// allocation, and NoMemory only for an install, or if its tree has fewer spares than that or its maplets no room,
+    /// and the allocator refused memory. After a refusal the guest is as before, apart from the number of spares.
+    /// Requires changes that can be made of the guest.
     pub fn reserve(&mut self, alloc: A, changes: &Changes) -> Result<GuestPlan<A>, PoolFault>
         requires { GuestCanChange (guest_depth self.old) changes.now (guest_of self.old) }
         ensures ready { IfOk result (λ p. IsReadyFor changes.now self.new p) }
@@ -159,7 +160,7 @@ impl<A: Allocator + Copy> Guest<A> {
         }
     }
 
-    /// Makes changes of the guest alone, or none: NoPool and NoMemory as `reserve` answers them.
+    /// Makes changes of the guest alone, or none: it returns NoPool and NoMemory as `reserve` does.
     pub fn change(&mut self, alloc: A, changes: &Changes) -> Result<(), PoolFault>
         requires { GuestCanChange (guest_depth self.old) changes.now (guest_of self.old) }
         ensures made { OnOk result

@@ -6,10 +6,10 @@ use component::Plan;
 use page_state::Geometry;
 use std::alloc::{Allocator, Global};
 
-/// A guest. None is an Empty one, which holds no memory.
+/// A guest. None is an Empty guest, which holds no memory.
 #[derive(Drop)]
 pub struct Guest<A: Allocator> {
-    /// Where maplets and pool lie.
+    /// The allocator of maplets and pool.
     pub global: Global,
     /// The geometry of its tree.
     pub geometry: Geometry,
@@ -20,7 +20,7 @@ pub struct Guest<A: Allocator> {
 /// All that changes of a guest need, in hand: the tables, with frames of its pool, and room in its maplets; for an install the
 /// new guest. It must be spent, by `commit` or by `release`.
 pub struct GuestPlan<A: Allocator> {
-    /// Of the map; None where the guest is Empty.
+    /// The plan of the map's change; None if the guest is Empty.
     pub map: Option<Plan<A>>,
     /// The new guest.
     pub made: Option<Body<A>>,

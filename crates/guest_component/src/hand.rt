@@ -10,7 +10,7 @@ use hyp_pool::Pool;
 use page_state::{Frame, PageRange};
 use std::alloc::{AllocError, Global};
 
-/// The most frames that a guest has beside its root: in all it has 512 at most.
+/// The most frames that a guest has apart from its root: it has at most 512 in all.
 const POOL_ROOM: usize = 511;
 
 /// The first frame of a hand, and the pool of the others, with room for all that a guest may get.
@@ -26,7 +26,7 @@ pub(crate) fn split_hand(global: Global, hand: PageRange) -> Result<(Frame, Pool
     Ok((root, pool))
 }
 
-/// Gives frames to a pool, which has none of them, within its room.
+/// Gives frames to a pool that has none of them, within its room.
 pub(crate) fn give_frames(pool: &mut Pool, frames: PageRange)
     requires apart { (f : ℕ) → is_in_range frames f ≡ true → frame_count f pool.old.frames ≡ 0 }
     requires covered { length pool.old.frames + frames.count ≤ pool.old.room }

@@ -1,5 +1,5 @@
-//! What a Guest part holds: the guest's tree and maplets, its pool, phase, generation and kind, and the changes that calls
-//! make of it.
+//! The content of a Guest part: the guest's tree and maplets, its pool, phase, generation and kind, and the changes
+//! that calls make of it.
 #![tactic(auto)]
 
 mod body;

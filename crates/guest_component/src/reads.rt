@@ -1,4 +1,4 @@
-//! What calls read of a guest.
+//! The parts of a guest that calls read.
 ghost use Rattle.std.specs.Prelude.{◌≡◌, ◌+◌, ◌≤◌, ◌^◌, ◌≢◌, true, is_some, length, unwrap_or, MatchOption, None, Some};
 ghost use Rattle.guest_component.specs.View.{guest_of, guest_depth};
 ghost use Rattle.page_state.specs.EntryTests.{is_unmapped as is_unmapped_entry};
@@ -31,7 +31,7 @@ impl<A: Allocator> Guest<A> {
         }
     }
 
-    /// What it holds; None where it is Empty.
+    /// The content of the guest; None if it is Empty.
     pub fn body(&self) -> Option<&Body<A>>
         ensures { MatchOption result (self.now.body ≡ None) (λ b. self.now.body ≡ Some b.now) }
     {
@@ -101,7 +101,7 @@ impl<A: Allocator> Guest<A> {
         }
     }
 
-    /// The least free frame of its pool, and 0 where none is free.
+    /// The least free frame of its pool, or 0 if none is free.
     pub fn least(&self) -> u64
         ensures { result ≡ least_free (guest_of self.now).free }
     {
@@ -121,7 +121,7 @@ impl<A: Allocator> Guest<A> {
         }
     }
 
-    /// Whether no page is mapped. It looks at the root alone.
+    /// Whether no page is mapped. It reads only the root.
     pub fn is_unmapped(&self) -> bool
         ensures { result
             ≡ all_below (pages_below (guest_depth self.now))
@@ -133,7 +133,8 @@ impl<A: Allocator> Guest<A> {
         }
     }
 
-    /// The tables that the change of its map needs. Requires a change that fits, and none where it is Empty.
+    /// The number of tables that the change of its map needs. Requires a change that fits, and none if the guest is
+    /// Empty.
     pub fn need(&self, changes: &Changes) -> usize
         requires map { FitsWhere (guest_depth self.now) changes.now.guest }
         requires mapped { is_some changes.now.guest ≡ true → (guest_of self.now).phase ≢ empty }
@@ -147,7 +148,7 @@ impl<A: Allocator> Guest<A> {
     }
 }
 
-/// The least free frame of a pool, and 0 where none is free.
+/// The least free frame of a pool, or 0 if none is free.
 fn least_of(pool: &Pool) -> u64
     ensures { result ≡ least_free pool.now.frames }
 {

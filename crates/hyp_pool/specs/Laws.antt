@@ -28,7 +28,7 @@ GivenBack = (n : ℕ) (p : Pool) → IsStrictlyIncreasing p → all_given (take 
 abbrev pub GivenLength : Type 0
 GivenLength = (f : ℕ) (p : Pool) → length (given f p) ≡ length p + 1
 
--- the frame is there once more, and each other as often as before
+-- the count of the frame rises by one, and the count of each other stays
 abbrev pub GivenCount : Type 0
 GivenCount = (f g : ℕ) (p : Pool) → frame_count g (given f p) ≡ frame_count g (f ∷ p)
 
@@ -42,7 +42,7 @@ AllGivenCount =
     (f : ℕ) (fs : List ℕ) (p : Pool)
     → frame_count f (all_given fs p) ≡ frame_count f fs + frame_count f p
 
--- the frames of the pool are those from before and the given one
+-- the frames of the pool are the old ones and the given one
 abbrev pub GivenContains : Type 0
 GivenContains = (f g : ℕ) (p : Pool) → Contains (given f p) g ↔ ((f ≡ g) ⊎ Contains p g)
 

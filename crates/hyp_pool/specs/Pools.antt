@@ -4,13 +4,13 @@ use Rattle.std.specs.List.Sorted.{IsStrictlyIncreasing}
 use Rattle.page_state.specs.declared.Frame.{Frame}
 use Rattle.page_state.specs.Trees.{Pool}
 
--- what contracts see of a pool: its free frames, in increasing order, and for how many frames there
--- is room
+-- the view of a pool in contracts: its free frames, in increasing order, and the number of frames
+-- for which it has room
 pub record StoredFrames : Type 0 where
   pub frames : Pool
   pub room : ℕ
 
--- what holds of every pool
+-- the invariant of a pool
 pub record IsPool (p : StoredFrames) : Type 0 where
   pub rising : IsStrictlyIncreasing p.frames
   pub covered : length p.frames ≤ p.room

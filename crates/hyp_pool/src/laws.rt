@@ -13,20 +13,20 @@ pub fn given_back()
     ensures { GivenBack }
 {}
 
-/// What a pool has after a frame is given.
+/// The frames of a pool after one is given.
 pub fn given_one()
     ensures length { GivenLength }
     ensures count { GivenCount }
     ensures contains { GivenContains }
 {}
 
-/// What a pool has after many frames are given.
+/// The frames of a pool after many are given.
 pub fn given_many()
     ensures length { AllGivenLength }
     ensures count { AllGivenCount }
 {}
 
-/// A frame is in a list just where it is counted there, and once at most in a pool.
+/// A frame is in a list if and only if its count there isn't 0, and it is in a pool at most once.
 pub fn counted_frames()
     ensures contains { CountContains }
     ensures once { CountOnce }

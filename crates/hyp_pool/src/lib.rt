@@ -37,7 +37,8 @@ impl From<AllocError> for PoolFault {
     }
 }
 
-/// A set of free frames, with room for some number of frames. What is within the room is given back without memory.
+/// A set of free frames, with room for some number of frames. Frames within the room are given back without an
+/// allocation.
 #[derive(Drop)]
 pub struct Pool {
     // the highest first, so that the lowest are taken from the end
@@ -108,7 +109,7 @@ impl Pool {
         self.frames.pop()
     }
 
-    /// Takes the `n` lowest frames, all or none. None at all are taken without memory.
+    /// Takes the `n` lowest frames, all or none. `n` = 0 needs no memory.
     pub fn take_many(&mut self, alloc: Global, n: usize) -> Result<Vec<Frame>, PoolFault>
         ensures taken { IfOk result (λ v. AreTaken n self.old self.new v.items) }
         ensures no_pool { (result ≡ Err PoolFault.NoPool) ↔ (length self.old.frames < n) }

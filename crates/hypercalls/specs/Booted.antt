@@ -1,5 +1,5 @@
--- What parts that have booted are: of an accepted layout, and standing for the boot state with the
--- empty history.
+-- Parts that have booted: they have an accepted layout and represent the boot state with the empty
+-- history.
 use Rattle.std.specs.Prelude.{◌≡◌, ℕ, [], Some}
 use Rattle.page_state.specs.declared.layout.Config.{Config}
 use Rattle.page_state.specs.declared.layout.Geometry.{Geometry}

@@ -29,8 +29,8 @@ pub record LeavesShared (h : Changes) : Type 0 where
   pub hyp : h.hyp ≡ None
   pub moved : touched h ≡ None
 
--- how a call ends whose changes of parts were made or weren't: its CPU's own state changes with
--- them, or the refusal says why
+-- the end of a call whose changes of parts were made or not: its CPU's own state changes too, or
+-- the reply is the refusal
 abbrev pub Ends : Result (Unit {0}) PoolFault → Changes → Cpu → Reply → Cpu → Type 0
 Ends (Ok u) h before reply after = (reply ≡ Done h.value) × (after ≡ cpu_by h.cpu before)
 Ends (Err NoPool) h before reply after = (reply ≡ Refused NoPoolReply) × (after ≡ before)
@@ -63,8 +63,8 @@ module _ {A : Type 0} (l : Layout) (h : Changes) where
     pub parts : PartsFit l h (guest_held p)
     pub suits : GuestSuits l p
 
-  -- the Shared part after they were asked for, `s` before: made, with the rows that they tell, or
-  -- none of them
+  -- the Shared part after an attempt at the changes, `s` before: all of them are made, with the
+  -- rows that follow from them, or none
   pub record IsSharedChanged (id : ℕ) (slot : Option ℕ) (r : Result (Unit {0}) PoolFault)
       (s t : SharedPart A) : Type 0 where
     pub made : OnOk r (shared_of t ≡ rows_told l id slot h (shared_after l.depth h (shared_of s)))
@@ -72,7 +72,7 @@ module _ {A : Type 0} (l : Layout) (h : Changes) where
     pub suits : SharedSuits l t
     pub log : t.log ≡ s.log
 
-  -- the Guest part after they were asked for, `p` before: made, or none of them
+  -- the Guest part after an attempt at the changes, `p` before: all of them are made, or none
   pub record IsGuestChanged (r : Result (Unit {0}) PoolFault) (p q : GuestPart A) : Type 0 where
     pub made : OnOk r (guest_held q ≡ guest_after l.depth h (guest_held p))
     pub err : OnErr r (guest_held q ≡ guest_held p)

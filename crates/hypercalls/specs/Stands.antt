@@ -20,7 +20,7 @@ module _ {A : Type 0} (p : Parts A) where
   abbrev pub parts_layout : Layout
   parts_layout = layout_told p.layout
 
-  -- what the parts have: their contents and their logs
+  -- the contents of the parts, and their logs
   abbrev pub kept_of : Kept
   kept_of = record {
     vms = (vm_slots p.vms, p.vms.log.calls);
@@ -37,7 +37,7 @@ module _ {A : Type 0} (p : Parts A) where
         );
   }
 
-  -- the state: a log's room is what its calls leave
+  -- the state of the parts: the room of a log is the part of its size that its calls leave
   abbrev pub state_of : Reference
   state_of = held_state parts_layout kept_of
 

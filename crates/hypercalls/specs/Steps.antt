@@ -1,4 +1,4 @@
--- What a step on lent parts does.
+-- The effect of a step on lent parts.
 use Rattle.std.specs.Prelude.{◌≡◌, ℕ, Bool, true, false, ◌==◌, ◌||◌, option_map, unwrap_or, IfSome, Option, Some, None, Ok, if◌then◌else◌}
 use Rattle.call_table.specs.declared.reply.Call.{Call}
 use Rattle.call_table.specs.declared.reply.Refusal.TheVariants.{LogFull, NoMemory}
@@ -39,7 +39,7 @@ CanWantOn l id slot step x =
 
 -- the step of a CPU on the lent parts, by the call that it stored: it is the reference step there,
 -- and the call is stored in each log if none is full; otherwise nothing changes. Memory runs out
--- only where it may. The CPU's number stays
+-- only if it may. The CPU's number stays
 pub record IsStepOn {A : Type 0} (l : Layout) (step : Step) (x : Lent A) (made : Option Call)
     (y : Lent A) : Type 0 where
   pub on : StepsOn l (call_in x step (reply_in made)) (used_in x) (rooms_in (logs_in x))

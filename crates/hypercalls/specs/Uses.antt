@@ -7,7 +7,7 @@ use Rattle.reference_model.specs.model.State.{Cpu}
 use Rattle.hypercalls.specs.declared.used_parts.UsedParts.{UsedParts}
 use Rattle.hypercalls.specs.declared.used_parts.UsedParts.TheVariants.{Nothing, Vms, Shared, Guest, Both}
 
--- a Guest part, alone or beside the Shared part
+-- a Guest part, with or without the Shared part
 abbrev pub with_slot : Bool → ℕ → UsedParts
 with_slot true v = Both v
 with_slot false v = Guest v
@@ -25,10 +25,10 @@ abbrev pub or_vms : Bool → UsedParts → UsedParts
 or_vms true other = Vms
 or_vms false other = other
 
--- the parts of a step, by what it names and the slot that was found
+-- the parts of a step, from the parts that it names and the slot that was found
 abbrev pub parts_of : Names → Option ℕ → UsedParts
 parts_of n slot = or_vms (uses_vms n) (by_slot (uses_shared n slot) slot)
 
--- those of a step of a CPU
+-- the parts of a step of a CPU
 abbrev pub uses_of : Cpu → Step → UsedParts
 uses_of k step = parts_of (names step) (guest_slot k step)

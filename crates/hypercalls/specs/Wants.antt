@@ -1,4 +1,5 @@
--- When memory is there already for a step that changes pages: a law of what a step may be refused.
+-- A law on refusals for memory: a step that changes pages isn't refused if memory for it is already
+-- reserved.
 use Rattle.std.specs.Prelude.{◌≡◌, ◌≤◌, ◌*◌, ◌==◌, ℕ, Bool, true, false, Option, Some, None, slice_get, if◌then◌else◌}
 use Rattle.call_table.specs.declared.reply.Refusal.TheVariants.{NoMemory}
 use Rattle.call_table.specs.declared.reply.Reply.{Reply}
@@ -14,8 +15,8 @@ use Rattle.part_types.specs.declared.parts.GuestPart.{GuestPart}
 use Rattle.hypercalls.specs.declared.parts.Parts.{Parts}
 use Rattle.hypercalls.specs.Whole.{IsStep, slot_here}
 
--- the steps that change a range of each map at most, a page of it but for the ranged calls on a
--- guest
+-- the steps that change at most a range of each map: one page, or more for the calls on a guest
+-- that take a range
 abbrev pub changes_a_range : Step → Bool
 changes_a_range (ShareHyp f) = true
 changes_a_range (UnshareHyp f) = true
@@ -28,8 +29,8 @@ changes_a_range (GuestRelax g p) = true
 changes_a_range (ReclaimPage vm g) = true
 changes_a_range other = false
 
--- how many blocks of a size such a range meets at most: a page lies in one, and a range of up to
--- 512 pages meets two
+-- the most blocks of one size that such a range meets: a page lies in one, and a range of up to 512
+-- pages meets two
 abbrev pub blocks_met : Step → ℕ
 blocks_met (ShareGuest f g p n) = if n == 1 then 1 else 2
 blocks_met (DonateGuest f g n) = if n == 1 then 1 else 2

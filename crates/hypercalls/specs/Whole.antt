@@ -1,4 +1,4 @@
--- What a step of a CPU does to all parts, by the reference step.
+-- The effect of a step of a CPU on all parts, as the reference step.
 use Rattle.std.specs.Prelude.{◌≡◌, ℕ, ◌+◌, Bool, true, false, length, slice_get, Option, Some, Ok}
 use Rattle.call_table.specs.declared.reply.Call.{Call}
 use Rattle.call_table.specs.declared.reply.Refusal.TheVariants.{NoMemory}
@@ -58,9 +58,9 @@ module _ {A : Type 0} (p : Parts A) (cpu : ℕ) (step : Step) where
       → HasRoomyGuest h
       → ⊥
 
-  -- the parts after a step, and its reply: those after the reference step. Where a log is full
-  -- nothing changes, and else the call is stored in the logs of the parts that it uses and of its
-  -- CPU. Memory is wanted only where it can be
+  -- the parts after a step, and its reply: those after the reference step. If a log is full nothing
+  -- changes; else the call is stored in the logs of the parts that it uses and of its CPU. Memory
+  -- runs out only for a step that may allocate
   pub record IsStep (reply : Reply) (q : Parts A) : Type 0 where
     pub layout : parts_layout q ≡ parts_layout p
     pub steps : Steps (parts_layout p) (state_of p) (call_of reply) (state_of q)

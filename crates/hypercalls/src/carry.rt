@@ -16,7 +16,7 @@ use part_types::{CpuState, GuestPart, SharedPart};
 use reference_model::Changes;
 use std::alloc::Allocator;
 
-/// Gives the touched frames their row, where they are memory.
+/// Gives the touched frames their row, if they are memory.
 fn write_rows<A: Allocator>(
     layout: &Layout,
     id: u64,
@@ -75,8 +75,8 @@ pub(crate) fn change_guest<A: Allocator + Copy>(
     part.guest.change(alloc, changes)
 }
 
-/// Makes the changes of the Shared part, with its rows, and of the guest of a slot, or none of them. What both need is found,
-/// then all of it is taken in hand, and then both are changed.
+/// Makes the changes of the Shared part, with its rows, and of the guest of a slot, or none of them. It counts what
+/// both need, then reserves all of it, and then changes both.
 pub(crate) fn change_both<A: Allocator + Copy>(
     alloc: A,
     layout: &Layout,
@@ -118,8 +118,8 @@ pub(crate) fn change_both<A: Allocator + Copy>(
     }
 }
 
-/// The reply of a call whose parts were changed, and then the CPU's own state changes too; or weren't, for want of free
-/// frames or of memory.
+/// The reply of a call whose parts were changed, in which case the CPU's own state changes too, or weren't, for lack of
+/// free frames or of memory.
 pub(crate) fn ended(made: Result<(), PoolFault>, changes: &Changes, cpu: &mut CpuState) -> Reply
     ensures ends { Ends made changes.now (cpu_of cpu.old) result (cpu_of cpu.new) }
     ensures log { cpu.new.log ≡ cpu.old.log }

@@ -1,4 +1,4 @@
-//! The step by its kind of use, and on all parts: which parts it uses, and how a decision is carried out.
+//! The step by its kind of use, and on all parts: the parts that it uses, and the execution of a decision.
 #![tactic(auto)]
 
 mod carry;

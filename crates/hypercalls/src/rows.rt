@@ -9,7 +9,7 @@ use decisions::{HOST, HYPERVISOR};
 use page_state::{Entry, Lent, Owner, Page, PageRange, Row, State, Usage};
 use reference_model::{Changes, Update};
 
-/// The frames whose rows the changes touch: those of the host's change, or those that change use.
+/// The frames whose rows the changes touch: those of the host's change, or else those that change use.
 pub fn touched(changes: &Changes) -> Option<PageRange>
     ensures { result ≡ touched_by changes.now }
 {
@@ -27,7 +27,7 @@ fn guest_owner(slot: Option<u64>) -> Owner
     Owner(2 + slot.unwrap_or(0))
 }
 
-/// The borrower of what the host shares: the hypervisor at its page, or the guest at its page.
+/// The borrower of the frames that the host shares: the hypervisor at its page, or the guest at its page.
 fn borrower(slot: Option<u64>, changes: &Changes) -> Option<Lent>
     requires { unwrap_or slot 0 < 2 ^ 32 }
     ensures { result ≡ borrower_of slot changes.now }
@@ -44,7 +44,7 @@ fn borrower(slot: Option<u64>, changes: &Changes) -> Option<Lent>
     })
 }
 
-/// The use of frames that the hypervisor gets: they are in the hand that the CPU gets, or in none.
+/// The use of frames that the hypervisor gets: in the CPU's hand if the CPU gets a hand, else Plain.
 fn use_of(id: u64, changes: &Changes) -> Usage
     ensures { result ≡ use_by id changes.now.cpu.hand }
 {
@@ -54,7 +54,7 @@ fn use_of(id: u64, changes: &Changes) -> Usage
     }
 }
 
-/// The row of the first touched frame, by what the host's page gets.
+/// The row of the first touched frame, from the entry that the host's page gets.
 fn row_of_entry(id: u64, slot: Option<u64>, changes: &Changes, first: Page, entry: Entry) -> Row
     requires { unwrap_or slot 0 < 2 ^ 32 }
     ensures { result ≡ row_by id slot changes.now first.0 entry }
@@ -92,7 +92,7 @@ fn row_of_entry(id: u64, slot: Option<u64>, changes: &Changes, first: Page, entr
     }
 }
 
-/// The row of the first touched frame. Where the host's map stays, the frames go to the guest's pool.
+/// The row of the first touched frame. If the host's map stays, the frames go to the guest's pool.
 pub fn first_row(id: u64, slot: Option<u64>, changes: &Changes) -> Row
     requires { unwrap_or slot 0 < 2 ^ 32 }
     ensures { result ≡ first_row_of id slot changes.now }

@@ -19,7 +19,7 @@ use part_types::{CpuState, GuestPart, SharedPart, VmPart};
 use reference_model::laws;
 use std::alloc::Allocator;
 
-/// Makes a step of a CPU that uses no part, and stores the call in the CPU's log. None where that is full.
+/// Makes a step of a CPU that uses no part, and stores the call in the CPU's log. None if that is full.
 pub fn step_alone(layout: &Layout, cpu: &mut CpuState, step: Step) -> Option<Call>
     requires uses { uses_of (cpu_of cpu.old) step ≡ UsedParts.Nothing }
     requires own { IsOfSize layout.now.config.log cpu.old.log }
@@ -42,9 +42,9 @@ pub fn step_alone(layout: &Layout, cpu: &mut CpuState, step: Step) -> Option<Cal
     Some(call)
 }
 
-/// Makes a step of a CPU on the VM part, and stores the call in both logs. None where one is full. Requires a part and a CPU's
-/// own state that belong to a state that some run can reach; whatever else that state has, it is a step of it. So do
-/// those below.
+/// Makes a step of a CPU on the VM part, and stores the call in both logs. None if one is full. Requires a part and a
+/// CPU's own state of a state that some run can reach; for every such state it is a step of that state. The functions
+/// below require the same.
 pub fn step_on_vms(
     layout: &Layout,
     vms: &mut VmPart,

@@ -9,7 +9,7 @@ use call_table::{Step, VmId};
 use part_types::CpuState;
 use reference_model::Stage;
 
-/// The slot of a VM, where there is such a slot.
+/// The slot of a VM if it is below 64, else None.
 fn slot_of(vm: VmId) -> Option<u64>
     ensures { result ≡ slot_of_vm vm }
 {
@@ -32,8 +32,8 @@ fn ticket_slot(stage: Stage, cpu: &CpuState) -> Option<u64>
     }
 }
 
-/// The slot of the Guest part that a step of the CPU uses: by its VM, or by what the CPU has loaded or holds a ticket of.
-/// None where it uses none.
+/// The slot of the Guest part that a step of the CPU uses: that of its VM, or of the CPU's loaded vCPU or ticket. None
+/// if it uses none.
 pub fn guest_slot(cpu: &CpuState, step: Step) -> Option<u64>
     ensures { result ≡ guest_slot_of (cpu_of cpu.now) step }
 {
@@ -66,7 +66,7 @@ pub fn uses_vms(step: Step) -> bool
     }
 }
 
-/// Whether a step uses the Shared part, where the slot of its Guest part was found or not.
+/// Whether a step uses the Shared part, from whether the slot of its Guest part was found.
 pub fn uses_shared(step: Step, slot: Option<u64>) -> bool
     ensures { result ≡ uses_shared_part (names step) slot }
 {
@@ -95,8 +95,8 @@ pub fn uses_shared(step: Step, slot: Option<u64>) -> bool
     }
 }
 
-/// The parts that a step uses beside its CPU's own state: none, one of them, or the Shared part and the Guest part of a
-/// slot. Guests are named by slot.
+/// The parts that a step uses apart from its CPU's own state: none, one of them, or the Shared part and the Guest part
+/// of a slot. Guests are named by slot.
 #[derive(Clone, Copy)]
 pub enum UsedParts {
     Nothing,
@@ -106,7 +106,7 @@ pub enum UsedParts {
     Both(u64),
 }
 
-/// The parts that a step of a CPU uses, found from the CPU's own state and the step alone.
+/// The parts that a step of a CPU uses, found only from the CPU's own state and the step.
 pub fn uses(cpu: &CpuState, step: &Step) -> UsedParts
     ensures { result ≡ uses_of (cpu_of cpu.now) step.now }
 {

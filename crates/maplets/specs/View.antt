@@ -1,4 +1,4 @@
--- What contracts see of maplets.
+-- The view of maplets in contracts.
 use Rattle.std.specs.Prelude.{ℕ, ◌^◌, ◌≤◌, List, map}
 use Rattle.page_state.specs.declared.entry.Run.{Run}
 use Rattle.page_state.specs.declared.entry.Target.{Target}

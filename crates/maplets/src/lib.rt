@@ -71,8 +71,8 @@ impl Maplets {
         self.list.reserve(extra)
     }
 
-    /// Gives the pages of a range a target, which advances along it, or none.
-    /// Requires room of two more runs, and takes no memory. Room and runs are together what they were.
+    /// Gives the pages of a range a target, which advances along it, or none. Requires room of two more runs, and takes
+    /// no memory. The sum of room and runs stays.
     #[tactic(auto, using(crate::proofs::TargetRuns::coarsest_targets))]
     pub fn set(&mut self, range: PageRange, target: Option<Target>)
         requires pages { range.first.0 + range.count ≤ 2 ^ 63 }

@@ -9,7 +9,7 @@ use Rattle.run_list.specs.Counts.{pages_of}
 use Rattle.run_list.specs.Runs.{IsCoarsest}
 use Rattle.owner_table.specs.Rows.{row_at, rows_set}
 
--- the rows after a region's frames have the plain row, where it is one of memory
+-- the rows after a region's frames get the plain row, if it is a region of memory
 abbrev pub filled : Region → (ℕ → Option Row) → ℕ → Option Row
 filled r rows = if is_memory_kind r.kind then rows_set rows r.pages plain_row else rows
 

@@ -16,7 +16,8 @@ use run_list::RunList;
 use std::alloc::{AllocError, Global};
 use std::marker::Model;
 
-/// A row for each memory frame, and none for any other. All the memory that the rows can ever need is taken once.
+/// A row for each memory frame, and none for any other. Memory for the most rows that can ever be needed is allocated
+/// once.
 #[derive(Drop)]
 pub struct OwnerTable {
     rows: RunList<Row>,
@@ -37,8 +38,8 @@ impl Model for OwnerTable {
 }
 
 impl OwnerTable {
-    /// The rows at boot: each memory frame is the host's, lent to nobody, and in no other use. It has room for every
-    /// later change, and fails only where memory is refused.
+    /// The rows at boot: the host owns each memory frame, shares it with nobody, and has it in no other use. There is
+    /// room for every later change. It fails only if the allocator refuses memory.
     pub fn of(alloc: Global, map: &MemoryMap) -> Result<OwnerTable, AllocError>
         ensures frames { IfOk result (λ rows. IsOf map.now rows) }
         ensures coarsest { IfOk result (λ rows. IsCoarsest advance_row rows) }
@@ -92,7 +93,7 @@ fn rows_of(alloc: Global, regions: &[Region]) -> Result<RunList<Row>, AllocError
     Ok(rows)
 }
 
-/// Gives the frames of a region the plain row, where it is one of memory.
+/// Gives the frames of a region the plain row, if it is a region of memory.
 fn fill(rows: &mut RunList<Row>, region: Region)
     requires pages { end_of region.pages ≤ 2 ^ 63 }
     requires room { 2 ≤ rows.old.room }
@@ -107,7 +108,7 @@ fn fill(rows: &mut RunList<Row>, region: Region)
     }
 }
 
-/// The row of a frame that is the host's, lent to nobody, and in no other use.
+/// The row of a frame that the host owns, shares with nobody, and has in no other use.
 fn plain() -> Row
     ensures { result ≡ plain_row }
 {

@@ -1,4 +1,4 @@
--- The frames of the Shared part: free in its pool, or those of its tables.
+-- The frames of the Shared part: those free in its pool, and those of its tables.
 use Rattle.std.specs.Prelude.{ℕ, ◌+◌, ◌≤◌, length}
 use Rattle.std.specs.Coded.{×_prop, le_prop, Π_prop}
 use Rattle.hyp_pool.specs.Pools.{StoredFrames}

@@ -1,4 +1,4 @@
--- What stays of a Shared part: `s` is it before, `t` afterwards.
+-- The parts of a Shared part that stay: `s` is the part before, `t` afterwards.
 use Rattle.std.specs.Prelude.{◌≡◌, ◌≤◌}
 use Rattle.table_tree.specs.View.{spares_of}
 use Rattle.part_types.specs.declared.parts.SharedPart.{SharedPart}
@@ -11,7 +11,7 @@ module _ {A : Type 0} where
     pub log : t.log ≡ s.log
     pub depth : depth_of t ≡ depth_of s
 
-  -- the maplets stay, but for their room
+  -- the maplets stay, apart from their room
   pub record KeepsRuns (s t : SharedPart A) : Type 0 where
     pub host : t.host.maplets.runs ≡ s.host.maplets.runs
     pub hyp : t.hyp.maplets.runs ≡ s.hyp.maplets.runs

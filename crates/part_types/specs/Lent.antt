@@ -1,4 +1,4 @@
--- What is lent to a step: the parts that it uses, and a CPU's own state.
+-- The parts that are lent to a step, and a CPU's own state.
 use Rattle.std.specs.Prelude.{◌≡◌, ℕ, ◌+◌, ◌-◌, ◌++◌, length, option_map, unwrap_or, IfSome, [], ◌∷◌, Option, Some, None}
 use Rattle.call_table.specs.declared.reply.Call.{Call}
 use Rattle.call_table.specs.declared.reply.Reply.{Reply}

@@ -1,4 +1,4 @@
--- What contracts see of a log.
+-- The view of a log in contracts.
 use Rattle.std.specs.Prelude.{◌≡◌, ℕ, ◌+◌, List, [], length}
 use Rattle.call_table.specs.declared.reply.Call.{Call}
 

@@ -5,6 +5,6 @@ use Rattle.page_state.specs.declared.row.Row.{Row}
 use Rattle.page_state.specs.Regions.{Memory, has_memory}
 use Rattle.run_list.specs.declared.run.Run.{Run}
 
--- just the memory frames have a row
+-- the memory frames have a row, and no others
 abbrev pub HasMemoryRows : Memory → List (Run Row) → Type 0
 HasMemoryRows m rows = (f : ℕ) → is_some (row_at rows f) ≡ has_memory m f

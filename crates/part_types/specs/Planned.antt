@@ -1,4 +1,4 @@
--- What is in hand for changes of the Shared part's maps.
+-- The tables and frames reserved for changes of the Shared part's maps.
 use Rattle.std.specs.Prelude.{◌≡◌, ℕ, ◌+◌, ◌-◌, ◌^◌, ◌≤◌, ◌++◌, List, length}
 use Rattle.component.specs.View.{HasRoomFor, need_for, back_from}
 use Rattle.hyp_pool.specs.Pools.{StoredFrames, IsPool}
@@ -29,8 +29,8 @@ module _ {A : Type 0} where
   abbrev pub shared_with : SharedPlan A → SharedPart A → Shared
   shared_with p s = record (shared_of s) { free = in_hand p ++ s.pool.frames }
 
--- a plan is for the maps as they are: each has just the tables that it needs and room in its
--- maplets; the frames were the pool's lowest
+-- a plan is for the present maps: each change has exactly the tables that it needs and room in the
+-- maplets; the frames were the lowest of the pool
 pub record IsPlanOf {A : Type 0} (s : SharedPart A) (p : SharedPlan A) : Type 0 where
   pub host : length (frames_of p.host.spare.stock) ≡ need_for s.host.tree p.host.change
   pub hyp : length (frames_of p.hyp.spare.stock) ≡ need_for s.hyp.tree p.hyp.change
@@ -61,8 +61,8 @@ module _ {A : Type 0} where
     pub host_spares : spares_of t.host.tree ≡ spares_of s.host.tree - n.host
     pub hyp_spares : spares_of t.hyp.tree ≡ spares_of s.hyp.tree - n.hyp
 
-  -- the changes were made of part `s`, which is now `t`: tables came from the spares first, and
-  -- those that went are spares
+  -- the changes were made of part `s`, which is now `t`: tables came from the spares first, and the
+  -- removed ones are spares
   pub record IsMade (h : Changes) (s t : SharedPart A) : Type 0 where
     pub made : shared_of t ≡ shared_after (depth_of s) h (shared_of s)
     pub host_spares : spares_of t.host.tree

@@ -1,4 +1,4 @@
--- Where no growth can be needed.
+-- Conditions under which no growth is needed.
 use Rattle.std.specs.Prelude.{◌≤◌}
 use Rattle.component.specs.View.{HasRoomFor, need_for}
 use Rattle.table_tree.specs.View.{spares_of}

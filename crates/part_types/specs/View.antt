@@ -1,4 +1,4 @@
--- What contracts see of parts, in the words of the reference state.
+-- The view of parts in contracts, as parts of the reference state.
 use Rattle.std.specs.Prelude.{ℕ, ◌-◌, unwrap_or, if◌then◌else◌}
 use Rattle.owner_table.specs.Rows.{row_at}
 use Rattle.page_state.specs.declared.entry.PageRange.{PageRange}

@@ -17,7 +17,7 @@ fn updated<T: Copy>(update: Update<T>, field: T) -> T
 }
 
 impl CpuState {
-    /// Changes what the CPU has loaded, its hand and its ticket. Its number and its log stay.
+    /// Changes the CPU's loaded vCPU, its hand and its ticket. Its number and its log stay.
     pub fn change(&mut self, change: &CpuChange)
         ensures made { cpu_of self.new ≡ cpu_by change.now (cpu_of self.old) }
         ensures log { self.new.log ≡ self.old.log }

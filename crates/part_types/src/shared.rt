@@ -103,9 +103,9 @@ impl<A: Allocator> SharedPart<A> {
 }
 
 impl<A: Allocator + Copy> SharedPart<A> {
-    /// Takes all that both changes need in hand. NoPool is answered exactly where the pool has fewer frames than both need
-    /// tables, before memory is asked for; NoMemory only where a tree has fewer spares than it needs tables, or maplets no
-    /// room, and memory was refused. A refusal changes nothing but the number of spares.
+    /// Reserves all that both changes need. It returns NoPool if and only if the pool has fewer frames than both need
+    /// tables, before any allocation, and NoMemory only if a tree has fewer spares than it needs tables, or maplets no
+    /// room, and the allocator refused memory. A refusal changes nothing but the number of spares.
     pub fn reserve(
         &mut self,
         alloc: A,
@@ -139,9 +139,9 @@ impl<A: Allocator + Copy> SharedPart<A> {
         }
     }
 
-    /// Makes the changes of the host's and the hypervisor's map, or none: NoPool is answered exactly where the pool has fewer
-    /// frames than both need tables, NoMemory only where a tree has fewer spares than it needs tables, or maplets no room, and
-    /// memory was refused. Rows and log stay.
+    /// Makes the changes of the host's and the hypervisor's map, or none: it returns NoPool if and only if the pool has
+    /// fewer frames than both need tables, NoMemory only if a tree has fewer spares than it needs tables, or maplets no
+    /// room, and the allocator refused memory. Rows and log stay.
     pub fn change(&mut self, alloc: A, changes: &Changes) -> Result<(), PoolFault>
         requires host_change { FitsWhere (depth_of self.old) changes.now.host }
         requires hyp_change { FitsWhere (depth_of self.old) changes.now.hyp }

@@ -1,4 +1,4 @@
--- What changed goes on along a run: both values do.
+-- A change advances along a run, as both of its values do.
 use Rattle.std.specs.Option.{ForSome, option_eq}
 use Rattle.std.specs.Prelude.{◌&&◌, ◌≡◌, ℕ, ◌+◌, ◌≤◌, Bool, true, Option, Some, None, refl}
 use Rattle.std.proofs.Common.{ap, subst}
@@ -56,7 +56,7 @@ same_change : {V : Type 0} (a b c d : Option V)
     → ◌≡◌ {A = Change V} (record { before = a; after = b }) (record { before = c; after = d })
 same_change a b c d e f = λ i. record { before = e i; after = f i }
 
--- equality of what changed, as the code tests it
+-- equality of changes, as the code tests it
 abbrev change_eq : {V : Type 0} → (V → V → Bool) → Change V → Change V → Bool
 change_eq same c d = option_eq same c.before d.before && option_eq same c.after d.after
 

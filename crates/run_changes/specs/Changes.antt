@@ -1,11 +1,11 @@
--- What changed between two maps from pages to values that advance.
+-- The changes between two maps from pages to values that advance.
 use Rattle.std.specs.Prelude.{◌≡◌, ℕ, List, Option, Some, None}
 use Rattle.std.specs.Option.{ForSome}
 use Rattle.run_list.specs.declared.run.Run.{Run}
 use Rattle.run_list.specs.Runs.{option_advance, run_map}
 use Rattle.run_changes.specs.declared.change.Change.{Change}
 
--- what changed between a value and another: nothing where they are the same, and else both
+-- the change from a value to another: none if they are equal, else both
 abbrev pub IsDifference : {V : Type 0} → Option V → Option V → Option (Change V) → Type 0
 IsDifference before after None = before ≡ after
 IsDifference before after (Some c) = (c.before ≡ before) × (c.after ≡ after) × (before ≡ after → ⊥)
@@ -23,8 +23,8 @@ CanBoth can c n = ForSome c.before (λ v. can v n) × ForSome c.after (λ v. can
 abbrev pub AdvancesApart : {V : Type 0} → (V → ℕ → V) → Type 0
 AdvancesApart {V} advance = (v w : V) (n : ℕ) → advance v n ≡ advance w n → v ≡ w
 
--- what changed between the maps of two lists of runs: of each page at which they differ both
--- values, of no other page
+-- the changes between the maps of two lists of runs: both values of each page at which they differ,
+-- and no other page
 abbrev pub AreChanges : {V : Type 0}
     → (V → ℕ → V)
     → List (Run V)

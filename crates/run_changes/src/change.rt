@@ -4,7 +4,7 @@ ghost use Rattle.run_changes.specs.Changes.{advance_change, CanBoth};
 
 use run_list::Advance;
 
-/// What a page had, and what it has. None where it had or has nothing.
+/// The value of a page before and after. None means no value.
 #[derive(Clone, Copy, PartialEq)]
 pub struct Change<V> {
     pub before: Option<V>,
@@ -31,7 +31,7 @@ impl<V: Advance> Advance for Change<V> {
 ghost use Rattle.run_list.specs.Runs.{option_advance};
 ghost use Rattle.std.specs.Option.{ForSome};
 
-/// A value some pages further on, where there is one.
+/// A value some pages further on, if there is one.
 fn later<V: Advance>(value: Option<V>, pages: u64) -> Option<V>
     requires { ForSome value (λ v. V.CanAdvance v pages) }
     ensures { result ≡ option_advance V.advance value pages }

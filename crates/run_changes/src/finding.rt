@@ -13,7 +13,7 @@ use std::alloc::{AllocError, Global};
 /// The pages are below this one.
 const END: u64 = 0x8000_0000_0000_0000;
 
-/// What changed from one map to another: of each page at which they differ, both values; of no other page.
+/// The changes from one map to another: both values of each page at which they differ, and no other page.
 pub fn changes<V: Advance>(
     alloc: Global,
     before: &RunList<V>,
@@ -40,7 +40,7 @@ pub fn changes<V: Advance>(
     Ok(found)
 }
 
-/// What changed of a page.
+/// The change of a page, None if it is unchanged.
 fn difference<V: Advance>(before: Option<V>, after: Option<V>) -> Option<Change<V>>
     ensures { IsDifference before after result }
 {
@@ -86,7 +86,7 @@ fn until<V: Advance>(runs: &[Run<V>], page: u64) -> u64
     run.pages.first.0 + run.pages.count
 }
 
-/// The first page of the run at a place, and behind the last run a page behind all.
+/// The first page of the run at a place, and after the last run a page past all pages.
 fn next<V: Advance>(runs: &[Run<V>], place: usize) -> u64
     requires reach { AreInReach V.CanAdvance runs.now }
     ensures from { StartsFrom result (drop place runs.now) }

@@ -1,4 +1,4 @@
-//! Where two lists of runs differ, page by page.
+//! The differences of two lists of runs, page by page.
 #![tactic(auto)]
 
 mod change;

@@ -10,8 +10,8 @@ use Rattle.table_tree.specs.Meaning.{level_at}
 abbrev pub gives : ℕ → ℕ → Entry
 gives depth word = entry_of_word (desc_of (level_at depth) word)
 
--- from a word that gives the entry, the words `step` apart give what the entry advances to, to the
--- end of the table
+-- from a word that gives the entry, the words `step` apart give the entries to which it advances,
+-- to the end of the table
 pub record GoesAhead (depth : ℕ) (entry : Entry) (step : ℕ) : Type 0 where
   pub ahead : (word k : ℕ)
       → word < 2 ^ 64

@@ -1,4 +1,4 @@
--- What a look at one slot and a change of it are to the tree, for tables at any depth.
+-- The effect on the tree of a look at one slot and of a change of it, for tables at any depth.
 use Rattle.std.specs.Prelude.{◌≡◌, ℕ, ◌+◌, ◌<◌, ◌≤◌, ◌==◌, if◌then◌else◌, None}
 use Rattle.std.specs.declared.boxed.Box.{Box}
 use Rattle.page_state.specs.declared.entry.Entry.TheVariants.{Unmapped}
@@ -52,12 +52,12 @@ pub record IsNew {A : Type 0} (t : Table A) : Type 0 where
   pub shape : (depth : ℕ) → IsShaped depth t
   pub tight : (depth : ℕ) → IsTight depth t
 
--- the table loses what slot `i` held: its word becomes 0
+-- the table loses the content of slot `i`: its word becomes 0
 pub record IsCleared {A : Type 0} (t u : Table A) : Type 0 where
   pub shape : (depth : ℕ) → IsShaped depth t → IsShaped depth u
   pub tight : (depth : ℕ) → IsTight depth t → IsTight depth u
 
--- what slot `i` of a table says of it: `s` is that slot
+-- the facts that slot `i` gives about its table: `s` is that slot
 pub record IsSeen {A : Type 0} (i : ℕ) (t : Table A) (s : Slot A) : Type 0 where
   pub word : (w depth q : ℕ)
       → s ≡ Word w

@@ -1,4 +1,4 @@
--- Slots, and what a table means. Depths count the levels below.
+-- Slots, and the meaning of a table. Depths count the levels below.
 use Rattle.std.specs.Prelude.{ℕ, zero, suc, ◌+◌, ◌*◌, ◌/◌, ◌%◌, ◌^◌, ◌<◌, List, [], ◌∷◌, slice_index_or, Option, Some, None, nat_lt, if◌then◌else◌}
 use Rattle.descriptor.specs.Word.{desc_of}
 use Rattle.descriptor.specs.declared.Level.{Level}
@@ -39,16 +39,16 @@ slots_of t = t.slots.items
 abbrev pub slot_at : {A : Type 0} → Table A → ℕ → Slot A
 slot_at t i = slice_index_or t.slots.items i (word_slot 0)
 
--- what a slot gives: of its word by `here`, of its child by `below`
+-- the value of a slot: `here` of its word, or `below` of its child
 abbrev pub slot_case : {A : Type 0} {R : Type 0} → (ℕ → R) → (Table A → R) → Slot A → R
 slot_case {A} here below s = elim (out-Slot A s) [ Word w ↦ here w | Child b ↦ below b.value ]
 
--- what a word of a table gives a page
+-- the entry that a word of a table gives a page
 abbrev pub word_entry : ℕ → ℕ → ℕ → Entry
 word_entry depth page word =
     advance (entry_of_word (desc_of (level_at depth) word)) (page % block_pages depth)
 
--- what a table gives a page
+-- the entry that a table gives a page
 unfoldable pub entry_at : {A : Type 0} → ℕ → Table A → ℕ → Entry
 entry_at zero t page =
     slot_case (word_entry zero page) (λ _. Malformed) (slot_at t (index_at zero page))
@@ -65,7 +65,7 @@ table_word frame = frame % 2 ^ 36 * 4096 + 3
 abbrev pub slot_word : {A : Type 0} → Slot A → ℕ
 slot_word s = slot_case (λ w. w) (λ c. table_word (frame_of c)) s
 
--- the word at a path of indices; a path leads on through children alone
+-- the word at a path of indices; a path goes only through children
 unfoldable pub word_at : {A : Type 0} → Table A → List ℕ → Option ℕ
 word_at t [] = None
 word_at t (i ∷ []) = if nat_lt i 512 then Some (slot_word (slot_at t i)) else None

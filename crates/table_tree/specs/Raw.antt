@@ -1,4 +1,4 @@
--- Raw trees: any words, and what a poke does.
+-- Raw trees: any words, and the effect of a poke.
 use Rattle.std.specs.Prelude.{◌≡◌, ℕ, zero, suc, ◌/◌, ◌<◌, List, ◌∷◌, ◌++◌, Option, Some, None}
 use Rattle.std.specs.Coded.{×_prop, Unit-prop, Π_prop}
 use Rattle.std.proofs.Math.Nat.{ℕ_set}
@@ -35,7 +35,7 @@ abbrev pub BeginsWith : List ℕ → List ℕ → Type 0
 BeginsWith path q = (rest : List ℕ) × (q ≡ path ++ rest)
 
 -- the words at all paths, after the word at one path was poked. If that word was there before, all
--- stay. Any other word takes out what was behind it: no path leads on through it
+-- stay. Any other word removes the child below it: no path goes on through it
 pub record IsPoked (before after : List ℕ → Option ℕ) (path : List ℕ) (word : ℕ) : Type 0 where
   pub there : after path ≡ Some word
   pub elsewhere : (q : List ℕ) → (BeginsWith path q → ⊥) → after q ≡ before q
@@ -49,8 +49,8 @@ abbrev pub IsInBlock : Block → ℕ → Type 0
 IsInBlock b page = page / span b ≡ b.1
 
 -- the map after a poke of a block's word: pages outside of the block keep their entry, and if the
--- word is the same, all do; of another word each page of the block has what the word gives it, so a
--- table word makes the whole block malformed
+-- word is the same, all pages do; under another word each page of the block has the entry that the
+-- word gives it, so a table word makes the whole block malformed
 pub record IsPokedMap (b : Block) (words : List ℕ → Option ℕ) (before after : Map) (path : List ℕ)
     (word : ℕ) : Type 0 where
   pub outside : (page : ℕ) → (IsInBlock b page → ⊥) → after page ≡ before page

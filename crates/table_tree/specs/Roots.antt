@@ -1,4 +1,5 @@
--- What a root table says, with the tables below it. They may be any, also those of no valid tree.
+-- The map of a root table with the tables below it. They may be any tables, not only those of a
+-- valid tree.
 use Rattle.std.specs.Prelude.{ℕ, zero, suc, ◌*◌, nat_lt, Option, None, if◌then◌else◌}
 use Rattle.page_state.specs.declared.entry.Entry.TheVariants.{Unmapped}
 use Rattle.page_state.specs.declared.layout.Geometry.{Geometry}
@@ -9,7 +10,7 @@ use Rattle.table_tree.specs.declared.table.Table.{Table}
 use Rattle.table_tree.specs.Meaning.{entry_at}
 use Rattle.table_tree.specs.Tables.{table_in}
 
--- what the words say of each page
+-- the entry that the words give each page
 unfoldable pub map_under : {A : Type 0} → Geometry → Table A → Map
 map_under geometry root page =
     if nat_lt page (input_pages geometry) then entry_at (levels_below geometry) root page

@@ -31,7 +31,7 @@ IsWellFormed Unmapped = Unit {0}
 IsWellFormed (Annotated owner) = Unit {0}
 IsWellFormed (Leaf frame prot kind state) = Unit {0}
 
--- the frame of a leaf is one that a word can say
+-- the frame of a leaf is one that a word can hold
 abbrev pub HasSmallFrame : Entry → Type 0
 HasSmallFrame (Leaf frame prot kind state) = frame.0 < 2 ^ 36
 HasSmallFrame other = Unit {0}
@@ -41,7 +41,7 @@ abbrev pub IsEntryWord : ℕ → ℕ → Type 0
 IsEntryWord depth word =
     (word < 2 ^ 64) × IsWellFormed (entry_of_word (desc_of (level_at depth) word))
 
--- what a slot must meet
+-- the condition on a slot
 abbrev pub MeetsSlot : {A : Type 0} → (ℕ → Type 0) → (Table A → Type 0) → Slot A → Type 0
 MeetsSlot {A} here below s = elim (out-Slot A s) [ Word w ↦ here w | Child b ↦ below b.value ]
 

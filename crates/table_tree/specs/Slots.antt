@@ -1,4 +1,4 @@
--- What slots give.
+-- The values of slots.
 use Rattle.std.specs.Prelude.{ℕ, zero, suc, List, [], Option, None}
 use Rattle.page_state.specs.declared.entry.Entry.{Entry}
 use Rattle.page_state.specs.declared.entry.Entry.TheVariants.{Malformed}
@@ -12,7 +12,7 @@ unfoldable pub IsSlot : {A : Type 0} → ℕ → Slot A → Type 0
 IsSlot zero s = MeetsSlot (IsEntryWord zero) (λ _. ⊥) s
 IsSlot (suc depth) s = MeetsSlot (IsEntryWord (suc depth)) (λ c. IsShaped depth c) s
 
--- what a slot of a table gives a page
+-- the entry that a slot of a table gives a page
 unfoldable pub slot_entry : {A : Type 0} → ℕ → Slot A → ℕ → Entry
 slot_entry zero s page = slot_case (word_entry zero page) (λ _. Malformed) s
 slot_entry (suc depth) s page =

@@ -7,7 +7,7 @@ use Rattle.table_tree.specs.declared.table.Table.{Table}
 use Rattle.table_tree.specs.AllBlocks.{gathered}
 use Rattle.table_tree.specs.Meaning.{index_at, frame_of, slots_of, slot_at, slot_case}
 
--- the sum of what the children of a table give
+-- the sum of a function over the children of a table
 abbrev pub sum_below : {A : Type 0} → (Table A → ℕ) → Table A → ℕ
 sum_below below t = sum_by (slot_case (λ _. 0) below) (slots_of t)
 

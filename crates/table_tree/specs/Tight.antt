@@ -1,4 +1,4 @@
--- Trees in which no word can say what a table below the root says.
+-- Trees in which no word can encode the map of a table below the root.
 use Rattle.std.specs.Prelude.{◌≡◌, ℕ, zero, suc, ◌*◌, ◌/◌, ◌%◌, ◌<◌, true}
 use Rattle.std.specs.Coded.{×_prop, Unit-prop, Π_prop}
 use Rattle.descriptor.specs.Word.{desc_of}
@@ -16,8 +16,8 @@ use Rattle.table_tree.specs.Shape.{MeetsSlot, MeetsSlot-prop}
 abbrev pub HasEntry : {A : Type 0} → ℕ → Entry → Slot A → Type 0
 HasEntry depth x s = (w : ℕ) × (s ≡ Word w) × (entry_of_word (desc_of (level_at depth) w) ≡ x)
 
--- a word one level up can say what the table says: its words go on with what the first one gives,
--- and that fits a word there
+-- a word one level up can encode the map of the table: its words continue the entry of the first
+-- one, and that entry fits a word there
 pub record IsOneWord {A : Type 0} (depth : ℕ) (t : Table A) : Type 0 where
   pub entry : Entry
   pub fits : fits_word (suc depth) entry ≡ true
@@ -25,7 +25,7 @@ pub record IsOneWord {A : Type 0} (depth : ℕ) (t : Table A) : Type 0 where
       → i < 512
       → HasEntry depth (advance entry (i * block_pages depth)) (slot_at t i)
 
--- a word can say what entries give the block of a depth that holds a page
+-- a word can encode the entries of the block of a depth that holds a page
 pub record IsOneWordAt (depth : ℕ) (m : ℕ → Entry) (page : ℕ) : Type 0 where
   pub entry : Entry
   pub fits : fits_word depth entry ≡ true
@@ -33,7 +33,7 @@ pub record IsOneWordAt (depth : ℕ) (m : ℕ → Entry) (page : ℕ) : Type 0 w
       → p / block_pages depth ≡ page / block_pages depth
       → m p ≡ advance entry (p % block_pages depth)
 
--- no word one level up can say what a table below this one says
+-- no word one level up can encode the map of any table below this one
 unfoldable pub IsTight : {A : Type 0} → ℕ → Table A → Type 0
 IsTight zero t = Unit {0}
 IsTight (suc depth) t =

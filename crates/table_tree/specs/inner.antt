@@ -1,2 +1,2 @@
--- What contracts of inner functions alone cite.
+-- Definitions for contracts of inner functions only.
 pub mod Pokes

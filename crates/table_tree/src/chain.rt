@@ -58,7 +58,7 @@ impl<A: Allocator> Chain<A> {
         }
     }
 
-    /// The number of tables, or `most` where there are more.
+    /// The number of tables, or `most` if there are more.
     pub(crate) fn count_to(&self, most: usize) -> usize
         ensures { result ≡ min (length (links_of self.now)) most }
     {

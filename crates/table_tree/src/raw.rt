@@ -12,7 +12,7 @@ use page_state::{Entry, Geometry, Page};
 use std::alloc::Allocator;
 use thiserror::Error;
 
-/// A tree that may hold any words: a table word leads on only where its slot holds a child of that frame, and else it is
+/// A tree that may hold any words: a table word is followed only if its slot holds a child of that frame; else it is
 /// malformed.
 #[derive(Drop)]
 pub struct RawTree<A: Allocator> {
@@ -46,15 +46,15 @@ impl<A: Allocator> RawTree<A> {
         look_in(&self.table, depth, page.0)
     }
 
-    /// The word at a path of indices, the root's first; None where there is no table on the path, or an index is
-    /// over 511.
+    /// The word at a path of indices, the root's first; None if there is no table on the path, or an index is over 511.
     pub fn word_at(&self, path: &[u16]) -> Option<u64>
         ensures { result ≡ raw_word_of self.now path.now }
     {
         word_in(&self.table, self.geometry.depth(), path)
     }
 
-    /// Sets the word at a path. Where that word is there already all stays, a child too; any other word takes the child out.
+    /// Sets the word at a path. If that word is there already, all stays, a child too; any other word removes the
+    /// child.
     pub fn poke(self, path: &[u16], word: u64) -> Result<RawTree<A>, (RawTree<A>, PathFault)>
         ensures fault { IsOk result ↔ IsSome (raw_word_of self path.now) }
         ensures kept { IfErr result (λ e. e.0 ≡ self) }
@@ -106,7 +106,8 @@ impl<A: Allocator> Tree<A> {
         RawTree { geometry, table }
     }
 
-    /// Sets the word at a path. Where that word is there already all stays, a child too; any other word takes the child out.
+    /// Sets the word at a path. If that word is there already, all stays, a child too; any other word removes the
+    /// child.
     pub fn poke(self, path: &[u16], word: u64) -> Result<RawTree<A>, (Tree<A>, PathFault)>
         ensures fault { IsOk result ↔ HasWord self.geometry (tree_of self) path.now }
         ensures none { IsOk result ↔ IsSome (word_at_path self path.now) }

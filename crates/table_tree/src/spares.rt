@@ -9,7 +9,7 @@ use crate::chain::Chain;
 use descriptor::Frame;
 use std::alloc::{AllocError, Allocator};
 
-/// What a spare says in place of a frame.
+/// The value of a spare in place of a frame.
 const NO_FRAME: Frame = Frame(0);
 
 /// Tables of zeros without a frame. Keeping one takes no memory.
@@ -39,7 +39,7 @@ impl<A: Allocator> Spares<A> {
         }
     }
 
-    /// How many there are, or `most` where there are more.
+    /// The number of spares, or `most` if there are more.
     #[tactic(auto, unfolding(crate::specs::Stocks::kept_in))]
     pub(crate) fn count_to(&self, most: usize) -> usize
         ensures { result ≡ min (kept_in self.now) most }
@@ -76,7 +76,7 @@ impl<A: Allocator> Spares<A> {
 impl<A: Allocator + Copy> Spares<A> {
     ghost use Rattle.table_tree.specs.Stocks.{kept_in};
 
-    /// Makes them at least `n`. Where memory is refused, those that were made stay.
+    /// Makes them at least `n`. If the allocator refuses memory, the new ones stay.
     #[tactic(auto, unfolding(crate::specs::Stocks::kept_in))]
     pub(crate) fn grow(&mut self, alloc: A, n: usize) -> Result<(), AllocError>
         ensures ok { OnOk result (kept_in self.new ≡ max n (kept_in self.old)) }

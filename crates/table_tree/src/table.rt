@@ -147,7 +147,7 @@ impl<A: Allocator> Table<A> {
         }
     }
 
-    /// Writes a slot over what it holds.
+    /// Overwrites a slot.
     pub(crate) fn write(&mut self, i: usize, slot: Slot<A>)
         requires within { i < 512 }
         requires wide { IsWide self.old }
@@ -157,7 +157,7 @@ impl<A: Allocator> Table<A> {
         self.slots[i] = slot;
     }
 
-    /// Takes what a slot holds, and leaves the word 0.
+    /// Takes the content of a slot, and leaves the word 0.
     #[tactic(auto, using(crate::proofs::Slots::read_slot))]
     pub(crate) fn take(&mut self, i: usize) -> Slot<A>
         requires within { i < 512 }

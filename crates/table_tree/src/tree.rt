@@ -15,8 +15,8 @@ use descriptor::Frame;
 use page_state::{Entry, Geometry, Page};
 use std::alloc::{AllocError, Allocator, Global};
 
-/// A tree of tables. Its root table has the geometry's levels below it, no word can say what a table below the root says, and
-/// no two tables have one frame. Beside them it keeps spares, tables without a frame, for later changes.
+/// A tree of tables. Its root table has the geometry's levels below it, no word can encode the map of a table below the
+/// root, and no two tables have one frame. It also keeps spares, tables without a frame, for later changes.
 #[derive(Drop)]
 pub struct Tree<A: Allocator> {
     pub geometry: Geometry,
@@ -84,8 +84,7 @@ impl<A: Allocator> Tree<A> {
         look_in(&self.table, depth, page.0)
     }
 
-    /// The word at a path of indices, the root's first; None where there is no table on the path, or an index is
-    /// over 511.
+    /// The word at a path of indices, the root's first; None if there is no table on the path, or an index is over 511.
     pub fn word_at(&self, path: &[u16]) -> Option<u64>
         ensures value { result ≡ word_at_path self.now path.now }
         ensures found { IsSome result ↔ HasWord self.now.geometry (tree_of self.now) path.now }
@@ -95,8 +94,8 @@ impl<A: Allocator> Tree<A> {
         word_in(&self.table, self.geometry.depth(), path)
     }
 
-    /// The word on a page's path at a level. None where the page isn't an input page, the level isn't one of the tree's, or no
-    /// table is there. It is the word of the level's block that holds the page.
+    /// The word on a page's path at a level. None if the page isn't an input page, the level isn't one of the tree's,
+    /// or no table is there. It is the word of the level's block that holds the page.
     #[tactic(auto, unfolding(crate::specs::OnPage::word_on))]
     pub fn word_on(&self, page: Page, level: u64) -> Option<u64>
         ensures value { result ≡ word_on_page self.now page.0 level }
@@ -155,7 +154,7 @@ impl<A: Allocator> Tree<A> {
         spares.keep(table);
     }
 
-    /// The frames of all tables of a tree that goes: those at its blocks, in their order, the root's first.
+    /// The frames of all tables of a tree that goes: those at its blocks, in order, the root's first.
     pub fn dismantle(self, alloc: Global) -> Result<Vec<Frame>, (Tree<A>, AllocError)>
         ensures frames { IfOk result (λ v. map (λ f. f.0) v.items ≡ table_frames self.geometry (tree_of self)) }
         ensures root { IfOk result (λ v. slice_get (map (λ f. f.0) v.items) 0 ≡ Some (root_of self)) }
@@ -188,7 +187,7 @@ impl<A: Allocator> Tree<A> {
 impl<A: Allocator + Copy> Tree<A> {
     ghost use Rattle.table_tree.specs.View.{spares_of};
 
-    /// Makes the spares at least `n`. Where memory is refused, those that were made stay. All else of the tree is as it was.
+    /// Makes the spares at least `n`. If the allocator refuses memory, the new ones stay. All else of the tree stays.
     #[tactic(auto, unfolding(crate::specs::View::spares_of))]
     pub fn grow_spares(&mut self, alloc: A, n: usize) -> Result<(), AllocError>
         ensures ok { OnOk result (spares_of self.new ≡ max n (spares_of self.old)) }

@@ -1,4 +1,4 @@
-//! Indices, and what words give pages.
+//! Indices, and the entries that words give pages.
 ghost use Rattle.std.specs.Prelude.{◌≡◌, ℕ, ◌+◌, ◌*◌, ◌^◌, ◌<◌};
 ghost use Rattle.descriptor.specs.Word.{desc_of, CanBeSaid};
 ghost use Rattle.page_state.specs.Entries.{advance, entry_of_word, word_of_entry};
@@ -31,7 +31,7 @@ pub(crate) fn index_of(depth: u32, page: u64) -> usize
     ((page >> (9 * depth)) % 512) as usize
 }
 
-/// What a word gives the first page of its block.
+/// The entry that a word gives the first page of its block.
 pub fn entry_of(depth: u32, word: u64) -> Entry
     requires { IsDepth depth }
     ensures value { result ≡ entry_of_word (desc_of (level_at depth) word) }
@@ -41,7 +41,7 @@ pub fn entry_of(depth: u32, word: u64) -> Entry
     Entry::from(decode(level_of(depth), word))
 }
 
-/// What a word gives a page of its block.
+/// The entry that a word gives a page of its block.
 pub(crate) fn entry_in(depth: u32, word: u64, page: u64) -> Entry
     requires { IsDepth depth }
     ensures { result ≡ word_entry depth page word }
@@ -49,7 +49,7 @@ pub(crate) fn entry_in(depth: u32, word: u64, page: u64) -> Entry
     entry_of(depth, word).advance(page % (1 << (9 * depth)))
 }
 
-/// The word that gives an entry at a level where it can be said.
+/// The word that encodes an entry at a level, if the level can encode it.
 pub fn word_of(depth: u32, entry: Entry) -> u64
     requires depth_in { IsDepth depth }
     requires said { CanBeSaid (level_at depth) (word_of_entry entry) }

@@ -1,4 +1,4 @@
--- What contracts see of the table, in the words of the reference state.
+-- The view of the table in contracts, as part of the reference state.
 use Rattle.std.specs.Prelude.{List, [], None, get_or}
 use Rattle.call_table.specs.declared.step.VmKind.TheVariants.{Plain}
 use Rattle.reference_model.specs.model.State.{Stand, vacant, reserved, opened, closing, Slot, Vms}
@@ -13,7 +13,7 @@ stand_of Reserved = reserved
 stand_of Open = opened
 stand_of Closing = closing
 
--- a slot; a vCPU past those of the list is loaded by no CPU
+-- a slot; no CPU has a vCPU past the end of the list loaded
 abbrev pub slot_of : TableSlot → Slot
 slot_of s =
     record {

@@ -85,7 +85,7 @@ impl Slot {
 }
 
 impl VmTable {
-    /// The table at boot: no slot has a VM, and each has generation 1. It fails only where memory is refused.
+    /// The table at boot: no slot has a VM, and each has generation 1. It fails only if the allocator refuses memory.
     pub fn new(alloc: Global) -> Result<VmTable, AllocError>
         ensures { IfOk result (λ t. vms_of t ≡ no_vms) }
     {
@@ -101,7 +101,7 @@ impl VmTable {
         self.slots[slot as usize]
     }
 
-    /// Past the 64 slots there are Empty ones alone. It does nothing, and its contract is the law.
+    /// Past the 64 slots there are only Empty ones. It does nothing, and its contract is the law.
     pub fn empty_past(&self)
         ensures { (v : ℕ) → 64 ≤ v → (vms_of self.now).slot v ≡ no_slot 1 }
     {
@@ -156,7 +156,7 @@ impl VmTable {
         matches!(self.slot(slot).state, SlotState::Vacant)
     }
 
-    /// The lowest Vacant slot, or None where there is none.
+    /// The lowest Vacant slot, or None.
     pub fn vacant(&self) -> Option<u64>
         ensures value { result ≡ vacant_slot (vms_of self.now) }
         ensures small { IfSome result (λ slot. slot < 64) }
@@ -243,8 +243,8 @@ impl VmTable {
         self.put_slot(vm.slot, Slot::empty(vm.generation + 1));
     }
 
-    /// Changes a slot, or none. Requires a slot of the table, one of its vCPUs, and a generation below the
-    /// greatest u64 where it rises.
+    /// Changes a slot, or none. Requires a slot of the table, one of its vCPUs, and a generation below the greatest u64
+    /// if it rises.
     pub fn change(&mut self, change: &SlotChange)
         requires { FitsTable change.now }
         ensures { vms_of self.new ≡ vms_by change.now (vms_of self.old) }

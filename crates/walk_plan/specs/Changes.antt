@@ -1,5 +1,5 @@
--- Changes of some pages of a block, their parts, and what they need. Depths count the levels below,
--- pages the block's.
+-- Changes of some pages of a block, their parts, and the tables that they need. Depths count the
+-- levels below, pages the block's.
 use Rattle.std.specs.Prelude.{ℕ, ◌-◌, ◌*◌, ◌%◌, ◌<◌, ◌≤◌, ◌==◌, ◌&&◌, ◌||◌, nat_lt, nat_le, min, Bool, if◌then◌else◌}
 use Rattle.descriptor.specs.Word.{CanBeSaid}
 use Rattle.descriptor.specs.declared.Level.TheVariants.{Three}
@@ -10,7 +10,7 @@ use Rattle.page_state.specs.Blocks.{fits_word}
 use Rattle.page_state.specs.Geometries.{block_pages}
 use Rattle.walk_plan.specs.declared.change.Change.{Change}
 
--- words of the last level can say an entry and what it advances to on `n` pages
+-- words of the last level can encode an entry and the entries to which it advances on `n` pages
 abbrev pub CanBeSaidOn : ℕ → Entry → Type 0
 CanBeSaidOn n e = (i : ℕ) → i < n → CanBeSaid Three (word_of_entry (advance e i))
 
@@ -32,7 +32,7 @@ changed_entry depth m c q =
     then advance c.entry (q % block_pages depth - c.first)
     else m q
 
--- what a change does in part `i` of its block, whose parts have `depth` levels below them
+-- the change restricted to part `i` of its block, whose parts have `depth` levels below them
 abbrev pub part : ℕ → ℕ → Change → Change
 part depth i c =
     record {
@@ -43,7 +43,7 @@ part depth i c =
           advance c.entry (i * block_pages depth - c.first);
     }
 
--- a change of a whole block to what one word can say
+-- a change of a whole block to an entry that one word can encode
 abbrev pub is_whole : ℕ → Change → Bool
 is_whole depth c = c.first == 0 && c.end == block_pages depth && fits_word depth c.entry
 

@@ -20,7 +20,8 @@ use Rattle.walk_plan.specs.Changes.{CanBeSaidOn}
 abbrev pub edit_on : PageRange → Entry → Edit
 edit_on r e = put r.first.0 r.count e
 
--- it is one of some pages of the tree, and words of the last level can say it
+-- the change is of at least one page, all of them in the tree, and words of the last level can
+-- encode it
 pub record FitsTree (g : Geometry) (r : PageRange) (e : Entry) : Type 0 where
   pub some : 1 ≤ r.count
   pub within : end_of r ≤ input_pages g
@@ -31,7 +32,7 @@ module _ {A : Type 0} where
   abbrev pub need_in : Tree A → Edit → ℕ
   need_in t e = need (levels_below t.geometry) (tree_of t) e
 
-  -- the tree after it, where the new tables get the lowest of these frames
+  -- the tree after the change; the new tables get the lowest of these frames
   abbrev pub after_in : Tree A → Edit → List ℕ → ReferenceTree
   after_in t e fs = edited (levels_below t.geometry) (tree_of t) e fs
 
@@ -39,7 +40,7 @@ module _ {A : Type 0} where
   abbrev pub back_in : Tree A → Edit → List ℕ
   back_in t e = returned (levels_below t.geometry) (tree_of t) e
 
-  -- the tree is as it was, but for its spares
+  -- the tree stays, apart from its spares
   pub record Stays (t u : Tree A) : Type 0 where
     pub geometry : u.geometry ≡ t.geometry
     pub table : u.table ≡ t.table
@@ -63,8 +64,8 @@ module _ {A : Type 0} where
     pub pool : q ≡ p
     pub spares : spares_of t ≤ spares_of u
 
-  -- why `n` tables weren't taken: NoPool exactly where fewer frames are free, NoMemory only where
-  -- the spares are too few
+  -- the reason why `n` tables weren't taken: NoPool if and only if fewer frames are free, NoMemory
+  -- only if the spares are too few
   pub record IsRefused (n : ℕ) (t : Tree A) (p : StoredFrames) (u : Tree A) (q : StoredFrames)
       (fault : PoolFault) : Type 0 where
     pub left : IsLeft t p u q

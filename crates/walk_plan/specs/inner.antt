@@ -1,4 +1,4 @@
--- How the walk counts, cited by contracts of inner functions alone.
+-- The counts of the walk, for contracts of inner functions only.
 pub mod Needs
 pub mod Ranks
 pub mod Looks

@@ -16,7 +16,8 @@ pub struct Change {
 }
 
 impl Change {
-    /// What the change does in part `i` of its block, whose parts have `depth` levels below them; counted in the part.
+    /// The change restricted to part `i` of its block, whose parts have `depth` levels below them. Pages count from the
+    /// part's first.
     pub fn part(self, depth: u32, i: u64) -> Change
         requires depth_in { IsDepth depth }
         requires within { i < 512 }
@@ -32,7 +33,7 @@ impl Change {
         }
     }
 
-    /// Whether the change is one of a whole block to what one word can say.
+    /// Whether the change is of a whole block, to an entry that one word can encode.
     pub fn is_whole(self, depth: u32) -> bool
         requires { IsDepth depth }
         ensures { result ≡ is_whole depth self }

@@ -1,4 +1,4 @@
-//! What each tree is. The function does nothing, and its contract is the law.
+//! Each tree is the coarsest of its map. The function does nothing, and its contract is the law.
 ghost use Rattle.coarse_trees.specs.Coarsest.{IsCanonical};
 ghost use Rattle.page_state.specs.Geometries.{levels_below};
 ghost use Rattle.table_tree.specs.View.{tree_of};

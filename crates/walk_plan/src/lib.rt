@@ -1,4 +1,4 @@
-//! What a change of a range of a tree needs, and the tables in hand for it.
+//! The number of tables that a change of a range of a tree needs, and the tables reserved for it.
 #![tactic(auto)]
 
 mod change;

@@ -78,9 +78,9 @@ fn need_of_table<A: Allocator>(
     count
 }
 
-/// The tables that a change of a range of a tree needs: one for each aligned block that meets the range, has no table, and
-/// can't be one word afterwards. It is a function of the map alone: these blocks are those that can be one word before the
-/// change and can't afterwards. It looks at no more slots than 1.5 for each page and 6.
+/// The tables that a change of a range of a tree needs: one for each aligned block that meets the range, has no table,
+/// and can't be one word afterwards. It depends only on the map: these are the blocks that can be one word before the
+/// change and can't afterwards. It reads at most 6 slots and 1.5 for each page.
 pub fn need<A: Allocator>(
     tree: &Tree<A>,
     range: PageRange,
@@ -115,7 +115,7 @@ fn need_of_empty(depth: u32, change: Change) -> usize
     count
 }
 
-/// The tables that a change of a range needs in a tree of its root alone, in which nothing is mapped. It takes no memory.
+/// The tables that a change of a range needs in a tree that has only its root and maps nothing. It takes no memory.
 pub fn need_of_new(geometry: Geometry, range: PageRange, entry: &Entry) -> usize
     requires { FitsTree geometry range entry.now }
     ensures { (root : ℕ)

@@ -17,9 +17,9 @@ pub struct Spare<A: Allocator> {
     pub stock: Stock<A>,
 }
 
-/// Takes the frames that a change of a range needs out of the pool, the lowest, and a table for each: the tree's spares, and
-/// new ones where those are too few. NoPool is answered just where fewer frames are free, NoMemory only where the spares
-/// are too few and memory was refused. Then nothing has changed but that the tree may have more spares.
+/// Takes the frames that a change of a range needs out of the pool, the lowest, and a table for each: the tree's
+/// spares, and new ones if those are too few. It returns NoPool if and only if fewer frames are free, NoMemory only if
+/// the spares are too few and the allocator refused memory. After a refusal only the tree's spares may have grown.
 pub fn reserve<A: Allocator + Copy>(
     alloc: A,
     tree: &mut Tree<A>,
@@ -47,9 +47,9 @@ pub fn reserve<A: Allocator + Copy>(
     Ok(reserve_tables(alloc, tree, pool, need)?)
 }
 
-/// Takes the lowest `count` frames out of the pool and a table for each, where so many are free: `reserve` for who has counted
-/// need and pool already. It is refused only where the spares are too few and memory was refused; then nothing has changed but
-/// that the tree may have more spares.
+/// Takes the lowest `count` frames out of the pool and a table for each. Requires that this many are free: it is
+/// `reserve` for a caller that has already counted the need and the pool. It is refused only if the spares are too few
+/// and the allocator refused memory; then only the tree's spares may have grown.
 pub fn reserve_tables<A: Allocator + Copy>(
     alloc: A,
     tree: &mut Tree<A>,

@@ -1,3 +1,3 @@
--- How the walk goes on, cited by contracts of inner functions alone.
+-- The steps of the walk, for contracts of inner functions only.
 pub mod Steps
 pub mod Walks

@@ -16,8 +16,9 @@ use std::mem;
 use table_tree::{Reads, Stock, Tree};
 use walk_plan::{Change, Spare, drain, reserve};
 
-/// Gives the pages of a range an entry, which advances along the range, with tables in hand for just this change.
-/// It can't fail. The frames of tables that go join the pool at the end, and the tables the tree's spares.
+/// Gives the pages of a range an entry, which advances along the range, with the tables reserved for exactly this
+/// change. It can't fail. At the end the frames of removed tables go back to the pool, and the tables to the tree's
+/// spares.
 pub fn set_with<A: Allocator>(
     tree: &mut Tree<A>,
     pool: &mut Pool,
@@ -59,10 +60,10 @@ pub fn set_with<A: Allocator>(
     drain(freed, tree, pool);
 }
 
-/// Gives the pages of a range an entry, which advances along the range, or changes nothing but that the tree may have more
-/// spares: NoPool is answered exactly where the pool has fewer frames than the change needs tables, NoMemory only where the
-/// tree has fewer spares and memory was refused. The tree is the one coarsest tree of its map, before and afterwards, so the
-/// maps and the number of free frames alone decide whether NoPool is answered.
+/// Gives the pages of a range an entry, which advances along the range, or changes nothing, except that the tree may
+/// get more spares: it returns NoPool if and only if the pool has fewer frames than the change needs tables, NoMemory
+/// only if the tree has fewer spares than that and the allocator refused memory. The tree is the one coarsest tree of
+/// its map, before and afterwards, so only the maps and the number of free frames decide on NoPool.
 pub fn set<A: Allocator + Copy>(
     alloc: A,
     tree: &mut Tree<A>,

@@ -1,4 +1,5 @@
-//! A change of a range of a tree, all or nothing, with tables in hand; and what such a change needs, which `walk_plan` finds.
+//! A change of a range of a tree, all or nothing, with reserved tables. `walk_plan` finds the number of tables that it
+//! needs.
 #![tactic(auto)]
 
 mod change;

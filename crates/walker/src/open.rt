@@ -1,4 +1,4 @@
-//! What a change does to one slot: a word in the place of a word, or a table to go on in, which is put back.
+//! The effect of a change on one slot: a word in the place of a word, or a table to go on in, which is put back.
 ghost use Rattle.std.specs.Prelude.{◌≡◌, ◌≢◌, ℕ, ◌+◌, ◌*◌, ◌<◌, ◌≤◌, None, IfSome, MatchOption, is_some, length, Decides};
 ghost use Rattle.descriptor.specs.Word.{desc_of, CanBeSaid};
 ghost use Rattle.page_state.specs.Entries.{advance, entry_of_word, word_of_entry};
@@ -20,7 +20,7 @@ use table_tree::word::{entry_of, pages_before, word_of};
 use table_tree::{Reads, Slot, Stock, Table};
 use walk_plan::Change;
 
-/// The word of a block without a table after a change, where it is one.
+/// The word of a block without a table after a change, if the block can be one word.
 #[tactic(auto, using(page_state::proofs::Equality::entries_test))]
 fn word_after(depth: u32, word: u64, change: Change) -> Option<u64>
     requires depth_in { IsDepth depth }
@@ -43,12 +43,13 @@ fn word_after(depth: u32, word: u64, change: Change) -> Option<u64>
     None
 }
 
-/// What a look at a slot finds, in which a change is to be made.
+/// The result of a look at a slot before a change in it.
 #[derive(Clone, Copy)]
 pub(crate) enum Found {
     /// A word that goes on as a word: the one that the slot gets.
     Word(u64),
-    /// A table to go on in: what the slot's word gives the first page of its block, or None where there is a child.
+    /// A table to go on in: the entry that the slot's word gives the first page of its block, or None if there is a
+    /// child.
     Opening(Option<Entry>),
 }
 
@@ -89,8 +90,8 @@ fn step_of(depth: u32, entry: Entry) -> u64
     }
 }
 
-/// Writes into a table of zeros what an entry gives the parts of its block.
-// kept out of the walk, which mostly finds tables
+/// Writes into a table of zeros the words of an entry for the parts of its block.
+// kept out of the walk, which usually finds tables
 #[inline(never)]
 fn fill<A: Allocator>(table: &mut Table<A>, depth: u32, entry: Entry)
     requires depth_in { IsDepth (depth + 1) }
@@ -108,8 +109,8 @@ fn fill<A: Allocator>(table: &mut Table<A>, depth: u32, entry: Entry)
     }
 }
 
-/// Takes the child of a slot out, or makes one that means what the slot's word did; the slot is left 0. The child
-/// has `depth` levels below it, the table one more. `first` is what a look found there.
+/// Takes the child of a slot out, or makes one with the same meaning as the slot's word; the slot is left 0. The child
+/// has `depth` levels below it, the table one more. `first` is the result of a look there.
 pub(crate) fn opened<A: Allocator>(
     table: &mut Table<A>,
     depth: u32,
@@ -149,7 +150,7 @@ fn gives<A: Allocator>(slot: &Slot<A>, depth: u32, entry: Entry) -> bool
     }
 }
 
-/// Whether the slots of a table behind its first go on with an entry.
+/// Whether the slots of a table after its first continue an entry.
 fn goes_on<A: Allocator>(table: &Table<A>, depth: u32, first: Entry, reads: &mut Reads) -> bool
     requires depth_in { IsDepth depth }
     requires wide { IsWide table.now }
@@ -170,7 +171,8 @@ fn goes_on<A: Allocator>(table: &Table<A>, depth: u32, first: Entry, reads: &mut
     true
 }
 
-/// The word one level up that says what a table says, where there is one. It looks at the slots as far as they go on.
+/// The word one level up that encodes the map of a table, if there is one. It reads the slots only as far as they
+/// continue the first.
 fn folded<A: Allocator>(table: &Table<A>, depth: u32, reads: &mut Reads) -> Option<u64>
     requires depth_in { IsDepth (depth + 1) }
     requires wide { IsWide table.now }
@@ -204,8 +206,8 @@ fn wipe<A: Allocator>(table: &mut Table<A>)
     }
 }
 
-/// Puts a child that was changed back into its slot: itself, or the word that says what it says, where there is one. Then
-/// the child goes to the stock. The child has `depth` levels below it, the table one more.
+/// Puts a child that was changed back into its slot: itself, or the word that encodes its map, if there is one. In that
+/// case the child goes to the stock. The child has `depth` levels below it, the table one more.
 pub(crate) fn put_back<A: Allocator>(
     table: &mut Table<A>,
     depth: u32,

@@ -15,7 +15,7 @@ use std::alloc::Allocator;
 use table_tree::{Reads, Stock, Table};
 use walk_plan::Change;
 
-/// What a walk has at hand and leaves: tables to take, those that went, and how many slots it looked at.
+/// The state of a walk: the tables to take, the tables that it removed, and the number of slots that it read.
 pub(crate) struct Walk<A: Allocator> {
     pub(crate) spare: Stock<A>,
     pub(crate) freed: Stock<A>,

@@ -1,4 +1,4 @@
-//! The host touches a page, and gets it mapped where it may.
+//! The host touches a page, and gets it mapped if it may have it.
 ghost use Rattle.std.specs.Prelude.{◌≡◌, ℕ, ◌≤◌, None};
 ghost use Rattle.part_types.specs.View.{shared_of};
 ghost use Rattle.page_state.specs.LayoutView.{layout_of};
@@ -39,7 +39,7 @@ fn may_map<A: Allocator>(shared: &SharedPart<A>, region: Region, depth: u32, pag
     block(depth, page).is_within(region.pages) && shared.host.is_empty(depth, Page(page))
 }
 
-/// The depth of the largest block that may be mapped, and 0 for the page alone.
+/// The depth of the largest block that may be mapped, or 0 for only the page.
 fn abort_depth<A: Allocator>(shared: &SharedPart<A>, region: Region, page: u64) -> u32
     ensures value { result ≡ abort_depth_of (meaning shared.now.host.tree) region page }
     ensures small { result ≤ 2 }
@@ -63,8 +63,9 @@ fn abort_leaf(region: Region, first: u64) -> Entry
     }
 }
 
-/// The host touches a page of a region. One that is annotated is somebody else's. One that is unmapped gets mapped, with the
-/// largest aligned block around it that lies in one region and is all unmapped. What is mapped already stays.
+/// The host touches a page of a region. An annotated page belongs to another: the call is refused. An unmapped page
+/// gets mapped, with the largest aligned block around it that lies in one region and is all unmapped. A mapped page
+/// stays.
 #[tactic(auto, unfolding(reference_model::specs::model::Rules::rule, reference_model::specs::model::SharedRules::abort_edit))]
 pub(crate) fn decide_host_abort<A: Allocator>(
     layout: &Layout,

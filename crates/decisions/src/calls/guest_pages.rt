@@ -236,8 +236,8 @@ pub(crate) fn decide_guest_unshare_host<A: Allocator>(
     ))
 }
 
-/// What the host's page of a guest's frame becomes: unmapped where the guest owned the frame, and the host's own where one
-/// of them shared it.
+/// The new entry of the host's page of a guest's frame: unmapped if the guest owned the frame alone, and the host's own
+/// if one of them shared it.
 fn reclaimed(entry: Entry) -> Entry
     ensures { result
         ≡ (if is_entry_in State.Owned entry then Entry.Unmapped

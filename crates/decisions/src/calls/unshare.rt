@@ -1,4 +1,4 @@
-//! The host takes back what it shares with the hypervisor.
+//! The host takes back a page that it shares with the hypervisor.
 ghost use Rattle.std.specs.Prelude.{◌≡◌, ℕ, None};
 ghost use Rattle.part_types.specs.View.{shared_of};
 ghost use Rattle.page_state.specs.LayoutView.{layout_of};

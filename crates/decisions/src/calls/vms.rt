@@ -24,7 +24,7 @@ const MOST_VCPUS: u64 = 8;
 /// The slots of VMs (profile).
 pub(crate) const SLOTS: u64 = 64;
 
-/// The CPU's ticket, where it is of the stage.
+/// The CPU's ticket if it has the stage, else None.
 fn ticket_at(stage: Stage, cpu: &CpuState) -> Option<Ticket>
     ensures { IsTicketIf (has_stage stage (cpu_of cpu.now)) cpu.now result }
 {
@@ -40,7 +40,7 @@ fn ticket_at(stage: Stage, cpu: &CpuState) -> Option<Ticket>
     }
 }
 
-/// The CPU's ticket, where nothing of its VM is installed, or everything given back.
+/// The CPU's ticket if nothing of its VM is installed or everything is given back, else None.
 fn ticket_at_end(cpu: &CpuState) -> Option<Ticket>
     ensures { IsTicketIf
         (has_stage Stage.Booked (cpu_of cpu.now)

@@ -1,4 +1,4 @@
--- What the ends of a change cost in looks at slots.
+-- The cost of the ends of a change, in looks at slots.
 use Rattle.std.specs.Prelude.{ℕ, ◌+◌, ◌==◌, if◌then◌else◌}
 use Rattle.page_state.specs.Geometries.{block_pages}
 use Rattle.walk_plan.specs.declared.change.Change.{Change}

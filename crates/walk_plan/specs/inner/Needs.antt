@@ -15,7 +15,7 @@ unfoldable pub sum_to : (ℕ → ℕ) → ℕ → ℕ
 sum_to f zero = 0
 sum_to f (suc n) = sum_to f n + f n
 
--- what `f` gives for part `i`, where the change meets it
+-- the value of `f` for part `i` if the change meets it, else 0
 unfoldable pub met : ℕ → Change → (ℕ → Change → ℕ) → ℕ → ℕ
 met depth c f i =
     if nat_lt (part depth i c).first (part depth i c).end then f i (part depth i c) else 0
@@ -27,21 +27,21 @@ block_need (suc depth) x c =
     if stays_one_word (suc depth) x c then 0
     else 1 + sum_to (met depth c (λ i. block_need depth (advance x (i * block_pages depth)))) 512
 
--- what it needs in part `i` of such a block
+-- the number of tables that the change needs in part `i` of such a block
 unfoldable pub block_parts : ℕ → Entry → ℕ → Change → ℕ
 block_parts depth x i c = block_need depth (advance x (i * block_pages depth)) c
 
--- what it needs in a slot
+-- the number of tables that the change needs in a slot
 unfoldable pub slot_need : {A : Type 0} → ℕ → Slot A → Change → ℕ
 slot_need zero s c = 0
 slot_need (suc depth) s c =
     slot_case (λ w. block_need (suc depth) (entry_of_word (desc_of (level_at (suc depth)) w)) c)
     (λ t. sum_to (met depth c (λ i. slot_need depth (slot_at t i))) 512) s
 
--- what it needs in slot `i` of a table
+-- the number of tables that the change needs in slot `i` of a table
 unfoldable pub table_parts : {A : Type 0} → ℕ → Table A → ℕ → Change → ℕ
 table_parts depth t i c = slot_need depth (slot_at t i) c
 
--- what it needs in a table
+-- the number of tables that the change needs in a table
 abbrev pub table_need : {A : Type 0} → ℕ → Table A → Change → ℕ
 table_need depth t c = sum_to (met depth c (table_parts depth t)) 512

@@ -26,13 +26,13 @@ abbrev pub later : ℕ → Option ℕ → Option ℕ
 later n None = None
 later n (Some r) = Some (n + r)
 
--- what `f` gives for the part `i`, where the change meets it
+-- the value of `f` for part `i` if the change meets it
 abbrev pub met_at : ℕ → Change → (ℕ → Change → Option ℕ) → ℕ → Option ℕ
 met_at depth c f i =
     if nat_lt (part depth i c).first (part depth i c).end then f i (part depth i c) else None
 
--- how many tables a change makes in a block before the one with `low` levels below it on a page's
--- path, where it makes that one
+-- the number of tables that a change makes in a block before the one with `low` levels below it on
+-- a page's path, if it makes that one
 unfoldable pub block_rank : ℕ → Entry → Change → ℕ → ℕ → Option ℕ
 block_rank zero x c low q = None
 block_rank (suc depth) x c low q =
@@ -65,15 +65,15 @@ table_rank depth t c low q =
     later (sum_to (met depth c (table_parts depth t)) (index_at depth q))
     (met_at depth c (λ i d. slot_rank depth (slot_at t i) d low q) (index_at depth q))
 
--- whether a word can say what a change leaves of the entries `m` of a block
+-- whether a word can encode the entries that a change leaves of the entries `m` of a block
 unfoldable pub is_folded : ℕ → (ℕ → Entry) → Change → Bool
 is_folded depth m c =
     fits_word depth (changed_entry depth m c 0)
     && all_below (block_pages depth)
     (λ i. entry_eq (changed_entry depth m c i) (advance (changed_entry depth m c 0) i))
 
--- how often a frame is that of a table at a slot or below it that goes: a word can say the block's
--- map afterwards
+-- the number of tables with the frame, at a slot or below it, that go: those whose block a word can
+-- encode afterwards
 unfoldable pub slot_gone : {A : Type 0} → ℕ → Slot A → Change → ℕ → ℕ
 slot_gone zero s c f = 0
 slot_gone (suc depth) s c f = slot_case

@@ -1,4 +1,4 @@
--- What a change does to one slot.
+-- The effect of a change on one slot.
 use Rattle.std.specs.Prelude.{◌≡◌, ◌≢◌, ℕ, ◌+◌, ◌*◌, ◌%◌, ◌<◌, ◌≤◌, ◌⊎◌, true, false, List, ◌∷◌, Option, IfSome, Some, None, drop, take, slice_set}
 use Rattle.descriptor.specs.Word.{desc_of, CanBeSaid}
 use Rattle.page_state.specs.declared.entry.Entry.{Entry}
@@ -56,14 +56,14 @@ pub record IsFirst {A : Type 0} (depth : ℕ) (s : Slot A) (first : Option Entry
   pub said : IfSome first (λ x. CanBeSaid (level_at depth) (word_of_entry x))
   pub child : first ≡ None → HoldsWord s → ⊥
 
--- what a look at slot `i` found
+-- the result of a look at slot `i`
 abbrev pub IsFound : {A : Type 0} → ℕ → ℕ → Table A → Change → Found → Type 0
 IsFound depth i t c (FoundWord w) = IsRewritten depth i t c w
 IsFound depth i t c (Opening first) =
     IsOpening depth (slot_at t i) c × IsFirst depth (slot_at t i) first
 
--- what a change finds in the child of slot `i` of `t`, or in the new table that means what the
--- slot's word did; `t` has depth `n` and they `d`
+-- the child of slot `i` of `t`, or the new table with the same meaning as the slot's word, is ready
+-- for the change; `t` has depth `n` and they `d`
 pub record IsReady {A : Type 0} (n d i : ℕ) (t child : Table A) (before after : List ℕ)
     (c : Change) : Type 0 where
   pub need : fresh (slot_at t i) + table_need d child c ≡ slot_need n (slot_at t i) c
@@ -83,8 +83,8 @@ pub record IsReady {A : Type 0} (n d i : ℕ) (t child : Table A) (before after 
       → is_folded n (entry_at d child) c ≡ true
       → slot_gone n (slot_at t i) c f ≡ table_gone d child c f + is_one (frame_of child) f
 
--- `child` is the child of slot `i` of `t`, or a new table that means what its word did; `u` is `t`
--- without it
+-- `child` is the child of slot `i` of `t`, or a new table with the same meaning as its word; `u` is
+-- `t` without it
 pub record IsOpened {A : Type 0} (n d i : ℕ) (t u child : Table A)
     (before after : List ℕ) : Type 0 where
   pub frame : frame_of u ≡ frame_of t
@@ -119,7 +119,7 @@ pub record IsFilled {A : Type 0} (d : ℕ) (x : Entry) (t : Table A) : Type 0 wh
   pub standing : (low q : ℕ) → low < d → table_in d t low q ≡ None
   pub parts : (k : ℕ) → k < 512 → IsPart d x k (slot_at t k)
 
--- a word one level up says what a table with `depth` levels below it says
+-- a word one level up encodes the map of a table with `depth` levels below it
 pub record IsSaidBy {A : Type 0} (depth : ℕ) (t : Table A) (word : ℕ) : Type 0 where
   pub said : IsEntryWord (depth + 1) word
   pub fits : fits_word (depth + 1) (entry_of_word (desc_of (level_at (depth + 1)) word)) ≡ true
@@ -129,8 +129,8 @@ pub record IsSaidBy {A : Type 0} (depth : ℕ) (t : Table A) (word : ℕ) : Type
       (advance (entry_of_word (desc_of (level_at (depth + 1)) word)) (k * block_pages depth))
       (slot_at t k)
 
--- slot `i` of `u`, which is otherwise `t`, has the word that says what the child says; the child's
--- frame is in front
+-- slot `i` of `u`, which is otherwise `t`, has the word that encodes the map of the child; the
+-- child's frame is put in front
 pub record IsFoldedIn {A : Type 0} (depth i : ℕ) (t u child : Table A)
     (before after : List ℕ) : Type 0 where
   pub word : ℕ
@@ -139,7 +139,7 @@ pub record IsFoldedIn {A : Type 0} (depth i : ℕ) (t u child : Table A)
   pub here : slot_at u i ≡ Word word
   pub freed : after ≡ frame_of child ∷ before
 
--- no word says it, and the child is there
+-- no word encodes the child's map, and the child is back in its slot
 pub record IsPutIn {A : Type 0} (depth i : ℕ) (t u child : Table A)
     (before after : List ℕ) : Type 0 where
   pub none : IsOneWord depth child → ⊥

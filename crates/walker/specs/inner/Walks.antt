@@ -1,4 +1,4 @@
--- A change as far as it has come, and what it leaves. Depths count the levels below.
+-- A change in progress, and its result. Depths count the levels below.
 use Rattle.std.specs.Prelude.{◌≡◌, ◌≢◌, ℕ, ◌+◌, ◌*◌, ◌<◌, ◌≤◌, min, List, Option, take, drop, length}
 use Rattle.page_state.specs.Counts.{frame_count}
 use Rattle.page_state.specs.Geometries.{block_pages}
@@ -17,14 +17,14 @@ abbrev pub upto : Change → ℕ → Change
 upto c n = record { first = c.first; end = min c.end n; entry = c.entry }
 
 -- at a page, the table with `low` levels below it is the one that was there or that the change
--- made, unless one word says its block
+-- made, unless one word encodes its block
 abbrev pub IsTableAt : {A : Type 0} → ℕ → Table A → Table A → List ℕ → ℕ → ℕ → Option ℕ → Type 0
 IsTableAt d t u fs low q rank =
     (IsOneWordAt (low + 1) (entry_at d u) q → ⊥)
     → table_in d u low q ≡ given_rank fs (table_in d t low q) rank
 
--- table `u` is `t` after a change, which took what it needs from the front of the stock `before`
--- and left `after`
+-- table `u` is `t` after a change, which took the tables that it needs from the front of the stock
+-- `before` and left `after`
 pub record IsTableChanged {A : Type 0} (d : ℕ) (t u : Table A) (c : Change)
     (before after : List ℕ) : Type 0 where
   pub frame : frame_of u ≡ frame_of t
