@@ -1,4 +1,4 @@
--- Where two maps first differ.
+-- The first difference of two maps.
 use Rattle.std.specs.Prelude.{◌≡◌, ℕ, ◌<◌}
 
 -- two functions differ at a number, and agree at each smaller one

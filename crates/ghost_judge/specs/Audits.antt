@@ -1,5 +1,5 @@
--- What an audit compares, and the first difference in its order: the host's map, the hypervisor's,
--- those of the guests by slot, and the owner rows.
+-- The comparison of an audit, and the first difference in its order: the host's map, the
+-- hypervisor's, those of the guests by slot, and the owner rows.
 use Rattle.std.specs.Prelude.{◌≡◌, ℕ, ◌<◌, All, length}
 use Rattle.page_state.specs.declared.entry.Entry.{Entry}
 use Rattle.page_state.specs.Rows.{HasPageBelow}
@@ -30,7 +30,7 @@ pub record AuditAgrees (kept walked : Contents) : Type 0 where
   pub maps : MapsAgree kept walked
   pub rows : kept.shared.row ≡ walked.shared.row
 
--- two functions first differ at a number, and what each says there
+-- two functions first differ at a number, and the value of each there
 pub record IsTold {X : Type 0} (kept walked : ℕ → X) (n : ℕ) (x y : X) : Type 0 where
   pub first : IsFirstApart kept walked n
   pub kept_is : x ≡ kept n

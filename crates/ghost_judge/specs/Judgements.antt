@@ -1,7 +1,7 @@
--- When a reply and the state after a call are those that the model says, and the first difference
--- where they aren't. The order: the reply, the host's map, the hypervisor's, those of the guests by
--- slot, the owner rows, the shared pool and the tables of its trees, all of each guest but its map,
--- the slots, and the CPUs.
+-- When a reply and the state after a call are the model's, and the first difference if they aren't.
+-- The order: the reply, the host's map, the hypervisor's, those of the guests by slot, the owner
+-- rows, the shared pool and the tables of its trees, all of each guest but its map, the slots, and
+-- the CPUs.
 use Rattle.std.specs.Prelude.{◌≡◌, ◌⊎◌, ℕ, Bool, true, false}
 use Rattle.call_table.specs.declared.reply.Call.{Call}
 use Rattle.call_table.specs.declared.reply.Refusal.TheVariants.{NoMemory}
@@ -67,18 +67,18 @@ abbrev pub is_done : Reply → Bool
 is_done (Done value) = true
 is_done other = false
 
--- the reply of a step is want of memory, the step can take memory, and the model makes it
+-- the reply of a step is NoMemory, the step may allocate, and the model makes it
 pub record WantsMemory (step : Step) (reply told : Reply) : Type 0 where
   pub reply_is : reply ≡ Refused NoMemory
   pub grows : may_grow step ≡ true
   pub made : is_done told ≡ true
 
--- the reply and all contents are those that the model says
+-- the reply and all contents are the model's
 pub record IsAsTold (reply : Reply) (post : Contents) (told : Reply × Reference) : Type 0 where
   pub reply_is : reply ≡ told.0
   pub contents_are : post ≡ told.1.contents
 
--- a step that wants memory changed nothing
+-- a step that ran out of memory changed nothing
 pub record IsUnchanged (pre : Contents) (step : Step) (reply : Reply) (post : Contents)
     (told : Reply × Reference) : Type 0 where
   pub wants : WantsMemory step reply told.0
@@ -97,20 +97,20 @@ StepsAgree =
     → Steps l s c t
     → JudgeAgrees s.contents c.step c.reply t.contents (foretell l s c.cpu c.step)
 
--- a step that wants memory changed something: the first difference from the state before
+-- a step that ran out of memory changed something: the first difference from the state before
 pub record IsFirstChange (pre : Contents) (step : Step) (reply : Reply) (post : Contents)
     (told : Reply × Reference) (d : Disagreement) : Type 0 where
   pub wants : WantsMemory step reply told.0
   pub first : IsFirstOfState post pre d
 
--- the reply is the model's, and the contents aren't: the first difference from the state that the
--- model says
+-- the reply is the model's, and the contents aren't: the first difference from the model's next
+-- state
 pub record IsFirstUntold (reply : Reply) (post : Contents) (told : Reply × Reference)
     (d : Disagreement) : Type 0 where
   pub reply_is : reply ≡ told.0
   pub first : IsFirstOfState post told.1.contents d
 
--- the reply is neither the model's nor one of a step that wants memory
+-- the reply is neither the model's nor that of a step that ran out of memory
 pub record IsOtherReply (step : Step) (reply : Reply) (told : Reply × Reference)
     (said spec : Reply) : Type 0 where
   pub said_is : said ≡ reply
@@ -126,6 +126,6 @@ IsFirstJudged pre step reply post told (ReplyDiffers said spec) =
 IsFirstJudged pre step reply post told d =
     IsFirstChange pre step reply post told d ⊎ IsFirstUntold reply post told d
 
--- what the model says of a step of a state
+-- the model's reply and next state for a step from a state
 abbrev pub told_of : Ghost → ℕ → Step → Reply × Reference
 told_of pre cpu step = foretell (layout_of pre.layout) (ghost_state pre) cpu step

@@ -1,6 +1,6 @@
--- An audit and a judgement have one answer: one disagreement at most is the first, and none is
--- where all agrees. So nothing of what 'first' says can be left out: two disagreements would be
--- first then, or one where there is none.
+-- An audit and a judgement have one answer: at most one disagreement is the first, and none if all
+-- agrees. So no condition of 'first' can be left out: there would be two first disagreements, or
+-- one where all agrees.
 use Rattle.std.specs.Prelude.{◌≡◌}
 use Rattle.call_table.specs.declared.reply.Reply.{Reply}
 use Rattle.call_table.specs.declared.step.Step.{Step}

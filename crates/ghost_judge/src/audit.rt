@@ -20,7 +20,7 @@ use page_state::{Page, Row, Run, Target};
 use run_list::RunList;
 
 /// The first difference of two states in the host's map, the hypervisor's, those of the guests by slot, and the owner
-/// rows: the least page or frame of it, and what each state says there.
+/// rows: the least page or frame of it, and the value of each state there.
 pub fn audit(kept: &Ghost, walked: &Ghost) -> Option<Disagreement>
     ensures none { (result ≡ None) ↔ AuditAgrees (contents_in kept.now) (contents_in walked.now) }
     ensures first { IfSome result (IsFirstDifference (contents_in kept.now) (contents_in walked.now)) }
@@ -28,7 +28,7 @@ pub fn audit(kept: &Ghost, walked: &Ghost) -> Option<Disagreement>
     audit_lists(kept.lists(), walked.lists())
 }
 
-/// As `audit`, of lists that need be no states: of trees that were poked, say.
+/// As `audit`, for lists that may not be states, such as those of poked trees.
 pub fn audit_lists(kept: &GhostLists, walked: &GhostLists) -> Option<Disagreement>
     requires kept { AreMapsKept kept.now }
     requires walked { AreMapsKept walked.now }
@@ -107,7 +107,7 @@ pub(crate) fn in_rows(kept: &RunList<Row>, walked: &RunList<Row>) -> Option<Disa
     }
 }
 
-/// The row of a frame; the plain one where it has none.
+/// The row of a frame; the plain row if it has none.
 fn row_of(rows: &RunList<Row>, frame: u64) -> Row
     ensures { result ≡ row_in rows.now.runs frame }
 {

@@ -1,4 +1,4 @@
-//! Where two maps, given as their coarsest lists of runs, first differ.
+//! The first difference of two maps, given as their coarsest lists of runs.
 ghost use Rattle.std.specs.Prelude.{◌≡◌, ◌^◌, ◌≤◌, map};
 ghost use Rattle.run_list.specs.declared.run.Run.{Run as ListRun};
 ghost use Rattle.run_list.specs.Runs.{run_end, run_map};
@@ -8,7 +8,7 @@ ghost use Rattle.ghost_judge.specs.inner.Parted.{parted_at, IsFoundApart};
 use page_state::Target;
 use run_list::{Advance, Run};
 
-/// What can be read as a run of values.
+/// A type that reads as a run of values.
 pub(crate) trait Told<V: Advance>: Copy {
     ghost told: { Self → ListRun V };
 

@@ -1,4 +1,4 @@
-//! What the oracle reports where two states disagree.
+//! The report of the oracle on two states that disagree.
 use call_table::Reply;
 use page_state::{Entry, Row};
 
@@ -11,7 +11,7 @@ pub enum TreeOf {
     Guest(u64),
 }
 
-/// Where what is kept and what was found from scratch, or what was said and what the model says, disagree.
+/// A disagreement of a kept state with the one found from scratch, or of an answer with the model's.
 #[derive(Clone, Copy, PartialEq)]
 pub enum Disagreement {
     /// On a page of a tree.

@@ -1,4 +1,4 @@
-//! Judges a call: its reply and the whole state after it against what the model says. Rooms of logs aren't compared.
+//! Judges a call: its reply and the whole state after it against the model's. Rooms of logs aren't compared.
 ghost use Rattle.std.specs.Prelude.{◌≡◌, ◌<◌, ◌↔◌, None, IfOk, IfSome, IsTrue, get_or, length, map};
 ghost use Rattle.reference_model.specs.model.Rules.{may_grow as may_grow_of};
 ghost use Rattle.reference_model.specs.model.State.{no_cpu};
@@ -74,7 +74,7 @@ fn cpu_apart(post: &[GhostCpu], spec: &[GhostCpu]) -> Option<u64>
     None
 }
 
-/// The first CPU that differs, where all else is equal.
+/// The first CPU that differs, if all else is equal.
 fn in_cpus(post: &GhostLists, spec: &GhostLists) -> Option<Disagreement>
     requires { SlotsAgree (contents_in post.now) (contents_in spec.now) }
     ensures { IsFound (contents_in post.now ≡ contents_in spec.now)
@@ -86,7 +86,7 @@ fn in_cpus(post: &GhostLists, spec: &GhostLists) -> Option<Disagreement>
     }
 }
 
-/// The first slot or CPU that differs, where all before is equal.
+/// The first slot or CPU that differs, if all before is equal.
 fn in_slots(post: &GhostLists, spec: &GhostLists) -> Option<Disagreement>
     requires post { IsKept post.now }
     requires spec { IsKept spec.now }
@@ -100,7 +100,7 @@ fn in_slots(post: &GhostLists, spec: &GhostLists) -> Option<Disagreement>
     }
 }
 
-/// The first guest, slot or CPU that differs, where all before is equal.
+/// The first guest, slot or CPU that differs, if all before is equal.
 fn in_parts(post: &GhostLists, spec: &GhostLists) -> Option<Disagreement>
     requires post { IsKept post.now }
     requires spec { IsKept spec.now }
@@ -114,7 +114,7 @@ fn in_parts(post: &GhostLists, spec: &GhostLists) -> Option<Disagreement>
     }
 }
 
-/// The first difference where all maps and rows are equal.
+/// The first difference, if all maps and rows are equal.
 fn in_rest(post: &GhostLists, spec: &GhostLists) -> Option<Disagreement>
     requires post { IsKept post.now }
     requires spec { IsKept spec.now }
@@ -164,9 +164,9 @@ fn in_states(post: &GhostLists, spec: &GhostLists) -> Option<Disagreement>
     in_rest(post, spec)
 }
 
-/// The first difference of two states in the host's map, the hypervisor's, those of the guests by slot, the owner rows, the
-/// shared pool and the tables of its trees, all of each guest but its map, the slots, and the CPUs: none where all is equal.
-/// Layouts aren't compared.
+/// The first difference of two states in the host's map, the hypervisor's, those of the guests by slot, the owner rows,
+/// the shared pool and the tables of its trees, all of each guest but its map, the slots, and the CPUs; None if all is
+/// equal. Layouts aren't compared.
 pub fn differs(post: &Ghost, spec: &Ghost) -> Option<Disagreement>
     ensures none { (result ≡ None) ↔ (contents_in post.now ≡ contents_in spec.now) }
     ensures first { IfSome result (IsFirstOfState (contents_in post.now) (contents_in spec.now)) }
@@ -174,7 +174,7 @@ pub fn differs(post: &Ghost, spec: &Ghost) -> Option<Disagreement>
     in_states(post.lists(), spec.lists())
 }
 
-/// Whether a step can be refused for want of memory.
+/// Whether a step can be refused for lack of memory.
 fn may_grow(step: Step) -> bool
     ensures { result ≡ may_grow_of step }
 {
@@ -194,7 +194,7 @@ fn may_grow(step: Step) -> bool
     }
 }
 
-/// Whether a step that the model makes, and that can take memory, was refused for want of it.
+/// Whether a step that the model makes, and that may allocate, was refused with NoMemory.
 fn wants_memory(step: Step, reply: Reply, told: Reply) -> bool
     ensures { IsTrue result ↔ WantsMemory step reply told }
 {
@@ -203,7 +203,7 @@ fn wants_memory(step: Step, reply: Reply, told: Reply) -> bool
         && matches!(told, Reply::Done(_))
 }
 
-/// Where the reply is want of memory, the first difference from the state before; else none.
+/// If the reply is NoMemory, the first difference from the state before; else None.
 fn changed_since(pre: &Ghost, reply: Reply, post: &Ghost) -> Option<Disagreement>
     ensures none { reply ≡ Reply.Refused Refusal.NoMemory
         → (result ≡ None) ↔ (contents_in post.now ≡ contents_in pre.now) }
@@ -216,7 +216,8 @@ fn changed_since(pre: &Ghost, reply: Reply, post: &Ghost) -> Option<Disagreement
     }
 }
 
-/// As `judge`, where the state before isn't wanted any more: it becomes the one that the model says, and no copy is made.
+/// As `judge`, for a caller that no longer needs the state before: it becomes the model's next state, and no copy is
+/// made.
 pub fn judge_last(
     alloc: Global,
     pre: Ghost,
@@ -252,10 +253,10 @@ pub fn judge_last(
     Ok(differs)
 }
 
-/// Judges a call of a CPU by the state before it, its reply and the state after it: none where the reply and the state are
-/// those that the model says, or where a step that the model makes, and that can take memory, was refused for want of it and
-/// changed nothing. Else the first difference. The layout is that of the state before. Err where memory is refused to the
-/// judge.
+/// Judges a call of a CPU by the state before it, its reply and the state after it: None if the reply and the state are
+/// the model's, or if a step that the model makes, and that may allocate, was refused with NoMemory and changed
+/// nothing. Else the first difference. The layout is that of the state before. Err if the allocator refuses memory to
+/// the judge.
 pub fn judge(
     alloc: Global,
     pre: &Ghost,

@@ -3,13 +3,13 @@ ghost use Rattle.ghost_judge.specs.Judgements.{StepsAgree};
 ghost use Rattle.ghost_judge.specs.OneAnswer.{AuditElse, AuditOnce, JudgedElse, JudgedOnce, StateElse, StateOnce};
 ghost use Rattle.ghost_judge.specs.TextRows.{FreeWritten, JudgementWritten, MapWritten, OwnerWritten, ReplyWritten};
 
-/// The judgement agrees with each step of the model: the reply and the state after it are those that are foretold, or the
-/// call wanted memory in a step that `foretell` makes, and nothing changed.
+/// The judgement agrees with each step of the model: the reply and the state after it are the ones that `foretell`
+/// predicts, or the call ran out of memory in a step that `foretell` makes, and nothing changed.
 pub fn steps_agree()
     ensures agree { StepsAgree }
 {}
 
-/// An audit and a judgement have one answer: no two disagreements are both the first, and none is where all agrees.
+/// An audit and a judgement have one answer: no two disagreements are both the first, and none is if all agrees.
 pub fn one_answer()
     ensures audit { AuditOnce }
     ensures audit_else { AuditElse }

@@ -1,5 +1,5 @@
-//! How two states on lists compare: the audit of what is kept by what was found, and the judgement of a call by what the model
-//! says.
+//! How two states on lists compare: the audit of a kept state by one found from scratch, and the judgement of a call by
+//! the model.
 #![tactic(auto)]
 
 pub mod audit;

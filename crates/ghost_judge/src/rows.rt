@@ -10,7 +10,7 @@ use crate::difference::parted;
 use page_state::{Owner, Row, Usage};
 use run_list::Run;
 
-/// The row of a frame that is the host's, lent to nobody, and in no use.
+/// The row of a frame that the host owns, shares with nobody, and has in no use.
 pub(crate) const PLAIN_ROW: Row = Row {
     owner: Owner(0),
     lent: None,
@@ -41,7 +41,7 @@ fn begin_from(runs: &[Run<Row>], from: usize) -> Option<u64>
     }
 }
 
-/// The first frame to which two lists give other rows, where a plain row is none.
+/// The first frame to which two lists give different rows; a plain row counts as no row.
 pub(crate) fn first_row_apart(a: &[Run<Row>], b: &[Run<Row>]) -> Option<u64>
     requires a { IsKept advance_row HasPageBelow a.now }
     requires b { IsKept advance_row HasPageBelow b.now }

@@ -40,7 +40,7 @@ pub(crate) fn is_same_pool(a: &Shared, b: &Shared) -> bool
         && same_tables(a.hyp.tables.as_slice(), b.hyp.tables.as_slice())
 }
 
-/// Whether two guests are the same but for their maps.
+/// Whether two guests are the same apart from their maps.
 #[inline(always)]
 pub(crate) fn is_same_guest(a: &GhostGuest, b: &GhostGuest) -> bool
     ensures { IsTrue result ↔ (without_map (guest_in a.now) ≡ without_map (guest_in b.now)) }
@@ -52,7 +52,7 @@ pub(crate) fn is_same_guest(a: &GhostGuest, b: &GhostGuest) -> bool
         && a.free == b.free
 }
 
-/// The CPU that has a vCPU loaded; none past the list's end.
+/// The CPU that has a vCPU loaded; None past the list's end.
 fn loader(loaded: &[Option<u64>], vcpu: usize) -> Option<u64>
     ensures { result ≡ get_or loaded.now vcpu None }
 {
@@ -82,7 +82,7 @@ fn has_same_loads(a: &GhostSlot, b: &GhostSlot) -> bool
     is_same_load(a.loaded.as_slice(), b.loaded.as_slice())
 }
 
-/// Whether two slots are the same but for their loaded vCPUs.
+/// Whether two slots are the same apart from their loaded vCPUs.
 fn is_same_unloaded(a: &GhostSlot, b: &GhostSlot) -> bool
     ensures { IsTrue result ↔ (unloaded (slot_in a.now) ≡ unloaded (slot_in b.now)) }
 {

@@ -90,7 +90,7 @@ impl fmt::Debug for Disagreement {
     }
 }
 
-/// A disagreement found by a judgement: what the state after a call has, and what the model says.
+/// A disagreement found by a judgement: the value in the state after a call, and the model's.
 #[derive(Clone, Copy)]
 pub struct Judgement(pub Disagreement);
 

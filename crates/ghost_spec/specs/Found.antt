@@ -1,4 +1,4 @@
--- What searches of lists find.
+-- The results of searches of lists.
 use Rattle.std.specs.Prelude.{ℕ, ◌+◌, ◌-◌, Bool, ◌&&◌, nat_le, nat_lt, List, [], ◌∷◌, Option, Some, None, if◌then◌else◌}
 use Rattle.std.specs.List.{list_any}
 use Rattle.descriptor.specs.declared.State.{State}

@@ -1,4 +1,4 @@
--- What each state on lists keeps: its runs are the coarsest, and its numbers small, so that sums
+-- The invariant of a state on lists: its runs are the coarsest, and its numbers small, so that sums
 -- are numbers of 64 bits.
 use Rattle.std.specs.Prelude.{◌≡◌, ℕ, ◌+◌, ◌^◌, ◌<◌, ◌≤◌, [], ◌∷◌, Option, Some, None, IfSome}
 use Rattle.call_table.specs.declared.step.Step.{Step}
@@ -30,7 +30,7 @@ pub record IsKeptShared (s : SharedOfLists) : Type 0 where
   pub hyp : IsKeptTree s.hyp
   pub rows : AreInReach HasPageBelow s.rows.runs
 
--- a range of small numbers, where there is one
+-- a range, if there is one, has small numbers
 abbrev pub IsSmallRange : Option PageRange → Type 0
 IsSmallRange None = Unit {0}
 IsSmallRange (Some range) = end_of range ≤ 2 ^ 62
@@ -50,7 +50,7 @@ pub record IsKeptGuest (g : GhostGuest) : Type 0 where
   pub tables : HasLowTables (table_of g.tree.tables.items)
   pub free : AreLowFrames g.free.items
 
--- a slot, where there is one, is one of the 64
+-- a slot, if there is one, is one of the 64
 abbrev pub IsLowSlot : Option ℕ → Type 0
 IsLowSlot None = Unit {0}
 IsLowSlot (Some v) = v < 64
@@ -65,14 +65,14 @@ abbrev pub HasLowTicket : Option Ticket → Type 0
 HasLowTicket None = Unit {0}
 HasLowTicket (Some t) = t.vm.slot < 64
 
--- a CPU's hand is small, and what it has loaded and its ticket are of slots
+-- a CPU's hand has small numbers, and its loaded vCPU and its ticket are of slots below 64
 pub record IsKeptCpu (k : GhostCpu) : Type 0 where
   pub hand : IsSmallRange k.hand
   pub loaded : HasLowLoad k.loaded
   pub ticket : HasLowTicket k.ticket
 
--- where the step releases the VM of a CPU's ticket, the generation after that VM's is a number of
--- 64 bits
+-- if the step releases the VM of a CPU's ticket, the generation after that VM's is a number of 64
+-- bits
 abbrev pub HasNextGeneration : Option Ticket → Step → Type 0
 HasNextGeneration ticket step = step ≡ VmRelease → IfSome ticket (λ t. t.vm.generation + 1 < 2 ^ 64)
 
@@ -87,8 +87,7 @@ IsSmallPart (Install kind generation hand) = end_of hand ≤ 2 ^ 62
 IsSmallPart (Gain range) = end_of range ≤ 2 ^ 62
 IsSmallPart other = Unit {0}
 
--- what changes of the slots is one of the first n, and a generation that rises is still a number of
--- 64 bits
+-- the changed slot is one of the first n, and a generation that rises still fits 64 bits
 abbrev pub FitsSlots : ℕ → SlotChange → Type 0
 FitsSlots n KeepSlots = Unit {0}
 FitsSlots n (Reserve v kind vcpus) = v < n

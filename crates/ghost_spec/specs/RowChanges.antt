@@ -1,4 +1,4 @@
--- What changes in a list of rows: a range that is set, and rows that are found again.
+-- The changes of a list of rows: a range that is set, and rows that are found again.
 use Rattle.std.specs.Prelude.{◌≡◌, ℕ, Bool, true, false, ◌&&◌, List, Option}
 use Rattle.page_state.specs.declared.entry.PageRange.{PageRange}
 use Rattle.page_state.specs.declared.layout.Layout.{Layout}
@@ -15,7 +15,7 @@ use Rattle.ghost_spec.specs.declared.shared.Shared.{Shared}
 use Rattle.ghost_spec.specs.RowsFound.{row_found, rows_found}
 use Rattle.ghost_spec.specs.Views.{row_in, shared_in_lists}
 
--- the frames of a range have a row, which advances along it, or none, and the others what they had
+-- the frames of a range have a row, which advances along it, or none; the others stay
 abbrev pub IsRangeSet : List (Run Row) → List (Run Row) → PageRange → Option Row → Type 0
 IsRangeSet old new range row =
     run_map advance_row new
@@ -42,7 +42,7 @@ module _ (l : Layout) (old new : Shared) where
         | false ↦ row_in old.rows.runs f
       ]
 
-  -- that of one frame is, where it is a memory frame
+  -- the row of one frame is found again, if it is a memory frame
   abbrev pub IsFoundAt : ℕ → Option ℕ → Guest → ℕ → Cpu → Type 0
   IsFoundAt frame slot g cpu k =
       (f : ℕ)
@@ -52,12 +52,12 @@ module _ (l : Layout) (old new : Shared) where
         | false ↦ row_in old.rows.runs f
       ]
 
-  -- those of the memory frames of a range are
+  -- the rows of the memory frames of a range are found again
   abbrev pub AreFoundIn : PageRange → Option ℕ → Guest → ℕ → Cpu → Type 0
   AreFoundIn range slot g cpu k =
       AreFoundWhere (λ f. is_memory (layout_of l) f && is_in_range range f) slot g cpu k
 
-  -- those of the touched memory frames are, and nothing else of the part changes
+  -- the rows of the touched memory frames are found again, and nothing else of the part changes
   abbrev pub AreFoundAfter : Option PageRange → Option ℕ → Guest → ℕ → Cpu → Type 0
   AreFoundAfter touched slot g cpu k =
       shared_in_lists new ≡ rows_found (layout_of l) touched slot g cpu k (shared_in_lists old)

@@ -1,5 +1,5 @@
--- The row from scratch of a frame over what a call uses: the Shared part, one guest at most, and
--- its CPU's own hand.
+-- The row from scratch of a frame over the parts that a call uses: the Shared part, one guest at
+-- most, and its CPU's own hand.
 use Rattle.std.specs.Prelude.{ℕ, ◌+◌, true, false, ◌&&◌, ◌||◌, Option, Some, None}
 use Rattle.descriptor.specs.declared.State.TheVariants.{SharedOwned, SharedBorrowed}
 use Rattle.page_state.specs.declared.entry.Entry.{Entry}
@@ -30,12 +30,12 @@ module _ (l : Layout) (s : Shared) (slot : Option ℕ) (g : Guest) (f : ℕ) whe
       elim (page_of l g.tree.map SharedOwned f)
       [ Some page ↦ (elim slot [ Some v ↦ 2 + v | None ↦ 0 ]) | None ↦ 0 ]
 
-  -- the owner of a frame that isn't annotated: where the host borrows it, its sharer
+  -- the owner of a frame that isn't annotated: its sharer if the host borrows it, else the host
   abbrev pub lender_found : ℕ
   lender_found =
       elim (page_of l s.host.map SharedBorrowed f) [ Some page ↦ sharer_found | None ↦ 0 ]
 
-  -- lent to the guest, where it borrows the frame
+  -- the loan to the guest, if it borrows the frame
   abbrev pub guest_lent : Option Lent
   guest_lent = elim slot [
     | Some v ↦ elim (page_of l g.tree.map SharedBorrowed f)
@@ -51,7 +51,7 @@ module _ (l : Layout) (s : Shared) (slot : Option ℕ) (g : Guest) (f : ℕ) whe
         [ Some page ↦ Some (lent_at 1 page) | None ↦ guest_lent ]
   ]
 
-  -- the guest, where the frame is free in its pool or a table of its tree
+  -- the guest, if the frame is free in its pool or a table of its tree
   abbrev pub pool_found : Option ℕ
   pool_found = elim (is_free g.free f || is_table_frame l g.tree f) [ true ↦ slot | false ↦ None ]
 
@@ -83,12 +83,12 @@ rows_found l touched slot g cpu k s =
           [ true ↦ row_found l s slot g f cpu k | false ↦ s.row f ];
     }
 
--- what a call uses once the rows of the touched memory frames are found again
+-- the parts that a call uses after the rows of the touched memory frames are found again
 abbrev pub used_found : Layout → Option PageRange → Option ℕ → ℕ → Used → Used
 used_found l touched slot cpu x =
     record x { shared = rows_found l touched slot x.guest cpu x.cpu x.shared }
 
--- what a call uses once its changes are made, and the rows of the frames that they touch found
+-- the parts that a call uses after its changes are made and the rows of the touched frames found
 -- again
 abbrev pub used_made : Layout → Option ℕ → ℕ → Changes → Used → Used
 used_made l slot cpu h x = used_found l (touched h) slot cpu (changed l.depth h x)

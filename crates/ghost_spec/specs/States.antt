@@ -80,8 +80,8 @@ AreKeptGuests gs = All IsKeptGuest gs
 abbrev pub AreKeptCpus : List GhostCpu → Type 0
 AreKeptCpus ks = All IsKeptCpu ks
 
--- what each Ghost keeps: lists of the layout's lengths, the coarsest runs, and numbers whose sums
--- are numbers of 64 bits
+-- the invariant of a Ghost: lists of the layout's lengths, the coarsest runs, and numbers whose
+-- sums are numbers of 64 bits
 pub record IsKept (g : GhostLists) : Type 0 where
   pub shared : IsKeptShared g.shared
   pub guests : AreKeptGuests g.guests.items

@@ -1,4 +1,4 @@
--- What a call uses, on lists.
+-- The parts that a call uses, on lists.
 use Rattle.std.specs.Prelude.{◌≡◌, ℕ, Bool, true, ◌&&◌, ◌==◌, List, Option, get_or, length, map, if◌then◌else◌}
 use Rattle.descriptor.specs.declared.State.TheVariants.{Owned}
 use Rattle.descriptor.specs.declared.Prot.TheVariants.{RWX}
@@ -29,7 +29,7 @@ vms_in slots = record { slot = λ v. get_or (map slot_in slots) v (no_slot 1) }
 abbrev pub guests_in : List GhostGuest → ℕ → Guest
 guests_in guests v = get_or (map guest_in guests) v no_guest
 
--- rooms; past the list's end they are those of empty logs, which can store `log` calls each
+-- rooms of logs; past the list's end those of empty logs, each of which can store `log` calls
 abbrev pub rooms_of : ℕ → List ℕ → ℕ → ℕ
 rooms_of log rooms v = get_or rooms v log
 
@@ -43,20 +43,21 @@ used_in u =
       cpu = cpu_in u.own;
     }
 
--- the lists of what a call uses are kept
+-- the lists of the parts that a call uses meet the invariant
 pub record IsKeptUsed (u : GhostUsed) : Type 0 where
   pub shared : IsKeptShared u.shared
   pub guest : IsKeptGuest u.guest
   pub own : IsKeptCpu u.own
 
--- what a call uses was taken from lists: it is what they have of it, and kept
+-- the parts that a call uses were taken from lists: they are the lists' parts, and meet the
+-- invariant
 pub record IsTaken (step : Step) (slot : Option ℕ) (cpu : ℕ) (g : GhostLists)
     (u : GhostUsed) : Type 0 where
   pub used : used_in u ≡ used_of (names step) slot cpu (contents_in g)
   pub kept : IsKeptUsed u
   pub count : uses_vms (names step) ≡ true → length u.vms.items ≡ 64
 
--- but for what a call uses, which is put back, two contents are the same
+-- two contents are the same apart from the parts that a call uses, which are put back
 abbrev pub IsSameElsewhere : Step → Option ℕ → ℕ → Contents → Contents → Type 0
 IsSameElsewhere step slot cpu s t =
     (x : Used) → put_back (names step) slot cpu t x ≡ put_back (names step) slot cpu s x
@@ -79,6 +80,7 @@ abbrev pub may_return_frame : Shared → ℕ → Bool
 may_return_frame s f =
     (s.row f).owner.0 == 1 && is_plain (s.row f).usage && is_in Owned (s.hyp.map (hyp_page f))
 
--- what the host gets of a Dying guest's page: the frame again, where it didn't own it itself
+-- the host's new entry for a Dying guest's page: its own frame again if the guest shared or
+-- borrowed it, unmapped if the guest owned it
 abbrev pub reclaimed : Entry → Entry
 reclaimed e = if is_in Owned e then Unmapped else leaf RWX (entry_frame e) Owned

@@ -1,4 +1,4 @@
--- What parts on lists represent, in the words of the reference state.
+-- The parts of the reference state that parts on lists represent.
 use Rattle.std.specs.Prelude.{ℕ, List, unwrap_or}
 use Rattle.page_state.specs.declared.layout.Config.{Config}
 use Rattle.page_state.specs.declared.row.Row.{Row}

@@ -53,7 +53,7 @@ fn is_short(
     Ok(is_shared_short || is_guest_short)
 }
 
-/// All changes are made but those of rows.
+/// Makes all changes except those of rows.
 fn change(
     alloc: Global,
     depth: u64,
@@ -106,8 +106,8 @@ fn make(
     )
 }
 
-/// The answer of a call: the first test that fails, or all that its rule changes. Where memory is refused, anything may have
-/// changed.
+/// The answer of a call: the refusal of the first test that fails, or all changes of its rule. If the allocator refuses
+/// memory, anything may have changed.
 pub(crate) fn answer(
     alloc: Global,
     layout: &Layout,

@@ -20,7 +20,7 @@ use page_state::{Config, Entry, Frame, Kind, MemoryMap, Owner, Page, PageRange, 
 use run_list::RunList;
 use std::alloc::{AllocError, Global};
 
-/// The Shared part at boot, before its rows are found, in trees of `depth` levels below the root's. None where the
+/// The Shared part at boot, before its rows are found, in trees of `depth` levels below the root's. None if the
 /// carve-out has fewer frames than boot needs tables.
 pub fn boot(
     alloc: Global,
@@ -58,7 +58,7 @@ pub fn boot(
     }))
 }
 
-/// How many tables a tree of its root alone needs once a range has an entry.
+/// The number of tables that a tree with only its root needs to give a range an entry.
 fn need_at_boot(
     alloc: Global,
     depth: u64,
@@ -76,7 +76,7 @@ fn need_at_boot(
     need(alloc, depth, &tree, range, entry)
 }
 
-/// A tree of its root alone, once a range has an entry: the tables that it needs get the frames, in order.
+/// A tree with only its root, after a range gets an entry: the tables that it needs get the frames, in order.
 fn tree_at_boot(
     alloc: Global,
     depth: u64,
@@ -129,7 +129,7 @@ fn hyp_entry(frame: u64) -> Entry
     }
 }
 
-/// A tree of its root alone, in which nothing is mapped.
+/// A tree that has only its root and maps nothing.
 pub(crate) fn root_tree(alloc: Global, depth: u64, root: u64) -> Result<Tree, AllocError>
     requires { depth ≤ 3 }
     ensures tree { IfOk result (λ t. tree_in_lists t ≡ root_tree_of depth root) }

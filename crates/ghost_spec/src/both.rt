@@ -1,10 +1,10 @@
-//! Two values that may each have been refused, as one. What one of them holds is let go of here where the other was refused,
-//! however many lists that is.
+//! Two values, each of which may have been refused, as one. If one was refused, the other is dropped here, however many
+//! lists it has.
 ghost use Rattle.std.specs.Prelude.{◌≡◌, IfOk, Ok};
 
 use std::alloc::AllocError;
 
-/// Both values, where neither was refused.
+/// Both values, if neither was refused.
 pub(crate) fn both<A: Drop, B: Drop>(
     first: Result<A, AllocError>,
     second: Result<B, AllocError>,

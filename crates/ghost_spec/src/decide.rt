@@ -1,4 +1,4 @@
-//! What a call decides.
+//! The decision of a call.
 ghost use Rattle.std.specs.Prelude.{◌≡◌, IfOk, length, true};
 ghost use Rattle.page_state.specs.LayoutView.{layout_of};
 ghost use Rattle.reference_model.specs.model.Decides.{decides};
@@ -21,7 +21,7 @@ use call_table::{Refusal, Step};
 use page_state::Layout;
 use reference_model::Changes;
 
-/// What a call decides: the first of its rule's tests that fails, or all that its rule changes.
+/// The decision of a call: the refusal of the first of its rule's tests that fails, or all changes of its rule.
 pub(crate) fn decide(
     layout: &Layout,
     cpu: u64,

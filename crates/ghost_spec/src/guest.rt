@@ -1,4 +1,4 @@
-//! What a change does to a guest.
+//! The effect of a change on a guest.
 ghost use Rattle.std.specs.Prelude.{◌≡◌, ◌≤◌, ◌^◌, IfOk, OnOk, length, nat_lt};
 ghost use Rattle.page_state.specs.Regions.{end_of};
 ghost use Rattle.page_state.specs.Tables.{all_given};
@@ -90,7 +90,7 @@ fn lose_lowest(alloc: Global, guest: &mut GhostGuest) -> Result<(), AllocError>
     Ok(())
 }
 
-/// What else than its map changes of a guest.
+/// Makes the changes of a guest apart from its map.
 fn change_part(
     alloc: Global,
     depth: u64,

@@ -1,5 +1,5 @@
-//! The rules of the calls on a guest, alone or with the Shared part: the first of a call's tests that fails, or all that it
-//! changes.
+//! The rules of the calls on a guest, alone or with the Shared part: the refusal of the first of a call's tests that
+//! fails, or all its changes.
 ghost use Rattle.std.specs.Prelude.{◌≡◌, ℕ, ◌+◌, ◌<◌, ◌≤◌, ◌^◌, ◌&&◌, Option, Some, IfOk, IsTrue, ◌||◌, nat_le, not, unwrap_or};
 ghost use Rattle.call_table.specs.declared.step.Step.TheVariants.{ShareGuest, UnshareGuest, DonateGuest, GuestShareHost, GuestUnshareHost, Install, Topup, ReclaimPage, ReclaimPool, FinishGuest, GuestRelax, GuestTranslate, MarkDying};
 ghost use Rattle.page_state.specs.EntryTests.{entry_frame as entry_frame_of, is_unmapped as is_unmapped_of, join as join_of, with_rights as with_rights_of, with_state as with_state_of};
@@ -100,7 +100,7 @@ fn is_live_or_dying(vm: VmId, guest: &GhostGuest) -> bool
     is_live(vm, guest) || is_dying(vm, guest)
 }
 
-/// The frame of a leaf, and 0 where there is none.
+/// The frame of a leaf, or 0 for any other entry.
 fn entry_frame(entry: Entry) -> u64
     requires { HasLowFrames entry 1 }
     ensures value { result ≡ entry_frame_of entry }
@@ -278,7 +278,7 @@ pub(crate) fn share_guest(
     ))
 }
 
-/// The host takes back what it shared with the guest.
+/// The host takes back the page that it shared with the guest.
 #[tactic(auto, unfolding(reference_model::specs::model::Rules::rule))]
 pub(crate) fn unshare_guest(
     layout: &Layout,
@@ -441,8 +441,8 @@ pub(crate) fn install(used: &GhostUsed, slot: Option<u64>) -> Result<Changes, Re
     })
 }
 
-/// How many tables a tree of the layout has: those at a block of the tree that have no later one at their block. It looks at
-/// the list of tables alone.
+/// The number of tables of a tree of the layout: those at a block of the tree that have no later one at their block. It
+/// reads only the list of tables.
 fn table_count(layout: &Layout, tree: &Tree) -> u64
     ensures { result ≡ guest_table_count_of (layout_of layout.now) (tree_in_lists tree.now) }
 {
@@ -506,8 +506,8 @@ pub(crate) fn topup(
     })
 }
 
-/// What the host gets of a page of a Dying guest: nothing of one that the guest owned, since nothing maps it then, and else
-/// the frame again as its own.
+/// The host's new entry for a page of a Dying guest: unmapped for a page that the guest owned, else the frame as the
+/// host's own again.
 fn reclaimed(entry: Entry) -> Entry
     requires { HasLowFrames entry 1 }
     ensures value { result ≡ reclaimed_of entry }
@@ -548,7 +548,7 @@ pub(crate) fn reclaim_page(
     Ok(two_pages(entry_frame(entry), reclaimed(entry), gfn, Entry::Unmapped))
 }
 
-/// The least frame of a guest's pool, and 0 where there is none.
+/// The least frame of a guest's pool, or 0 if it is empty.
 fn least(guest: &GhostGuest) -> u64
     requires { IsKeptGuest guest.now }
     ensures value { result ≡ least_of guest.now.free.items }
@@ -600,7 +600,7 @@ fn maps_nothing(tree: &Tree, pages: u64) -> bool
     }
 }
 
-/// The frame of a guest's root, and 0 where there is none.
+/// The frame of a guest's root, or 0 if it has none.
 fn root_of(layout: &Layout, guest: &GhostGuest) -> u64
     requires { IsKeptGuest guest.now }
     ensures value { result

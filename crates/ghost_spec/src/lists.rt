@@ -1,4 +1,4 @@
-//! What a reference state is made of, as plain lists, and the reference step on them.
+//! The content of a reference state as plain lists, and the reference step on them.
 ghost use Rattle.std.specs.Prelude.{◌≡◌, ℕ, ◌-◌, ◌<◌, ◌&&◌, ◌||◌, ◌==◌, IfOk, OnOk, if◌then◌else◌, is_some, length};
 ghost use Rattle.page_state.specs.LayoutView.{layout_of};
 ghost use Rattle.reference_model.specs.model.Step.{foretell};
@@ -25,7 +25,7 @@ pub struct GhostRooms {
     pub cpus: Vec<u64>,
 }
 
-/// What a reference state is made of, before anyone tested it.
+/// The content of a reference state, before any test of it.
 #[derive(Drop)]
 pub struct GhostLists {
     pub layout: Layout,
@@ -44,7 +44,7 @@ ghost use Rattle.ghost_spec.specs.Kept.{IsLowSlot};
 ghost use Rattle.ghost_spec.specs.States.{ghost_state, rooms_in, IsKept};
 ghost use Rattle.ghost_spec.specs.Used.{rooms_of};
 
-/// What a room is once a call is stored, where it is.
+/// The room of a log after a call, which takes one if it is stored.
 fn left_of(room: u64, is_stored: bool) -> u64
     ensures { result ≡ (if is_stored then room - 1 else room) }
 {
@@ -55,7 +55,7 @@ fn left_of(room: u64, is_stored: bool) -> u64
     }
 }
 
-/// Whether the log of a part, where the part is used, is full.
+/// Whether a part is used and its log is full.
 fn is_used_full(is_used: bool, room: u64) -> bool
     ensures { result ≡ (is_used && room == 0) }
 {
@@ -69,7 +69,7 @@ fn is_any(a: bool, b: bool, c: bool, d: bool) -> bool
     a || b || c || d
 }
 
-/// Whether the log of a guest, where there is one, is full.
+/// Whether there is a guest and its log is full.
 fn is_guest_full(rooms: &[u64], slot: Option<u64>) -> bool
     requires count { length rooms.now ≡ 64 }
     requires slot { IsLowSlot slot }
@@ -81,7 +81,7 @@ fn is_guest_full(rooms: &[u64], slot: Option<u64>) -> bool
     }
 }
 
-/// The same layout once more.
+/// A copy of the layout.
 pub fn copied_layout(layout: &Layout) -> Result<Layout, AllocError>
     ensures { IfOk result (λ l. layout_of l ≡ layout_of layout.now) }
 {
@@ -96,7 +96,7 @@ impl GhostRooms {
     ghost use Rattle.std.specs.Prelude.{ℕ};
     ghost use Rattle.ghost_spec.specs.States.{rooms_in};
 
-    /// The same rooms once more.
+    /// A copy of the rooms.
     pub(crate) fn copied(&self, alloc: Global) -> Result<GhostRooms, AllocError>
         ensures same { (log : ℕ) → IfOk result (λ r. rooms_in log r ≡ rooms_in log self.now) }
         ensures guests { IfOk result (λ r. r.guests.items ≡ self.now.guests.items) }
@@ -131,7 +131,7 @@ impl GhostLists {
       used_in,
     };
 
-    /// The same state once more.
+    /// A copy of the state.
     pub(crate) fn copied(&self, alloc: Global) -> Result<GhostLists, AllocError>
         requires { IsKept self.now }
         ensures state { IfOk result (λ g. ghost_state g ≡ ghost_state self.now) }
@@ -177,7 +177,7 @@ impl GhostLists {
         )
     }
 
-    /// What a call uses is taken out, and blank parts are left.
+    /// Takes the parts that a call uses out, and leaves blank ones.
     fn take(
         &mut self,
         alloc: Global,
@@ -202,7 +202,7 @@ impl GhostLists {
         })
     }
 
-    /// What a call used becomes this.
+    /// Puts the parts that a call used back.
     fn put_back(&mut self, cpu: usize, step: Step, slot: Option<u64>, used: GhostUsed)
         requires cpu { cpu < length self.old.cpus.items }
         requires kept { IsKept self.old }
@@ -243,8 +243,8 @@ impl GhostLists {
         self.rooms.cpus[cpu] = left_of(self.rooms.cpus[cpu], true);
     }
 
-    /// The reference step, but for want of memory: the reply, and the state becomes that after it. Where memory is refused,
-    /// anything may have changed.
+    /// The reference step, for memory that doesn't run out: the reply, and the state becomes the one after it. If the
+    /// allocator refuses memory, anything may have changed.
     pub(crate) fn advance(
         &mut self,
         alloc: Global,

@@ -22,7 +22,7 @@ pub struct GhostSlot {
     pub generation: u64,
     pub kind: VmKind,
     pub vcpus: u64,
-    /// The CPU that has each vCPU loaded; none for those past the list.
+    /// The CPU that has each vCPU loaded; no CPU for vCPUs past the end of the list.
     pub loaded: Vec<Option<u64>>,
 }
 
@@ -50,7 +50,7 @@ ghost use Rattle.ghost_spec.specs.States.{guest_in, slot_in, AreKeptGuests};
 impl GhostSlot {
     ghost use Rattle.ghost_spec.specs.States.{slot_in};
 
-    /// The same slot once more.
+    /// A copy of the slot.
     fn copied(&self, alloc: Global) -> Result<GhostSlot, AllocError>
         ensures { IfOk result (λ s. slot_in s ≡ slot_in self.now) }
     {
@@ -85,7 +85,7 @@ impl GhostGuest {
         }
     }
 
-    /// The same guest once more.
+    /// A copy of the guest.
     pub(crate) fn copied(&self, alloc: Global) -> Result<GhostGuest, AllocError>
         requires { IsKeptGuest self.now }
         ensures same { IfOk result (λ g. guest_in g ≡ guest_in self.now) }
@@ -101,7 +101,7 @@ impl GhostGuest {
     }
 }
 
-/// The same slots once more.
+/// A copy of the slots.
 pub(crate) fn copied_slots(alloc: Global, slots: &[GhostSlot]) -> Result<Vec<GhostSlot>, AllocError>
     ensures { IfOk result (λ v. map slot_in v.items ≡ map slot_in slots.now) }
 {
@@ -112,7 +112,7 @@ pub(crate) fn copied_slots(alloc: Global, slots: &[GhostSlot]) -> Result<Vec<Gho
     Ok(copies)
 }
 
-/// The same guests once more.
+/// A copy of the guests.
 pub(crate) fn copied_guests(
     alloc: Global,
     guests: &[GhostGuest],
@@ -128,7 +128,7 @@ pub(crate) fn copied_guests(
     Ok(copies)
 }
 
-/// So many slots, all Empty.
+/// `count` slots, all Empty.
 pub fn empty_slots(alloc: Global, count: u64) -> Result<Vec<GhostSlot>, AllocError>
     ensures count { IfOk result (λ v. length v.items ≡ count) }
     ensures empty { IfOk result (λ v. All (λ s. slot_in s ≡ no_slot 1) v.items) }
@@ -146,7 +146,7 @@ pub fn empty_slots(alloc: Global, count: u64) -> Result<Vec<GhostSlot>, AllocErr
     Ok(slots)
 }
 
-/// So many guests, all Empty.
+/// `count` guests, all Empty.
 pub fn empty_guests(alloc: Global, count: u64) -> Result<Vec<GhostGuest>, AllocError>
     ensures count { IfOk result (λ v. length v.items ≡ count) }
     ensures empty { IfOk result (λ v. All (λ g. guest_in g ≡ no_guest) v.items) }

@@ -22,7 +22,7 @@ use page_state::{Entry, Layout, Lent, Owner, Page, PageRange, Row, State, Usage}
 use run_list::{Run, RunList};
 use std::alloc::{AllocError, Global};
 
-/// The row of a frame that no run has: the host's, lent to nobody, and in no use.
+/// The row of a frame that no run has: the host owns it, shares it with nobody, and has it in no use.
 const PLAIN_ROW: Row = Row {
     owner: Owner(0),
     lent: None,
@@ -80,7 +80,7 @@ fn sharer(
     }
 }
 
-/// The owner of a frame that isn't annotated: where the host borrows it, its sharer.
+/// The owner of a frame that isn't annotated: its sharer if the host borrows it, else the host.
 fn lender(
     layout: &Layout,
     shared: &Shared,
@@ -101,7 +101,7 @@ fn lender(
     }
 }
 
-/// What the guest borrows a frame as, where it does.
+/// The loan of a frame to the guest, if the guest borrows it.
 fn guest_lent(
     layout: &Layout,
     shared: &Shared,
@@ -159,7 +159,7 @@ fn lent_to(
     }
 }
 
-/// The guest's slot, where a frame is free in its pool or a table of its tree.
+/// The guest's slot, if a frame is free in its pool or a table of its tree.
 fn pool_of(
     layout: &Layout,
     shared: &Shared,
@@ -178,7 +178,7 @@ fn pool_of(
     }
 }
 
-/// What holds a frame: the shared pool, the guest's, the CPU's hand, or nothing.
+/// The holder of a frame: the shared pool, the guest's, the CPU's hand, or none.
 fn usage_of(
     layout: &Layout,
     shared: &Shared,
@@ -210,7 +210,7 @@ fn usage_of(
     }
 }
 
-/// The row of a frame, found from the maps, the pools, the tables and the CPU's hand alone.
+/// The row of a frame, found only from the maps, the pools, the tables and the CPU's hand.
 fn row_found(
     layout: &Layout,
     shared: &Shared,
@@ -263,7 +263,7 @@ fn set_run(rows: &mut RunList<Row>, run: Run<Row>) -> Result<(), AllocError>
     Ok(())
 }
 
-/// The row of a frame is found again, where it is a memory frame.
+/// Finds the row of a frame again, if it is a memory frame.
 fn find_row(
     layout: &Layout,
     shared: &mut Shared,
@@ -346,7 +346,8 @@ pub(crate) fn find_rows(
     }
 }
 
-/// For how many more runs `copied_rows` takes room: most steps put no more in, and a list that grows is copied once more.
+/// The number of additional runs for which `copied_rows` takes room: most steps add no more, and a list that grows is
+/// copied again.
 const MORE_ROWS: usize = 16;
 
 /// Rows of these runs.
@@ -360,7 +361,7 @@ pub fn copied_rows(alloc: Global, runs: &[Run<Row>]) -> Result<RunList<Row>, All
     Ok(RunList::of(rows))
 }
 
-/// The rows of the memory frames of a range are found, where there is no guest, and no frame is in a hand.
+/// Finds the rows of the memory frames of a range, if there is no guest and no frame is in a hand.
 fn find_first(
     alloc: Global,
     layout: &Layout,
@@ -380,7 +381,7 @@ fn find_first(
     Ok(())
 }
 
-/// The rows of all memory frames are found, where there is no guest, and no frame is in a hand.
+/// Finds the rows of all memory frames, if there is no guest and no frame is in a hand.
 pub(crate) fn find_all(
     alloc: Global,
     layout: &Layout,

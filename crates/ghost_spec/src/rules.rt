@@ -1,4 +1,5 @@
-//! The rules of the calls on the Shared part alone: the first of a call's tests that fails, or all that it changes.
+//! The rules of the calls on the Shared part alone: the refusal of the first of a call's tests that fails, or all its
+//! changes.
 ghost use Rattle.std.specs.Prelude.{◌≡◌, ℕ, ◌+◌, ◌<◌, ◌≤◌, ◌^◌, ◌&&◌, Option, IfOk};
 ghost use Rattle.call_table.specs.declared.step.Step.TheVariants.{ShareHyp, UnshareHyp, DonateHyp, HypDonateHost, HostAbort, HostTranslate, HypTranslate, OwnerOf, Fund, Unfund};
 ghost use Rattle.page_state.specs.Blocks.{block_at, first_page as first_page_of, span as span_of};
@@ -82,7 +83,7 @@ pub(crate) fn share_hyp(layout: &Layout, used: &GhostUsed, pfn: u64) -> Result<C
     })
 }
 
-/// The host takes back what it shared with the hypervisor.
+/// The host takes back the page that it shared with the hypervisor.
 #[tactic(auto, unfolding(reference_model::specs::model::Rules::rule))]
 pub(crate) fn unshare_hyp(layout: &Layout, used: &GhostUsed, pfn: u64) -> Result<Changes, Refusal>
     requires { IsKeptUsed used.now }

@@ -1,4 +1,4 @@
-//! The Shared part on lists: its state, and what a change does to it.
+//! The Shared part on lists: its state, and the effect of a change on it.
 ghost use Rattle.std.specs.Prelude.{◌≡◌, ◌+◌, ◌≤◌, ◌||◌, IfOk, OnOk, drop, length, nat_lt};
 ghost use Rattle.page_state.specs.Tables.{need as need_of, returned as returned_of, edited as edited_of};
 ghost use Rattle.reference_model.specs.model.Changes.{edit_of};
@@ -50,7 +50,7 @@ impl Shared {
         }
     }
 
-    /// The same part once more.
+    /// A copy of the part.
     pub(crate) fn copied(&self, alloc: Global) -> Result<Shared, AllocError>
         requires { IsKeptShared self.now }
         ensures same { IfOk result (λ s. shared_in_lists s ≡ shared_in_lists self.now) }
@@ -88,7 +88,7 @@ pub(crate) fn needed(
     }
 }
 
-/// What a change of a tree took and gave.
+/// The results of a change of a tree.
 #[derive(Drop)]
 pub(crate) struct Edited {
     /// How many tables it needed.
@@ -119,7 +119,7 @@ pub(crate) fn edit(
     match change {
         Some(change) => {
             let made = tree::edited(alloc, depth, tree, change.range, change.entry, frames)?;
-            // What was there goes to `drop`: the proof of a place written over would go through all parts of it.
+            // The old value goes to `drop`: the proof of a place written over would go through all parts of it.
             drop(mem::replace(tree, made.tree));
             Ok(Edited {
                 need: made.need,
@@ -168,8 +168,8 @@ pub(crate) fn is_short(
     Ok(is_fewer(shared.free.as_slice(), host_need, hyp_need))
 }
 
-/// Both maps change: the host's new tables get the lowest frames, the hypervisor's the next, and freed frames come back.
-/// Where memory is refused, both trees may have changed.
+/// Both maps change: the host's new tables get the lowest frames, the hypervisor's the next, and freed frames come
+/// back. If the allocator refuses memory, both trees may have changed.
 pub(crate) fn change(
     alloc: Global,
     depth: u64,

@@ -19,7 +19,7 @@ use crate::state::Ghost;
 use page_state::{Config, Layout};
 use std::alloc::{AllocError, Global};
 
-/// So many CPUs with nothing.
+/// `count` CPUs with no vCPU loaded, no hand and no ticket.
 pub fn idle_cpus(alloc: Global, count: u64) -> Result<Vec<GhostCpu>, AllocError>
     ensures count { IfOk result (λ v. length v.items ≡ count) }
     ensures idle { IfOk result (λ v. All (λ k. cpu_in k ≡ no_cpu) v.items) }
@@ -32,7 +32,7 @@ pub fn idle_cpus(alloc: Global, count: u64) -> Result<Vec<GhostCpu>, AllocError>
     Ok(cpus)
 }
 
-/// So many logs of a room.
+/// The rooms of `count` logs, all `room`.
 pub fn equal_rooms(alloc: Global, count: u64, room: u64) -> Result<Vec<u64>, AllocError>
     ensures count { IfOk result (λ v. length v.items ≡ count) }
     ensures rooms { IfOk result (λ v. All (λ n. n ≡ room) v.items) }
@@ -62,8 +62,8 @@ fn unused_rooms(alloc: Global, config: Config) -> Result<GhostRooms, AllocError>
     })
 }
 
-/// The Shared part at boot. None where the carve-out has fewer frames than boot needs tables. The row of each memory frame is
-/// found by a search of all lists.
+/// The Shared part at boot. None if the carve-out has fewer frames than boot needs tables. The row of each memory frame
+/// is found by a search of all lists.
 fn shared_at_boot(alloc: Global, layout: &Layout) -> Result<Option<Shared>, AllocError>
     requires { 0 < layout.now.config.cpus }
     ensures enough { IfOk result (λ o. IsSome o ↔ IsCarveEnough (layout_of layout.now)) }
@@ -81,8 +81,8 @@ fn shared_at_boot(alloc: Global, layout: &Layout) -> Result<Option<Shared>, Allo
     Ok(Some(shared))
 }
 
-/// The state at boot. None where the carve-out has fewer frames than boot needs tables. The row of each memory frame is found
-/// by a search of all lists.
+/// The state at boot. None if the carve-out has fewer frames than boot needs tables. The row of each memory frame is
+/// found by a search of all lists.
 pub fn start(alloc: Global, layout: Layout) -> Result<Option<Ghost>, AllocError>
     requires { 0 < layout.config.cpus }
     ensures enough { IfOk result (λ o. IsSome o ↔ IsCarveEnough (layout_of layout)) }

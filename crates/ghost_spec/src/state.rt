@@ -39,7 +39,7 @@ impl Ghost {
         Ghost { lists }
     }
 
-    /// What it is made of.
+    /// The lists of the state.
     pub fn lists(&self) -> &GhostLists
         ensures value { result.now ≡ self.now }
         ensures kept { IsKept self.now }
@@ -47,7 +47,7 @@ impl Ghost {
         &self.lists
     }
 
-    /// What it is made of, to be changed.
+    /// The lists of the state, to be changed.
     pub fn into_lists(self) -> GhostLists
         ensures value { result ≡ self }
         ensures kept { IsKept result }
@@ -56,7 +56,7 @@ impl Ghost {
         lists
     }
 
-    /// The same state once more.
+    /// A copy of the state.
     pub fn copied(&self, alloc: Global) -> Result<Ghost, AllocError>
         ensures state { IfOk result (λ g. ghost_state g ≡ ghost_state self.now) }
         ensures layout { IfOk result (λ g. layout_of g.layout ≡ layout_of self.now.layout) }
@@ -66,7 +66,7 @@ impl Ghost {
     }
 }
 
-/// Whether a step of a CPU can be foretold: it doesn't release a VM whose generation is the greatest u64.
+/// Whether `predict` can make a step of a CPU: it doesn't release a VM whose generation is the greatest u64.
 pub fn has_next_generation(state: &Ghost, cpu: u64, step: Step) -> bool
     requires { cpu < state.now.layout.config.cpus }
     ensures { IsTrue result ↔ HasNextGeneration ((contents_in state.now).cpu cpu).ticket step }
@@ -77,7 +77,7 @@ pub fn has_next_generation(state: &Ghost, cpu: u64, step: Step) -> bool
     }
 }
 
-/// As `predict`, where the state before isn't wanted any more: it becomes the state after, and no copy is made.
+/// As `predict`, for a caller that no longer needs the state before: it becomes the state after, and no copy is made.
 pub fn predict_last(
     alloc: Global,
     state: Ghost,
@@ -99,7 +99,8 @@ pub fn predict_last(
     Ok((reply, Ghost { lists }))
 }
 
-/// The reference step, but for want of memory: the reply, and the state after it. Err where memory is refused.
+/// The reference step, for memory that doesn't run out: the reply, and the state after it. Err if the allocator refuses
+/// memory.
 pub fn predict(
     alloc: Global,
     state: &Ghost,

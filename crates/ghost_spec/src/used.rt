@@ -1,4 +1,4 @@
-//! What a call uses, on lists.
+//! The parts that a call uses, on lists.
 ghost use Rattle.std.specs.Prelude.{◌≡◌, ℕ, ◌-◌, IfOk, if◌then◌else◌, length, false, true};
 ghost use Rattle.reference_model.specs.model.Parts.{uses_shared as uses_shared_of, uses_vms as uses_vms_of};
 ghost use Rattle.reference_model.specs.model.Rules.{names};
@@ -64,7 +64,7 @@ pub(crate) fn take_shared(
     }
 }
 
-/// The guest of a slot, where there is one, is taken out, and an Empty one left.
+/// Takes out the guest of a slot, if there is one, and leaves an Empty one.
 pub(crate) fn take_guest(
     alloc: Global,
     guests: &mut Vec<GhostGuest>,

@@ -1,4 +1,4 @@
-//! What a step uses: the slot of its guest, and whether it uses the VM part and the Shared part.
+//! The parts that a step uses: the slot of its guest, and whether it uses the VM part and the Shared part.
 ghost use Rattle.std.specs.Prelude.{◌≡◌, ◌<◌};
 ghost use Rattle.reference_model.specs.model.GuestRules.{ticket_kind as ticket_kind_of, ticket_vm as ticket_vm_of};
 ghost use Rattle.reference_model.specs.model.Parts.{has_stage as has_stage_of, loaded_slot as loaded_slot_of, slot_of as slot_of_vm, ticket_slot as ticket_slot_of, uses_shared as uses_shared_of, uses_vms as uses_vms_of};
@@ -10,7 +10,7 @@ use crate::cpu::GhostCpu;
 use call_table::{Step, VmId, VmKind};
 use reference_model::Stage;
 
-/// The slot of a VM, where there is such a slot.
+/// The slot of a VM if it is below 64, else None.
 fn slot_of(vm: VmId) -> Option<u64>
     ensures value { result ≡ slot_of_vm vm }
     ensures low { IsLowSlot result }
@@ -28,7 +28,7 @@ pub(crate) fn has_stage(stage: Stage, own: &GhostCpu) -> bool
     }
 }
 
-/// The VM of the CPU's ticket; of none, slot 0 and generation 0.
+/// The VM of the CPU's ticket; slot 0 and generation 0 without a ticket.
 pub(crate) fn ticket_vm(own: &GhostCpu) -> VmId
     requires { IsKeptCpu own.now }
     ensures value { result ≡ ticket_vm_of (cpu_in own.now) }
@@ -43,7 +43,7 @@ pub(crate) fn ticket_vm(own: &GhostCpu) -> VmId
     }
 }
 
-/// The kind of the CPU's ticket; of none, plain.
+/// The kind of the CPU's ticket; plain without a ticket.
 pub(crate) fn ticket_kind(own: &GhostCpu) -> VmKind
     ensures { result ≡ ticket_kind_of (cpu_in own.now) }
 {
@@ -80,8 +80,8 @@ fn loaded_slot(own: &GhostCpu) -> Option<u64>
     }
 }
 
-/// The slot of the guest that a step of the CPU names, by its VM, or by what the CPU has loaded or holds a ticket of. None
-/// where there is none.
+/// The slot of the guest that a step of the CPU names, by its VM, or by the CPU's loaded vCPU or ticket. None if there
+/// is none.
 pub(crate) fn guest_slot(own: &GhostCpu, step: Step) -> Option<u64>
     requires { IsKeptCpu own.now }
     ensures value { result ≡ guest_slot_of (cpu_in own.now) step }
@@ -116,7 +116,7 @@ pub(crate) fn uses_vms(step: Step) -> bool
     }
 }
 
-/// Whether a step uses the Shared part, where the slot of its guest was found or not.
+/// Whether a step uses the Shared part, from whether the slot of its guest was found.
 pub(crate) fn uses_shared(step: Step, slot: Option<u64>) -> bool
     ensures { result ≡ uses_shared_of (names step) slot }
 {

@@ -1,4 +1,4 @@
-//! The rules of the calls on the VM part: the first of a call's tests that fails, or all that it changes.
+//! The rules of the calls on the VM part: the refusal of the first of a call's tests that fails, or all its changes.
 ghost use Rattle.std.specs.Prelude.{◌≡◌, ℕ, ◌<◌, ◌&&◌, ◌||◌, Option, IfOk, IfSome, is_some, length, nat_le, nat_lt, true};
 ghost use Rattle.call_table.specs.declared.step.Step.TheVariants.{VmReserve, VmOpen, VcpuLoad, VcpuPut, Teardown, VmRelease};
 ghost use Rattle.page_state.specs.Layouts.{Layout as ReferenceLayout};
@@ -84,7 +84,7 @@ fn is_any_loaded(slot: &GhostSlot) -> bool
     false
 }
 
-/// What a CPU has loaded, and a vCPU of no VM where it is none.
+/// The vCPU that a CPU has loaded, or a vCPU of no VM if it has none.
 fn load_of(own: &GhostCpu) -> Loaded
     requires { IsKeptCpu own.now }
     ensures value { result ≡ load_of_cpu (cpu_in own.now) }

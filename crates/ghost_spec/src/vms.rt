@@ -1,4 +1,4 @@
-//! What a change does to the slots of the VM part.
+//! The effect of a change on the slots of the VM part.
 ghost use Rattle.std.specs.Prelude.{◌≡◌, ℕ, ◌+◌, ◌^◌, ◌<◌, None, OnOk, length, get_or};
 ghost use Rattle.reference_model.specs.model.Changes.{vms_by};
 ghost use Rattle.reference_model.specs.model.State.{closing, no_slot, opened, put_at, reserved};

@@ -14,12 +14,12 @@ continues r n =
 abbrev pub longer : Run → Run → Run
 longer r n = record r { pages = record r.pages { count = r.pages.count + n.pages.count } }
 
--- a run in front of a list: it takes the pages of the first run where that continues it
+-- a run in front of a list: it takes the pages of the first run if that continues it
 abbrev pub joined : Run → List Run → List Run
 joined r [] = r ∷ []
 joined r (n ∷ rs) = if continues r n then longer r n ∷ rs else r ∷ (n ∷ rs)
 
--- a run in front of a list, where it has a page
+-- a run in front of a list; the list alone if the run has no page
 abbrev pub with_run : Run → List Run → List Run
 with_run r rs = if r.pages.count == 0 then rs else joined r rs
 

@@ -1,4 +1,4 @@
--- What each tree on lists keeps.
+-- The invariant of a tree on lists.
 use Rattle.page_state.specs.Runs.{IsCoarsest}
 use Rattle.ghost_trees.specs.declared.tree.Tree.{Tree}
 use Rattle.ghost_trees.specs.Small.{AreSmall}

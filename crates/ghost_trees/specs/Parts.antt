@@ -23,7 +23,7 @@ run_part Before page r =
     record r { pages = record r.pages { count = min (page - r.pages.first.0) r.pages.count } }
 run_part From page r = run_behind r (min (page - r.pages.first.0) r.pages.count)
 
--- the run of a range whose pages have an entry, or no run where nothing is mapped there
+-- the run of a range whose pages have an entry, or no run if nothing is mapped there
 abbrev pub run_of_target : PageRange → Option Target → List Run
 run_of_target range None = []
 run_of_target range (Some target) = record { pages = range; target = target } ∷ []
@@ -37,7 +37,7 @@ abbrev pub EndBefore : ℕ → List Run → Type 0
 EndBefore page [] = Unit {0}
 EndBefore page (r ∷ rs) = (run_end r < page) × EndBefore page rs
 
--- the first run ends at the page or behind it
+-- the first run ends at the page or after it
 abbrev pub EndsFrom : ℕ → List Run → Type 0
 EndsFrom page [] = Unit {0}
 EndsFrom page (r ∷ rs) = page ≤ run_end r

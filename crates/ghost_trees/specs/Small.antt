@@ -15,6 +15,6 @@ HasLowFrames other count = Unit {0}
 abbrev pub IsSmall : Run → Type 0
 IsSmall r = (run_end r ≤ 2 ^ 63) × HasLowFrames (entry_of_target r.target) r.pages.count
 
--- those of each run of a list
+-- the numbers of each run of a list are small
 abbrev pub AreSmall : List Run → Type 0
 AreSmall runs = All IsSmall runs

@@ -7,7 +7,7 @@ use crate::tree::Table;
 use page_state::{PageRange, Run};
 use run_list::Advance;
 
-/// What may be in a list beside others that it must be apart from.
+/// An item of a list that must be apart from the others.
 pub trait Apart: Copy {
     ghost IsApart: { Self → Self → Type 0 };
 

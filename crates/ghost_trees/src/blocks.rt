@@ -36,8 +36,8 @@ pub(crate) fn blocks_on(alloc: Global, top: u64, range: PageRange) -> Result<Vec
     Ok(blocks)
 }
 
-/// Whether one word can say what the map of a coarsest list of runs says of a block: no run meets the block, or one covers
-/// it and gives it an entry that fits. It looks at the runs alone.
+/// Whether one word can encode the map of a coarsest list of runs on a block: no run meets the block, or one covers it
+/// and gives it an entry that fits. It reads only the runs.
 pub fn is_one_word(runs: &[Run], block: Block) -> bool
     requires runs { AreSmall runs.now }
     requires coarsest { IsCoarsest runs.now }
@@ -58,7 +58,7 @@ pub fn is_one_word(runs: &[Run], block: Block) -> bool
     true
 }
 
-/// Whether the map of runs maps nothing on a block. It looks at the runs alone.
+/// Whether the map of runs maps nothing on a block. It reads only the runs.
 pub fn is_empty(runs: &[Run], block: Block) -> bool
     requires runs { AreSmall runs.now }
     requires block { IsLowBlock block }
@@ -90,7 +90,7 @@ fn first_page(block: Block) -> u64
     block.1 * span(block.0)
 }
 
-/// Adds the blocks of depth `top` and less that hold a page, the greatest first: all, or those that begin with it.
+/// Adds the blocks of depth `top` and less that hold a page, the greatest first: all, or only those that begin at it.
 fn push_blocks(blocks: &mut Vec<Block>, top: u64, page: u64, all: bool) -> Result<(), AllocError>
     requires top { top ≤ 3 }
     requires page { page ≤ 2 ^ 63 }

@@ -1,4 +1,4 @@
--- What changed from one state to another, line by line: all that differs, and nothing else.
+-- The changes from one state to another, line by line: all that differs, and nothing else.
 use Rattle.std.specs.Prelude.{◌≡◌, ◌⊎◌, ℕ, ◌+◌, ◌-◌, ◌==◌, List, [], ◌∷◌, ◌++◌, codes, Option, Some, None, if◌then◌else◌, length, unwrap_or}
 use Rattle.std.specs.Fmt.{decimal}
 use Rattle.page_state.specs.declared.entry.Entry.{Entry}
@@ -15,7 +15,7 @@ use Rattle.run_changes.specs.Changes.{advance_change}
 use Rattle.state_changes.specs.Texts.{guest_head, slot_head, text_of_guest_head, text_of_hand, text_of_holder, text_of_loaded, text_of_slot_head, text_of_ticket}
 use Rattle.state_changes.specs.Together.{Each, Then}
 
--- a line: what changed, what it was, and what it is
+-- a line: the name of the changed thing, its old value and its new value
 abbrev pub change_line : List ℕ → List ℕ → List ℕ → List ℕ
 change_line name before after =
     codes "    " ++ name ++ codes ": " ++ before ++ codes " -> " ++ after ++ 10 ∷ []
@@ -32,7 +32,8 @@ pages_name label first last =
     if first == last then label ++ codes " " ++ text_of_page first
     else label ++ codes " " ++ text_of_page first ++ codes ".." ++ text_of_page last
 
--- a line for each run of pages: what the first had and has, which goes on along the run
+-- a line for each run of pages: the old and the new value of the first page, which advance along
+-- the run
 abbrev pub run_lines : {V : Type 0} → (Option V → List ℕ) → List ℕ → List (Run (Change V)) → List ℕ
 run_lines text_of label [] = []
 run_lines text_of label (r ∷ rs) =
@@ -46,7 +47,7 @@ abbrev pub IsChange : {V X : Type 0} → (X → Option V → Type 0) → X → X
 IsChange is before after None = before ≡ after
 IsChange is before after (Some c) = is before c.before × is after c.after × (before ≡ after → ⊥)
 
--- a map: the coarsest runs of just the pages that changed
+-- a map: the coarsest runs of exactly the pages that changed
 pub record TellsMap {V X : Type 0} (advance : V → ℕ → V) (is : X → Option V → Type 0)
     (text_of : Option V → List ℕ) (label : List ℕ) (before after : ℕ → X)
     (text : List ℕ) : Type 0 where

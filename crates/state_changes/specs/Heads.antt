@@ -1,4 +1,4 @@
--- What code says of guests and VM slots, in the words of the reference state.
+-- The parts of the reference state that code's guests and VM slots represent.
 use Rattle.ghost_spec.specs.States.{phase_in, stand_in}
 use Rattle.state_changes.specs.declared.heads.GuestHead.{GuestHead as CodeGuest}
 use Rattle.state_changes.specs.declared.heads.SlotHead.{SlotHead as CodeSlot}

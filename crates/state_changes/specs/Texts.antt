@@ -1,4 +1,4 @@
--- How guests, VM slots and what CPUs hold are written (profile).
+-- The text of guests, of VM slots and of the CPUs' own states (profile).
 use Rattle.std.specs.Prelude.{ℕ, nat_lt, List, ◌++◌, codes, Option, Some, None, if◌then◌else◌, length}
 use Rattle.std.specs.Fmt.{decimal}
 use Rattle.page_state.specs.declared.entry.PageRange.{PageRange}
@@ -57,7 +57,7 @@ guest_line phase generation kind free =
     text_of_phase phase ++ codes " generation " ++ decimal generation ++ codes " "
     ++ text_of_vm_kind kind ++ codes " free " ++ decimal free
 
--- of an Empty one the phase alone
+-- only the phase of an Empty guest
 abbrev pub guest_in_phase : Phase → ℕ → VmKind → ℕ → List ℕ
 guest_in_phase empty generation kind free = text_of_phase empty
 guest_in_phase phase generation kind free = guest_line phase generation kind free

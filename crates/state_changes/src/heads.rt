@@ -112,7 +112,7 @@ fn slot_head_of(slot: &GhostSlot) -> SlotHead
     }
 }
 
-/// What changed of a guest.
+/// Adds the changes of a guest.
 pub(crate) fn add_guest(
     text: &mut Vec<u8>,
     global: Global,
@@ -156,7 +156,7 @@ fn add_guest_head(
     Ok(())
 }
 
-/// What changed of a VM slot.
+/// Adds the changes of a VM slot.
 pub(crate) fn add_slot(
     text: &mut Vec<u8>,
     global: Global,
@@ -202,7 +202,7 @@ fn add_slot_head(
     Ok(())
 }
 
-/// What changed of a slot's vCPUs.
+/// Adds the changes of a slot's vCPUs.
 fn add_vcpus(
     text: &mut Vec<u8>,
     global: Global,

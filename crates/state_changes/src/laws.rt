@@ -1,7 +1,7 @@
 //! The law of the report. The function does nothing, and its contract is the law.
 ghost use Rattle.state_changes.specs.Laws.{OneText};
 
-/// Two states determine the text of what changed.
+/// Two states determine the text of their changes.
 pub fn one_text()
     ensures { OneText }
 {}

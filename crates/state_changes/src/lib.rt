@@ -1,4 +1,4 @@
-//! What changed from one state to another, as text: a line for each thing that differs, and none for any other.
+//! The changes from one state to another, as text: a line for each thing that differs, and none for any other.
 #![tactic(auto)]
 
 mod heads;

@@ -1,4 +1,4 @@
-//! Lines of what changed.
+//! Lines of changes.
 ghost use Rattle.std.specs.Prelude.{◌≡◌, ◌++◌, OnOk, codes, length};
 ghost use Rattle.std.specs.Fmt.{decimal};
 ghost use Rattle.state_changes.specs.Changed.{change_line, TellsValue};
@@ -6,7 +6,7 @@ ghost use Rattle.state_changes.specs.Together.{Adds};
 
 use std::alloc::{AllocError, Global};
 
-/// Adds a line: what changed, what it was, and what it is.
+/// Adds a line: the name of the changed thing, its old value and its new value.
 pub(crate) fn add_change(
     text: &mut Vec<u8>,
     name: &[u8],

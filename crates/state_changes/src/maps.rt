@@ -70,7 +70,7 @@ impl fmt::Display for Pages {
     }
 }
 
-/// What changed of the entries of a tree's pages.
+/// Adds the changes of the entries of a tree's pages.
 pub(crate) fn add_entries(
     text: &mut Vec<u8>,
     global: Global,
@@ -158,7 +158,7 @@ fn told_entry(global: Global, target: Option<Target>) -> Result<String, AllocErr
     format!(in global; "{entry}")
 }
 
-/// What changed of the owner rows of frames. Both lists have a row for the same frames.
+/// Adds the changes of the owner rows of frames. Both lists have a row for the same frames.
 pub(crate) fn add_rows(
     text: &mut Vec<u8>,
     global: Global,

@@ -12,7 +12,7 @@ use page_state::PageRange;
 use reference_model::{Loaded, Ticket};
 use std::alloc::{AllocError, Global};
 
-/// What changed of a CPU's own state.
+/// Adds the changes of a CPU's own state.
 pub(crate) fn add_cpu(
     text: &mut Vec<u8>,
     global: Global,

@@ -22,9 +22,10 @@ use std::alloc::{AllocError, Global};
 /// The number of VM slots, and of guests.
 const SLOTS: usize = 64;
 
-/// Adds to a text what changed from one state to another: of each tree the entries of pages, of memory frames the owner rows,
-/// the number of free frames of the shared pool, of each guest its phase, generation, kind and number of free frames, each VM
-/// slot with the CPU of each vCPU, and what a CPU has loaded, in its hand and as its ticket. Both states have the same memory.
+/// Adds to a text the changes from one state to another: of each tree the entries of pages, of memory frames the owner
+/// rows, the number of free frames of the shared pool, of each guest its phase, generation, kind and number of free
+/// frames, each VM slot with the CPU of each vCPU, and each CPU's loaded vCPU, hand and ticket. Both states have the
+/// same memory.
 pub fn add_changes(
     text: &mut Vec<u8>,
     global: Global,
@@ -99,7 +100,7 @@ fn add_guest_maps(
     Ok(())
 }
 
-/// What else changed.
+/// Adds the other changes.
 fn add_rest(
     text: &mut Vec<u8>,
     global: Global,

@@ -1,4 +1,4 @@
-//! How what CPUs hold is written.
+//! The text of the CPUs' own states.
 ghost use Rattle.std.specs.Prelude.{◌≡◌, IfOk, Some, string_bytes};
 ghost use Rattle.state_changes.specs.Texts.{text_of_hand, text_of_holder, text_of_loaded, text_of_stage, text_of_ticket};
 

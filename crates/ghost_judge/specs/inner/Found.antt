@@ -1,4 +1,4 @@
--- What parts of an audit find.
+-- The results of parts of an audit.
 use Rattle.std.specs.Prelude.{◌≡◌, ℕ, ◌<◌, List, Option, map, get_or, MatchOption}
 use Rattle.page_state.specs.declared.row.Row.{Row}
 use Rattle.page_state.specs.Map.{Map}

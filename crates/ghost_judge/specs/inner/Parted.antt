@@ -3,8 +3,8 @@ use Rattle.std.specs.Prelude.{◌≡◌, ℕ, ◌+◌, min, Bool, ◌==◌, Opti
 use Rattle.run_list.specs.declared.run.Run.{Run}
 use Rattle.ghost_judge.specs.Apart.{IsFirstApart}
 
--- the first page that only one of two runs has, or to which they give other values; none where they
--- are one run
+-- the first page that only one of two runs has, or to which they give other values; None if the
+-- runs are equal
 abbrev pub parted_at : {V : Type 0} → (V → V → Bool) → Run V → Run V → Option ℕ
 parted_at same r s =
     if r.pages.first.0 == s.pages.first.0
@@ -14,6 +14,6 @@ parted_at same r s =
     else Some r.pages.first.0)
     else Some (min r.pages.first.0 s.pages.first.0)
 
--- where two functions first differ; none where they agree everywhere
+-- the first number at which two functions differ; None if they agree everywhere
 abbrev pub IsFoundApart : {X : Type 0} → (ℕ → X) → (ℕ → X) → Option ℕ → Type 0
 IsFoundApart f g o = MatchOption o ((n : ℕ) → f n ≡ g n) (IsFirstApart f g)

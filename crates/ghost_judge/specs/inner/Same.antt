@@ -1,4 +1,4 @@
--- What tests of single parts compare.
+-- The comparisons of tests of single parts.
 use Rattle.std.specs.Prelude.{◌≡◌, ℕ, ◌+◌, ◌<◌, ◌≤◌, Bool, not, List, [], ◌∷◌, Option, Some, None, drop, filter, get_or, length}
 use Rattle.page_state.specs.declared.row.Row.{Row}
 use Rattle.page_state.specs.Rows.{plain_row}
@@ -12,7 +12,7 @@ use Rattle.ghost_trees.specs.Trees.{table_of}
 abbrev pub HasSameFrame : List Table → List Table → Table → Type 0
 HasSameFrame a b t = table_of a t.block ≡ table_of b t.block
 
--- the CPU that has each vCPU loaded; none past the list's end
+-- the CPU that has each vCPU loaded; None past the list's end
 abbrev pub loads : List (Option ℕ) → ℕ → Option ℕ
 loads xs = λ i. get_or xs i None
 
@@ -34,7 +34,7 @@ pub record IsNextMarked (rs : List (Run Row)) (from at : ℕ) : Type 0 where
   pub within : at < length rs
   pub rest : (d : Run Row) → marked (drop from rs) ≡ get_or rs at d ∷ marked (drop (at + 1) rs)
 
--- the first frame of a list's first run, where it has one
+-- the first frame of a list's first run, if it has a run
 abbrev pub IsBegin : List (Run Row) → Option ℕ → Type 0
 IsBegin [] o = o ≡ None
 IsBegin (r ∷ rs) o = o ≡ Some r.pages.first.0
