@@ -1,4 +1,4 @@
-//! Blocks below the root that have no table, where no word would do.
+//! Blocks below the root that have no table although no word can encode the map there.
 ghost use Rattle.std.specs.Prelude.{◌≡◌, ℕ, ◌+◌, ◌-◌, ◌*◌, ◌/◌, ◌^◌, ◌<◌, ◌≤◌, ◌++◌, ◌↔◌, true, is_some, min, Contains, IfOk, IsTrue, MatchOption, OnOk};
 ghost use Rattle.std.specs.List.Sorted.{IsNonDecreasing};
 ghost use Rattle.page_state.specs.Blocks.{fits_word};
@@ -16,7 +16,7 @@ use ghost_trees::tree::{Table, Tree};
 use page_state::{Entry, Run};
 use std::alloc::{AllocError, Global};
 
-/// Adds the index of a block, where it is of a depth.
+/// Adds the index of a block, if it is of a depth.
 fn push_index(indexes: &mut Vec<u64>, block: Block, depth: u64) -> Result<(), AllocError>
     ensures { OnOk result (indexes.new.items ≡ indexes.old.items ++ index_in depth block) }
 {
@@ -48,7 +48,7 @@ fn indexes_at(alloc: Global, tables: &[Table], depth: u64) -> Result<Vec<u64>, A
     Ok(indexes)
 }
 
-/// Whether a number is one of those in order.
+/// Whether a number is in a sorted list.
 fn has(indexes: &[u64], index: u64) -> bool
     requires { IsNonDecreasing indexes.now }
     ensures { IsTrue result ↔ Contains indexes.now index }
@@ -71,7 +71,7 @@ fn is_served(runs: &[Run], indexes: &[u64], depth: u64, index: u64) -> bool
     is_word(runs, (depth, index))
 }
 
-/// Whether a word can say what a run says of a block whose first page it has.
+/// Whether a word can encode a run on a block whose first page the run has.
 fn is_said(run: Run, index: u64, depth: u64) -> bool
     requires run { IsSmall run }
     requires depth { depth ≤ 3 }
@@ -85,7 +85,7 @@ fn is_said(run: Run, index: u64, depth: u64) -> bool
         .fits_word(depth as u32)
 }
 
-/// Whether a word can say the first and the last of blocks along a run, and so each.
+/// Whether a word can encode the first and the last of the blocks along a run, and so each of them.
 #[tactic(auto, using(crate::proofs::Along::words_along))]
 fn are_words(run: Run, low: u64, high: u64, depth: u64) -> bool
     requires run { IsSmall run }
@@ -124,8 +124,8 @@ fn first_unserved(runs: &[Run], indexes: &[u64], depth: u64, from: u64, to: u64)
     None
 }
 
-/// The index of the first block between two, all covered by a run, that has no table and needs one. Where a word can say the
-/// first and the last of them, one can say each.
+/// The index of the first block between two, all covered by a run, that has no table and needs one. If a word can
+/// encode the first and the last of them, a word can encode each.
 fn first_between(
     runs: &[Run],
     indexes: &[u64],
@@ -154,7 +154,7 @@ fn first_between(
     first_unserved(runs, indexes, depth, low + 1, high)
 }
 
-/// The index of the last block that a run meets, of so many.
+/// The index of the last of the first `count` blocks that a run meets.
 #[tactic(auto, using(crate::proofs::Along::last_of))]
 fn last_block(run: Run, size: u64, count: u64) -> u64
     requires run { IsSmall run }
@@ -170,7 +170,7 @@ fn last_block(run: Run, size: u64, count: u64) -> u64
     ((run.pages.first.0 + run.pages.count - 1) / size).min(count - 1)
 }
 
-/// The index of a block of a depth, one of so many, that a run meets, and that has no table and needs one.
+/// The index of one of the first `count` blocks of a depth that a run meets, and that has no table and needs one.
 fn lacking_on(runs: &[Run], indexes: &[u64], run: Run, depth: u64, count: u64) -> Option<u64>
     requires small { AreSmall runs.now }
     requires coarsest { IsCoarsest runs.now }
@@ -198,7 +198,7 @@ fn lacking_on(runs: &[Run], indexes: &[u64], run: Run, depth: u64, count: u64) -
     first_between(runs, indexes, run, depth, low, high)
 }
 
-/// The index of a block of a depth, one of so many, that has no table and needs one.
+/// The index of one of the first `count` blocks of a depth that has no table and needs one.
 fn lacking_of(runs: &[Run], indexes: &[u64], depth: u64, count: u64) -> Option<u64>
     requires small { AreSmall runs.now }
     requires coarsest { IsCoarsest runs.now }
@@ -216,7 +216,7 @@ fn lacking_of(runs: &[Run], indexes: &[u64], depth: u64, count: u64) -> Option<u
     None
 }
 
-/// The index of a block of a depth, one of so many, where a tree has no table and no word would do.
+/// The index of one of the first `count` blocks of a depth at which a tree has no table and needs one.
 fn lacking_at(alloc: Global, tree: &Tree, depth: u64, count: u64) -> Result<Option<u64>, AllocError>
     requires kept { IsKeptTree tree.now }
     requires depth { depth ≤ 3 }
@@ -229,7 +229,7 @@ fn lacking_at(alloc: Global, tree: &Tree, depth: u64, count: u64) -> Result<Opti
     Ok(lacking_of(tree.runs.as_slice(), indexes.as_slice(), depth, count))
 }
 
-/// A block below the root where a tree has no table and no word would do.
+/// A block below the root at which a tree has no table and needs one.
 pub(crate) fn first_lacking(
     alloc: Global,
     tree: &Tree,

@@ -1,4 +1,4 @@
-//! Where a tree on lists isn't the coarsest tree of its map.
+//! The blocks at which a tree on lists isn't the coarsest tree of its map.
 #![tactic(auto)]
 
 mod lacking;

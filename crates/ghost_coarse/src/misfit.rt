@@ -1,4 +1,4 @@
-//! Where a tree isn't the coarsest tree of its map.
+//! The blocks at which a tree isn't the coarsest tree of its map.
 ghost use Rattle.std.specs.Prelude.{◌≤◌, IfOk, MatchOption};
 ghost use Rattle.coarse_trees.specs.Coarsest.{IsCoarsest};
 ghost use Rattle.ghost_trees.specs.KeptTrees.{IsKeptTree};
@@ -11,16 +11,17 @@ use ghost_trees::blocks::Block;
 use ghost_trees::tree::Tree;
 use std::alloc::{AllocError, Global};
 
-/// Where a tree isn't the coarsest tree of its map.
+/// The blocks at which a tree isn't the coarsest tree of its map.
 #[derive(Clone, Copy, PartialEq)]
 pub enum Misfit {
-    /// A block below the root that has a table, where one word would do.
+    /// A block below the root that has a table although one word can encode the map there.
     Needless(Block),
-    /// A block below the root that has no table, where no word would do.
+    /// A block below the root that has no table although no word can encode the map there.
     Lacking(Block),
 }
 
-/// Where a tree isn't the coarsest tree of its map. It takes time by n log n of the number of runs and tables.
+/// The blocks at which a tree isn't the coarsest tree of its map. It takes time by n log n of the number of runs and
+/// tables.
 pub fn first_misfit(alloc: Global, tree: &Tree, depth: u64) -> Result<Option<Misfit>, AllocError>
     requires depth { depth ≤ 3 }
     requires kept { IsKeptTree tree.now }

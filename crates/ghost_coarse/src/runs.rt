@@ -1,4 +1,4 @@
-//! Whether one word can say what runs say of a block.
+//! Whether one word can encode the map of runs on a block.
 ghost use Rattle.std.specs.Prelude.{◌≡◌, ℕ, ◌+◌, ◌≤◌, drop, length, take, nat_lt};
 ghost use Rattle.page_state.specs.Blocks.{is_one_word as is_one_word_of};
 ghost use Rattle.page_state.specs.Geometries.{block_pages};
@@ -60,7 +60,7 @@ fn runs_from(runs: &[Run], page: u64) -> &[Run]
     behind(runs, ended_before(runs, page))
 }
 
-/// Whether one word can say what the map of runs says of a block. The runs that end before it aren't looked at.
+/// Whether one word can encode the map of runs on a block. It doesn't read the runs that end before the block.
 pub(crate) fn is_word(runs: &[Run], block: Block) -> bool
     requires small { AreSmall runs.now }
     requires coarsest { IsCoarsest runs.now }

@@ -1,4 +1,4 @@
-//! Tables at blocks that are none of a tree, and those where one word would do.
+//! Tables at blocks that aren't in a tree, and tables at blocks that one word can encode.
 ghost use Rattle.std.specs.Prelude.{◌≡◌, ◌+◌, ◌≤◌, ◌↔◌, All, IsTrue, MatchOption, true};
 ghost use Rattle.coarse_trees.specs.Coarsest.{IsInTree};
 ghost use Rattle.page_state.specs.Blocks.{is_one_word};
@@ -30,7 +30,7 @@ fn is_inside(block: Block, depth: u64) -> bool
     true
 }
 
-/// The block of the first table that is at none of a tree.
+/// The block of the first table that isn't at a block of a tree.
 pub fn first_outside(tables: &[Table], depth: u64) -> Option<Block>
     requires { depth ≤ 3 }
     ensures { MatchOption result (AreInside depth tables.now) (IsOutside depth (table_of tables.now)) }
@@ -44,7 +44,7 @@ pub fn first_outside(tables: &[Table], depth: u64) -> Option<Block>
     None
 }
 
-/// Whether a block is below the root, and one word can say what runs say of it.
+/// Whether a block is below the root, and one word can encode the map of runs there.
 #[tactic(auto, using(crate::proofs::Placed::low_block))]
 fn is_word_below(runs: &[Run], block: Block, depth: u64) -> bool
     requires small { AreSmall runs.now }
@@ -59,7 +59,7 @@ fn is_word_below(runs: &[Run], block: Block, depth: u64) -> bool
     is_word(runs, block)
 }
 
-/// The block of the first table below the root where one word would do.
+/// The block of the first table below the root at a block that one word can encode.
 pub(crate) fn first_needless(runs: &[Run], tables: &[Table], depth: u64) -> Option<Block>
     requires small { AreSmall runs.now }
     requires coarsest { IsCoarsest runs.now }

@@ -1,4 +1,4 @@
--- What the parts of a state and a list of held frames say of each frame.
+-- The facts of the parts of a state and of a list of held frames about each frame.
 use Rattle.std.specs.Prelude.{◌≡◌, ℕ, ◌+◌, ◌-◌, ◌^◌, ◌<◌, ◌≤◌, true, List, ◌∷◌, All, Option, Some, None, IsPermutation}
 use Rattle.page_state.specs.declared.entry.PageRange.{PageRange}
 use Rattle.page_state.specs.Layouts.{hyp_page}
@@ -16,7 +16,7 @@ use Rattle.ghost_legal.specs.Ranges.{at, AreInOrder}
 abbrev pub held_frames : Held → PageRange
 held_frames h = h.frames
 
--- what has a frame of a piece
+-- the holder of a frame of a piece
 abbrev pub holder_on : Held → ℕ → Holder
 holder_on h f = later h.holder (f - h.frames.first.0)
 
@@ -24,11 +24,11 @@ abbrev pub holder_of : Option Held → ℕ → Option Holder
 holder_of None f = None
 holder_of (Some h) f = Some (holder_on h f)
 
--- what has a frame: the first piece that has it counts
+-- the holder of a frame: that of the first piece with the frame
 abbrev pub held_at : List Held → ℕ → Option Holder
 held_at hs f = holder_of (at held_frames hs f) f
 
--- what all parts say of a frame
+-- the facts of all parts about a frame
 abbrev pub facts_in : GhostLists → List Held → ℕ → Facts
 facts_in g hs f = record {
   memory = has_memory g.layout.map f;
@@ -38,7 +38,7 @@ facts_in g hs f = record {
   holder = held_at hs f;
 }
 
--- a holder that is a guest is one of the 64, and its pages are small along so many frames
+-- a holder that is a guest is one of the 64, and its pages stay small along `count` frames
 abbrev pub IsSmallHolder : Holder → ℕ → Type 0
 IsSmallHolder (Guest slot page state) count = (slot < 64) × (page + count ≤ 2 ^ 63)
 IsSmallHolder other count = Unit {0}
@@ -53,7 +53,7 @@ pub record IsHeldList (hs : List Held) : Type 0 where
   pub order : AreInOrder held_frames hs
   pub small : All IsSmallHeld hs
 
--- the first frame that is in no condition, and what all parts say of it
+-- the first frame that is in no condition, and the facts of all parts about it
 pub record IsFrameFault (g : GhostLists) (hs : List Held) (w : ℕ × Facts) : Type 0 where
   pub facts : w.1 ≡ facts_in g hs w.0
   pub none : IsCondition w.0 w.1 → ⊥

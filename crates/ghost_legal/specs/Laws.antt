@@ -19,7 +19,7 @@ use Rattle.ghost_legal.specs.Facts.{IsCondition}
 use Rattle.ghost_legal.specs.Frames.{facts_in, held_frames}
 use Rattle.ghost_legal.specs.Ranges.{AreInOrder}
 
--- where each frame is in its one condition, all frames are legal
+-- if each frame is in exactly one condition, all frames are legal
 abbrev pub FramesAreLegal : Type 0
 FramesAreLegal =
     (g : GhostLists) (hs : List Held)
@@ -30,7 +30,7 @@ FramesAreLegal =
     → IsHypBelow (contents_in g)
     → AreFramesLegal (layout_of g.layout) (contents_in g)
 
--- where all frames are legal each is in its one condition, guests map leaves of memory, and the
+-- if all frames are legal, each is in exactly one condition, guests map leaves of memory, and the
 -- hypervisor nothing below
 abbrev pub LegalFrames : Type 0
 LegalFrames =
@@ -50,7 +50,8 @@ HasCounts =
     → IsPermutation (all_held_in g) hs
     → AreCounted g hs
 
--- a permutation of all that is held has a frame for a guest just where the guest maps it so
+-- a permutation of all that is held has a frame for a guest if and only if the guest maps it in the
+-- same way
 abbrev pub GuestsAreHeld : Type 0
 GuestsAreHeld =
     (g : GhostLists) (hs : List Held)
@@ -60,7 +61,7 @@ GuestsAreHeld =
     → IsMemoryLeaf f state (((contents_in g).guest v).tree.map page)
     ↔ IsHeldIn hs (Guest v page state) f
 
--- where each guest is Empty and has nothing, or has a root, all guests fit
+-- if each guest is Empty and holds nothing, or has a root, all guests fit
 abbrev pub WholeGuestsFit : Type 0
 WholeGuestsFit =
     (g : GhostLists)

@@ -25,7 +25,7 @@ free_held h frames = map (λ f. piece f h) frames
 abbrev pub tables_held : ℕ → List TableOf → List Held
 tables_held tree ts = map (λ t. piece t.frame (Table (record { tree = tree; block = t.block }))) ts
 
--- what a guest's run has
+-- the frames that a guest's run maps
 abbrev pub target_held : ℕ → PageRange → Target → Option Held
 target_held slot pages (Leaf frame prot kind state) =
     Some
@@ -47,13 +47,13 @@ abbrev pub runs_held : ℕ → List Run → List Held
 runs_held slot [] = []
 runs_held slot (r ∷ rs) = option_list (mapped_of slot r) ++ runs_held slot rs
 
--- what a guest holds
+-- the frames that a guest holds
 abbrev pub guest_held : ℕ → GhostGuest → List Held
 guest_held v g =
     tables_held (2 + v) g.tree.tables.items
     ++ (free_held (VmPool v) g.free.items ++ runs_held v g.tree.runs.items)
 
--- what guests hold, by slot from a number on
+-- the frames that guests hold, by slot from a number on
 abbrev pub guests_held : ℕ → List GhostGuest → List Held
 guests_held from [] = []
 guests_held from (g ∷ gs) = guest_held from g ++ guests_held (suc from) gs
@@ -68,7 +68,7 @@ abbrev pub hands_held : ℕ → List GhostCpu → List Held
 hands_held from [] = []
 hands_held from (k ∷ ks) = hand_held from k.hand ++ hands_held (suc from) ks
 
--- what the Shared part holds
+-- the frames that the Shared part holds
 abbrev pub shared_held : Shared → List Held
 shared_held s =
     tables_held 0 s.host.tables.items

@@ -21,7 +21,7 @@ abbrev pub IsNormal : Target → Type 0
 IsNormal (Leaf frame prot kind state) = kind ≡ Normal
 IsNormal other = ⊥
 
--- so is that of each run
+-- the target of each run is a leaf of memory
 abbrev pub AreNormal : List Run → Type 0
 AreNormal [] = Unit {0}
 AreNormal (r ∷ rs) = IsNormal r.target × AreNormal rs
@@ -52,7 +52,7 @@ IsWholeIn depth g other = is_some (table_of g.tree.tables.items (depth + 1, 0)) 
 abbrev pub IsWhole : ℕ → GhostGuest → Type 0
 IsWhole depth g = IsWholeIn depth g g.phase
 
--- a page of a run is none of a leaf of memory, or isn't below a page
+-- a page of a run isn't a leaf of memory, or isn't below a page
 pub record IsBadPage (pages : ℕ) (r : Run) (p : ℕ) : Type 0 where
   pub from : r.pages.first.0 ≤ p
   pub to : p < run_end r

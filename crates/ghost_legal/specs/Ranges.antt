@@ -1,11 +1,11 @@
--- Lists of what has a range, in order.
+-- Lists of items with ranges, in order.
 use Rattle.std.specs.Prelude.{◌≡◌, ℕ, ◌<◌, ◌≤◌, true, false, List, [], ◌∷◌, Option, Some, None, length, take, drop, get_or, if◌then◌else◌}
 use Rattle.page_state.specs.declared.entry.PageRange.{PageRange}
 use Rattle.page_state.specs.Regions.{end_of, is_in_range}
 use Rattle.ghost_legal.specs.declared.places.Place.{Place}
 
 module _ {T : Type 0} (range : T → PageRange) where
-  -- the first range begins at the page or behind it
+  -- the first range begins at the page or after it
   abbrev pub BeginsFrom : ℕ → List T → Type 0
   BeginsFrom page [] = Unit {0}
   BeginsFrom page (x ∷ xs) = page ≤ (range x).first.0

@@ -1,4 +1,5 @@
--- What is told of contents on a layout, by lists that say them; and both forms of a legal state.
+-- The report on contents on a layout, from lists that represent them; and both forms of a legal
+-- state.
 use Rattle.std.specs.Prelude.{◌≡◌, Bool, true, false}
 use Rattle.page_state.specs.Layouts.{Layout}
 use Rattle.page_state.specs.LayoutView.{layout_of}

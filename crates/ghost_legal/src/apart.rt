@@ -38,7 +38,7 @@ fn guests_have_first_blocks(guests: &[GhostGuest]) -> bool
     true
 }
 
-/// Whether no tree has two tables at one block. Of two, the state has the first in the list alone. It takes time by the square
+/// Whether no tree has two tables at one block. Of two, only the first in the list counts. It takes time by the square
 /// of the number of a tree's tables.
 pub fn have_first_blocks(state: &GhostLists) -> bool
     ensures { IsTrue result ↔ TreesHaveFirstBlocks state.now }

@@ -1,4 +1,4 @@
-//! The condition of a frame, by what the parts say of it.
+//! The condition of a frame, from the facts of the parts about it.
 ghost use Rattle.std.specs.Prelude.{◌≡◌, ◌+◌, ◌<◌, ◌^◌, ◌↔◌, IsTrue, Some};
 ghost use Rattle.page_state.specs.EntryTests.{leaf as leaf_of};
 ghost use Rattle.reference_model.specs.help.Conditions.{row_in as row_in_of, hyp_says as hyp_says_of, HostFits};
@@ -54,7 +54,7 @@ pub(crate) fn held(holder: Holder) -> Condition
     }
 }
 
-/// The condition of a memory frame that nothing else has, by its row.
+/// The condition of a memory frame without a holder, from its row.
 fn unheld(row: Row) -> Condition
     ensures { condition_in result ≡ unheld_in row }
 {
@@ -123,7 +123,7 @@ fn host_fits(page: u64, condition: Condition, host: Entry) -> bool
     }
 }
 
-/// What the hypervisor's entry of a frame's page is.
+/// The hypervisor's entry of a frame's page.
 fn hyp_says(frame: u64, condition: Condition) -> Entry
     ensures { result ≡ hyp_says_of frame (condition_in condition) }
 {
@@ -153,7 +153,7 @@ fn lent_row(number: u64, page: u64) -> Row
     }
 }
 
-/// The row of a memory frame by its condition.
+/// The row of a memory frame in a condition.
 fn row_in(frame: u64, condition: Condition) -> Row
     requires frame { frame < 2 ^ 63 }
     requires condition { IsLowCondition condition }
@@ -188,7 +188,7 @@ fn row_in(frame: u64, condition: Condition) -> Row
     }
 }
 
-/// Whether what the parts say of a frame is the condition.
+/// Whether the facts of the parts about a frame fit the condition.
 #[tactic(auto, using(page_state::proofs::Equality::entries_tell, page_state::proofs::Equality::rows_tell))]
 fn fits_in(frame: u64, condition: Condition, facts: Facts) -> bool
     requires frame { frame < 2 ^ 63 }
@@ -204,7 +204,7 @@ fn fits_in(frame: u64, condition: Condition, facts: Facts) -> bool
     !facts.memory || facts.row == row_in(frame, condition)
 }
 
-/// Whether what the parts say of a frame is a condition.
+/// Whether the facts of the parts about a frame fit some condition.
 pub(crate) fn fits(frame: u64, facts: Facts) -> bool
     requires frame { frame < 2 ^ 63 }
     requires holder { IsLowHolder facts.holder }

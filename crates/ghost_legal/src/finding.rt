@@ -1,15 +1,15 @@
-//! What is found where a state isn't legal.
+//! The finding for a state that isn't legal.
 use ghost_coarse::Misfit;
 use ghost_slots::SlotFault;
 use ghost_trees::blocks::Block;
 use page_state::{Entry, Row, State};
 
-/// What has a frame beside the host and the hypervisor.
+/// The holder of a frame, apart from the host and the hypervisor.
 #[derive(Clone, Copy, PartialEq)]
 pub enum Holder {
-    /// The shared pool, where it is free.
+    /// The shared pool, in which it is free.
     SharedPool,
-    /// The pool of the guest of a slot, where it is free.
+    /// The pool of the guest of a slot, in which it is free.
     VmPool(u64),
     /// A tree, as a table.
     Table(TreeBlock),
@@ -27,7 +27,7 @@ pub struct TreeBlock {
     pub block: Block,
 }
 
-/// What all parts say of a frame.
+/// The facts of all parts about a frame.
 #[derive(Clone, Copy, PartialEq)]
 pub struct Facts {
     /// Whether it is a memory frame.
@@ -38,7 +38,7 @@ pub struct Facts {
     pub hyp: Entry,
     /// Its row.
     pub row: Row,
-    /// What else has it.
+    /// Its holder, apart from the host and the hypervisor.
     pub holder: Option<Holder>,
 }
 
@@ -51,7 +51,7 @@ pub enum Illegal {
     Guest {
         slot: u64,
     },
-    /// A tree has a table at a block that is none of it.
+    /// A tree has a table at a block outside of it.
     Outside(TreeBlock),
     /// A guest's page is no leaf of memory, or past the input pages.
     GuestPage {
@@ -73,7 +73,7 @@ pub enum Illegal {
         one: Holder,
         other: Holder,
     },
-    /// What the parts say of a frame is no condition.
+    /// The facts of the parts about a frame fit no condition.
     Frame {
         frame: u64,
         facts: Facts,

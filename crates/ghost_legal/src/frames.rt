@@ -40,7 +40,7 @@ fn entry_at(runs: &[Run], place: Place, page: u64) -> Entry
     Entry::Unmapped
 }
 
-/// The row of a frame that no run has: the host's, lent to nobody, and in no use.
+/// The row of a frame that no run has: the host owns it, shares it with nobody, and has it in no use.
 const PLAIN_ROW: Row = Row {
     owner: Owner(0),
     lent: None,
@@ -61,7 +61,7 @@ fn row_at(rows: &[run_list::Run<Row>], place: Place, frame: u64) -> Row
     PLAIN_ROW
 }
 
-/// What has a frame, by its place.
+/// The holder of a frame, from its place.
 fn holder_at(held: &[Held], place: Place, frame: u64) -> Option<Holder>
     requires held { IsHeldList held.now }
     requires place { IsPlace held_frames frame place held.now }
@@ -130,7 +130,7 @@ fn places_at(state: &GhostLists, held: &[Held], near: Places, frame: u64) -> Pla
     }
 }
 
-/// What all parts say of a frame.
+/// The facts of all parts about a frame.
 fn facts_at(state: &GhostLists, held: &[Held], places: Places, frame: u64) -> Facts
     requires kept { IsKeptShared state.now.shared }
     requires held { IsHeldList held.now }
@@ -173,7 +173,7 @@ fn until(state: &GhostLists, held: &[Held], places: Places, frame: u64) -> u64
     memory_until(&state.layout.map, frame, most)
 }
 
-/// The first frame that is in no condition, with what all parts say of it.
+/// The first frame that is in no condition, with the facts of all parts about it.
 pub(crate) fn first_frame(state: &GhostLists, held: &[Held]) -> Option<(u64, Facts)>
     requires kept { IsKeptShared state.now.shared }
     requires held { IsHeldList held.now }

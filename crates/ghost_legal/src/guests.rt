@@ -119,7 +119,7 @@ pub(crate) fn first_guest_page(state: &GhostLists) -> Option<Illegal>
     None
 }
 
-/// The first page that runs map, where it is below a page.
+/// The first page that runs map, if it is below a page.
 fn mapped_below(runs: &[Run], low: u64) -> Option<u64>
     requires { IsCoarsest runs.now }
     ensures { MatchOption result ((p : ℕ) → p < low → map_of runs.now p ≡ Unmapped)

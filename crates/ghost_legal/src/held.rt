@@ -1,4 +1,4 @@
-//! What has frames beside the host and the hypervisor: pools, tables, hands and guests.
+//! The holders of frames, apart from the host and the hypervisor: pools, tables, hands and guests.
 ghost use Rattle.std.specs.Prelude.{◌≡◌, ◌++◌, ◌<◌, ◌≤◌, ◌↔◌, length, All, IfOk, IsTrue, OnOk, Contains, MatchOption, IsPermutation};
 ghost use Rattle.std.specs.List.Sorted.{IsNonDecreasingBy};
 ghost use Rattle.page_state.specs.Regions.{end_of};
@@ -17,7 +17,7 @@ use ghost_trees::tree::Table;
 use page_state::{Page, PageRange, Run, Target};
 use std::alloc::{AllocError, Global};
 
-/// Frames that one has. Where that is a guest its page grows with the frame.
+/// A range of frames with one holder. A guest's page advances with the frame.
 #[derive(Clone, Copy, PartialEq)]
 pub(crate) struct Held {
     pub(crate) frames: PageRange,
@@ -61,7 +61,7 @@ fn add_tables(held: &mut Vec<Held>, tree: u64, tables: &[Table]) -> Result<(), A
     Ok(())
 }
 
-/// What a guest's run has.
+/// The frames that a guest's run maps.
 fn mapped(slot: u64, run: Run) -> Option<Held>
     ensures { result ≡ mapped_of slot run }
 {
@@ -81,7 +81,7 @@ fn mapped(slot: u64, run: Run) -> Option<Held>
     }
 }
 
-/// Adds what a guest's run has.
+/// Adds the frames that a guest's run maps.
 fn add_run(held: &mut Vec<Held>, slot: u64, run: Run) -> Result<(), AllocError>
     ensures { OnOk result (held.new.items ≡ held.old.items ++ option_list (mapped_of slot run)) }
 {
@@ -91,7 +91,7 @@ fn add_run(held: &mut Vec<Held>, slot: u64, run: Run) -> Result<(), AllocError>
     Ok(())
 }
 
-/// Adds what a guest's runs have.
+/// Adds the frames that a guest's runs map.
 fn add_runs(held: &mut Vec<Held>, slot: u64, runs: &[Run]) -> Result<(), AllocError>
     ensures { OnOk result (held.new.items ≡ held.old.items ++ runs_held slot runs.now) }
 {
@@ -122,7 +122,7 @@ fn add_hands(held: &mut Vec<Held>, cpus: &[GhostCpu]) -> Result<(), AllocError>
     Ok(())
 }
 
-/// Adds what a guest holds.
+/// Adds the frames that a guest holds.
 fn add_guest(held: &mut Vec<Held>, slot: u64, guest: &GhostGuest) -> Result<(), AllocError>
     requires { slot < 64 }
     ensures { OnOk result (held.new.items ≡ held.old.items ++ guest_held slot guest.now) }
@@ -132,7 +132,7 @@ fn add_guest(held: &mut Vec<Held>, slot: u64, guest: &GhostGuest) -> Result<(), 
     add_runs(held, slot, guest.tree.runs.as_slice())
 }
 
-/// Adds what guests hold.
+/// Adds the frames that guests hold.
 fn add_guests(held: &mut Vec<Held>, guests: &[GhostGuest]) -> Result<(), AllocError>
     requires { length guests.now ≡ 64 }
     ensures { OnOk result (held.new.items ≡ held.old.items ++ guests_held 0 guests.now) }
@@ -143,7 +143,7 @@ fn add_guests(held: &mut Vec<Held>, guests: &[GhostGuest]) -> Result<(), AllocEr
     Ok(())
 }
 
-/// Adds what the Shared part holds.
+/// Adds the frames that the Shared part holds.
 fn add_shared(held: &mut Vec<Held>, shared: &Shared) -> Result<(), AllocError>
     ensures { OnOk result (held.new.items ≡ held.old.items ++ shared_held shared.now) }
 {
@@ -175,7 +175,7 @@ pub(crate) fn held_in_order(alloc: Global, state: &GhostLists) -> Result<Vec<Hel
     Ok(held)
 }
 
-/// What has a frame, by what has the first of some, `offset` frames before it.
+/// The holder of a frame, from the holder of the frame `offset` frames before it.
 pub(crate) fn later(holder: Holder, offset: u64) -> Holder
     requires { HasLowPage holder offset }
     ensures { result ≡ later_of holder offset }
@@ -190,10 +190,10 @@ pub(crate) fn later(holder: Holder, offset: u64) -> Holder
     }
 }
 
-/// The greatest frame or page of what isn't in a run.
+/// The greatest frame or page outside of runs.
 const MOST: u64 = 0x8000_0000_0000_0000;
 
-/// Whether a holder is a guest of one of the 64 slots, at small pages along so many frames, or no guest.
+/// Whether a holder is a guest of one of the 64 slots, at pages that stay small along `count` frames, or no guest.
 fn is_small_holder(holder: Holder, count: u64) -> bool
     ensures { IsTrue result ↔ IsSmallHolder holder count }
 {

@@ -1,12 +1,12 @@
 //! What holds of every state.
 ghost use Rattle.ghost_legal.specs.Laws.{FramesAreLegal, GuestsAreHeld, HasCounts, LegalFrames, NoFalseAlarm, WholeGuestsFit};
 
-/// The frames of a state are legal where each is in its one condition.
+/// The frames of a state are legal if each is in exactly one condition.
 pub fn frames_are_legal()
     ensures { FramesAreLegal }
 {}
 
-/// And where they are legal each is.
+/// If the frames of a state are legal, each is in exactly one condition.
 pub fn legal_frames()
     ensures { LegalFrames }
 {}
@@ -21,7 +21,7 @@ pub fn guests_are_held()
     ensures { GuestsAreHeld }
 {}
 
-/// Where each guest is whole, all guests fit.
+/// If each guest is whole, all guests fit.
 pub fn whole_guests_fit()
     ensures { WholeGuestsFit }
 {}

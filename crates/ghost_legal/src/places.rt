@@ -7,7 +7,7 @@ ghost use Rattle.ghost_legal.specs.Ranges.{IsNear, IsNumber, IsPlace};
 use crate::held::Held;
 use page_state::{PageRange, Row, Run};
 
-/// What has a range.
+/// An item with a range.
 pub(crate) trait Ranged: Copy {
     ghost span: { Self → PageRangeOf };
 

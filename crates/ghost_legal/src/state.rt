@@ -20,7 +20,7 @@ use ghost_slots::first_slot_fault;
 use ghost_spec::lists::GhostLists;
 use std::alloc::{AllocError, Global};
 
-/// What is wrong with slots and guests.
+/// The first fault of slots and guests.
 fn first_part(state: &GhostLists) -> Option<Illegal>
     requires { IsKept state.now }
     ensures { MatchOption result (FitsParts state.now) (IsIllegalButForTrees state.now) }
@@ -31,7 +31,7 @@ fn first_part(state: &GhostLists) -> Option<Illegal>
     }
 }
 
-/// What is wrong with tables' places, guests' pages and the hypervisor's.
+/// The first fault of the places of tables and of the pages of guests and the hypervisor.
 fn first_page(state: &GhostLists) -> Option<Illegal>
     requires kept { IsKept state.now }
     requires parts { FitsParts state.now }
@@ -67,7 +67,7 @@ fn held_twice(one: Held, other: Held) -> Illegal
     }
 }
 
-/// What is wrong with frames, where each is held once at most.
+/// The first fault of frames, if each is held at most once.
 fn first_unfit(state: &GhostLists, held: &[Held]) -> Option<Illegal>
     requires kept { IsKept state.now }
     requires tables { TreesHaveFirstBlocks state.now }
@@ -116,7 +116,7 @@ fn first_held(alloc: Global, state: &GhostLists) -> Result<Option<Illegal>, Allo
     Ok(first_of(state, held.as_slice()))
 }
 
-/// What is wrong, whatever tables trees need.
+/// The first fault, apart from the tables that trees need.
 fn first_fault(alloc: Global, state: &GhostLists) -> Result<Option<Illegal>, AllocError>
     requires kept { IsKept state.now }
     requires tables { TreesHaveFirstBlocks state.now }
@@ -131,8 +131,8 @@ fn first_fault(alloc: Global, state: &GhostLists) -> Result<Option<Illegal>, All
     first_held(alloc, state)
 }
 
-/// Why a state isn't legal, whatever tables its trees need: for a hypervisor whose tables stand elsewhere than the coarsest
-/// trees' do. It takes time by n log n of the number of runs, tables and free frames.
+/// Why a state isn't legal, apart from the tables that its trees need: for a hypervisor with tables at other blocks
+/// than the coarsest trees have. It takes time by n log n of the number of runs, tables and free frames.
 pub fn illegal_but_for_trees(
     alloc: Global,
     state: &GhostLists,

@@ -64,7 +64,7 @@ impl fmt::Display for Holder {
     }
 }
 
-/// What has a frame, or nothing.
+/// The holder of a frame, or none.
 #[derive(Clone, Copy)]
 struct Had(Option<Holder>);
 
@@ -79,7 +79,7 @@ impl fmt::Display for Had {
     }
 }
 
-/// The row of a frame, where it is memory.
+/// The row of a frame, if it is memory.
 #[derive(Clone, Copy)]
 struct MemoryRow(Facts);
 

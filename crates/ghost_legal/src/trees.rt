@@ -1,4 +1,4 @@
-//! Tables at blocks that are none of a tree, and trees that aren't the coarsest of their maps.
+//! Tables at blocks outside of their tree, and trees that aren't the coarsest of their maps.
 ghost use Rattle.std.specs.Prelude.{◌≡◌, ◌≤◌, IfOk, MatchOption};
 ghost use Rattle.page_state.specs.LayoutView.{layout_of};
 ghost use Rattle.reference_model.specs.help.Conditions.{AreCoarsest};
@@ -19,7 +19,7 @@ pub(crate) fn depth_of(state: &GhostLists) -> u64
     state.layout.geometry.depth() as u64
 }
 
-/// The first table of a guest at a block that is none of its tree.
+/// The first table of a guest at a block outside of its tree.
 fn first_guest_table(state: &GhostLists) -> Option<Illegal>
     requires kept { IsKept state.now }
     requires parts { FitsParts state.now }
@@ -36,7 +36,7 @@ fn first_guest_table(state: &GhostLists) -> Option<Illegal>
     None
 }
 
-/// The first table at a block that is none of its tree.
+/// The first table at a block outside of its tree.
 pub(crate) fn first_table(state: &GhostLists) -> Option<Illegal>
     requires kept { IsKept state.now }
     requires parts { FitsParts state.now }

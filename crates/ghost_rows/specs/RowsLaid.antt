@@ -1,4 +1,4 @@
--- What lists of rows tell of frames, each of one thing: annotations, loans or uses.
+-- The facts that lists of rows give about frames, one kind per list: annotations, loans or uses.
 use Rattle.std.specs.Prelude.{◌≡◌, ℕ, zero, suc, ◌+◌, ◌-◌, ◌<◌, ◌^◌, ◌||◌, Bool, true, false, nat_lt, min, List, [], ◌∷◌, drop, get_or, map, length, slice_index, All, Option, Some, None, option_map, if◌then◌else◌}
 use Rattle.std.specs.Option.{option_or}
 use Rattle.descriptor.specs.declared.State.{State}
@@ -40,7 +40,7 @@ HasRows runs row = (f : ℕ) → run_map advance_row runs f ≡ row f
 abbrev pub HasLowRows : List (RowRun Row) → (ℕ → Option Row) → Type 0
 HasLowRows runs row = (f : ℕ) → f < 2 ^ 26 → run_map advance_row runs f ≡ row f
 
--- rows are written over those of a list: where there are none, the list's stay
+-- rows are written over those of a list; frames without a new row keep the list's
 abbrev pub IsLaidOver : List (RowRun Row) → List (RowRun Row) → (ℕ → Option Row) → Type 0
 IsLaidOver old new row = HasRows new (λ f. option_or (row f) (run_map advance_row old f))
 
@@ -48,7 +48,7 @@ IsLaidOver old new row = HasRows new (λ f. option_or (row f) (run_map advance_r
 abbrev pub IsLaidOverLow : List (RowRun Row) → List (RowRun Row) → (ℕ → Option Row) → Type 0
 IsLaidOverLow old new row = HasLowRows new (λ f. option_or (row f) (run_map advance_row old f))
 
--- the row from scratch of each memory frame, and none of others
+-- the row from scratch of each memory frame; other frames have none
 abbrev pub rows_of : Layout → Contents → ℕ → Option Row
 rows_of l s f = elim (is_memory l f) [ true ↦ Some (row_of l s f) | false ↦ None ]
 
@@ -78,7 +78,7 @@ annotated_row other = None
 abbrev pub annotation_on : Run → ℕ → Option Row
 annotation_on r f = if is_in_range r.pages f then annotated_row (entry_on r f) else None
 
--- where the pages of an annotated run end, and the page given where it isn't annotated
+-- the end of the pages of an annotated run; the given page if the run isn't annotated
 abbrev pub annotated_end : ℕ → Run → ℕ
 annotated_end high r =
     elim (annotated_row (entry_of_target r.target)) [ Some row ↦ run_end r | None ↦ high ]
@@ -88,7 +88,7 @@ abbrev pub loan_row : ℕ → ℕ → Row
 loan_row number page =
     record { owner = record { 0 = 0 }; lent = Some (lent_at number page); usage = Plain }
 
--- the same, where there is a page
+-- the same, if there is a page
 abbrev pub loan_at : ℕ → Option ℕ → Option Row
 loan_at number page = option_map (loan_row number) page
 
@@ -123,31 +123,31 @@ is_leaf_in s other = false
 abbrev pub maps_in : State → Run → Bool
 maps_in s r = is_leaf_in s r.target
 
--- the frames of a range of pages with a target, where that is a leaf in the state
+-- the frames of a range of pages with a target, if that is a leaf in the state
 abbrev pub target_frames : State → PageRange → Target → Option PageRange
 target_frames s pages (Leaf frame prot kind own) =
     if state_eq own s then Some (record { first = record { 0 = frame.0 }; count = pages.count })
     else None
 target_frames s pages other = None
 
--- those of a run
+-- the frames of a run, if it is a leaf in the state
 abbrev pub run_frames : State → Run → Option PageRange
 run_frames s r = target_frames s r.pages r.target
 
--- where frames end that begin at a frame or behind it, and the frame itself where there are none
+-- the end of frames that begin at a frame or after it, or the frame itself if there are none
 abbrev pub next_above : ℕ → Option PageRange → Option ℕ
 next_above high None = Some high
 next_above high (Some frames) = if nat_lt frames.first.0 high then None else Some (end_of frames)
 
--- where the frames end that runs map in the state below a limit, one run's behind another's and all
--- from a frame on; none where they don't rise so
+-- the end of the frames that runs map in the state below a limit, each run's after those of the run
+-- before and all from a frame on; None if they don't rise in this way
 abbrev pub last_above : ℕ → State → ℕ → List Run → Option ℕ
 last_above limit s high [] = Some high
 last_above limit s high (r ∷ rs) =
     elim (next_above high (run_frames s (run_below limit r)))
     [ Some end ↦ last_above limit s end rs | None ↦ None ]
 
--- lent to a guest, where it maps the frame in the state
+-- the loan to a guest, if it maps the frame in the state
 abbrev pub guest_loan : Layout → (ℕ → Guest) → State → ℕ → ℕ → Option Row
 guest_loan l guest s f v = map_loan l (2 + v) s (guest v).tree.map f
 
@@ -165,11 +165,11 @@ any_loan l host hyp gs f =
 abbrev pub used_row : Usage → Row
 used_row u = record { owner = record { 0 = 0 }; lent = None; usage = u }
 
--- the same, where a test holds
+-- the same, if a test holds
 abbrev pub used_if : Bool → Usage → Option Row
 used_if test u = if test then Some (used_row u) else None
 
--- the frames that may be memory and pass a test get a use, and the others keep what they had
+-- the frames that may be memory and pass a test get a use; the others keep theirs
 abbrev pub AreUsed : List (RowRun Row) → List (RowRun Row) → (ℕ → Bool) → Usage → Type 0
 AreUsed old new picks u = IsLaidOverLow old new (λ f. used_if (picks f) u)
 

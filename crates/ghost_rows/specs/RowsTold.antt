@@ -22,7 +22,7 @@ abbrev pub lent_told : Option Row → Option Lent
 lent_told None = None
 lent_told (Some r) = r.lent
 
--- what holds a row's frame
+-- the use of a row's frame
 abbrev pub usage_told : Option Row → Usage
 usage_told None = Plain
 usage_told (Some r) = r.usage
@@ -37,7 +37,8 @@ abbrev pub is_of_host : Option Lent → Bool
 is_of_host None = false
 is_of_host (Some x) = x.owner.0 == 0
 
--- the annotation's owner, and else, where the host borrows the frame, the guest that shares it
+-- the owner of the annotation; without one, the guest that shares the frame if the host borrows it,
+-- else the host
 abbrev pub owner_told : Option Row → Option Row → Option Row → ℕ
 owner_told (Some r) lent shared = r.owner.0
 owner_told None lent shared =
@@ -58,12 +59,12 @@ told x f =
     row_told (run_map advance_row x.annotated.runs f) (run_map advance_row x.lent.runs f)
     (run_map advance_row x.shared.runs f) (run_map advance_row x.used.runs f)
 
--- the lists tell of each frame of a run what the run has there
+-- the lists give each frame of a run the row of the run
 abbrev pub IsTold : Lists → Run Row → Type 0
 IsTold x r = (f : ℕ) → r.pages.first.0 ≤ f → f < run_end r → told x f ≡ value_on advance_row r f
 
--- the frames of a region have the rows that the lists tell where it is one of memory, and else
--- none; the others have what they had
+-- the frames of a region get the rows that follow from the lists if it is a region of memory, else
+-- none; the others keep theirs
 abbrev pub IsRegionAdded : Lists → Region → List (Run Row) → List (Run Row) → Type 0
 IsRegionAdded x region old new =
     (f : ℕ)
@@ -85,12 +86,12 @@ GoesOn runs low high =
 abbrev pub row_with : ℕ → Option Lent → Usage → Row
 row_with owner lent usage = record { owner = record { 0 = owner }; lent = lent; usage = usage }
 
--- the owner of a frame that is lent and not annotated: who shares it where the host borrows it, and
--- else the host
+-- the owner of a frame that is lent and not annotated: the sharer if the host borrows it, else the
+-- host
 abbrev pub lender : Option Lent → ℕ → ℕ
 lender lent sharer = elim (is_of_host lent) [ true ↦ sharer | false ↦ 0 ]
 
--- the lists tell so who shares a frame, and what holds it
+-- the sharer and the use of a frame follow from the lists
 pub record IsSteady (x : Lists) (s : Steady) (f : ℕ) : Type 0 where
   pub sharer : number_told (lent_told (run_map advance_row x.shared.runs f)) ≡ s.sharer.0
   pub usage : usage_told (run_map advance_row x.used.runs f) ≡ s.usage
@@ -99,7 +100,7 @@ pub record IsSteady (x : Lists) (s : Steady) (f : ℕ) : Type 0 where
 abbrev pub AreSteady : ℕ → Steady → Lists → Type 0
 AreSteady frame s x = (f : ℕ) → frame ≤ f → f < s.until → IsSteady x s f
 
--- none is shared, and none used
+-- no frame is shared, and none is in use
 abbrev pub quiet_to : ℕ → Steady
 quiet_to until = record { until = until; sharer = record { 0 = 0 }; usage = Plain }
 
@@ -184,8 +185,8 @@ pub record IsPassed (x : Lists) (r : Run Row) (s : Stands) : Type 0 where
   pub told : IsTold x r
   pub carried : AreCarried (run_end r) s x
 
--- the place of each list at a frame before, and how far from there on no frame is shared and none
--- used
+-- the place of each list at an earlier frame, and the frame up to which none is shared or in use
+-- from there on
 pub record AreNear (frame : ℕ) (n : Near) (x : Lists) : Type 0 where
   pub carried : AreCarried frame n.stands x
   pub quiet : AreSteady frame (quiet_to n.quiet) x

@@ -27,7 +27,7 @@ use run_list::{Run, RunList};
 use std::alloc::{AllocError, Global};
 use uses::all_uses;
 
-/// What all parts of the state say of each frame.
+/// The facts of all parts of the state about each frame.
 fn lists_of(alloc: Global, state: &GhostLists) -> Result<Lists, AllocError>
     requires host { IsKeptTree state.now.shared.host }
     requires hyp { IsKeptTree state.now.shared.hyp }
@@ -77,7 +77,7 @@ fn range_rows(alloc: Global, lists: &Lists, pages: PageRange) -> Result<RunList<
     Ok(RunList::of(rows))
 }
 
-/// The frames of a region get their rows where it is one of memory, and else none.
+/// The frames of a region get their rows if it is a region of memory, else none.
 fn add_region(
     alloc: Global,
     rows: &mut RunList<Row>,
@@ -130,8 +130,8 @@ fn is_low_memory(layout: &Layout)
     let _regions = layout.map.regions();
 }
 
-/// Whether rows, one for each memory frame, are those from scratch, which `rows_from_scratch` finds. They are compared with
-/// what the lists say, as it is found, and no list of rows is made.
+/// Whether rows, one for each memory frame, are those from scratch, which `rows_from_scratch` finds. They are compared
+/// with the lists' facts one by one, and no list of rows is made.
 pub fn are_from_scratch(
     alloc: Global,
     state: &GhostLists,

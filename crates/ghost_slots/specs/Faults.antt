@@ -1,4 +1,4 @@
--- Where slots, loads, tickets, guests and hands don't agree.
+-- Disagreements of slots, loads, tickets, guests and hands.
 use Rattle.std.specs.Prelude.{◌≡◌, ◌≢◌, ℕ, ◌≤◌, ◌<◌, Option, Some}
 use Rattle.page_state.specs.declared.entry.PageRange.{PageRange}
 use Rattle.reference_model.specs.declared.changes.Loaded.{Loaded}
@@ -8,7 +8,7 @@ use Rattle.reference_model.specs.model.State.{Contents, empty, live, vacant, res
 use Rattle.ghost_slots.specs.declared.fault.SlotFault.{SlotFault}
 use Rattle.ghost_slots.specs.declared.fault.SlotFault.TheVariants.{Load, Hand, Ticket as TicketFault, Vcpu, Guest, Tickets}
 
--- what a CPU has loaded its slot says too, and is of that generation
+-- the slot of a CPU's loaded vCPU names the CPU for it, and has that generation
 abbrev pub LoadOn : Contents → ℕ → Option Loaded → Type 0
 LoadOn s c o =
     (k : Loaded)
@@ -20,7 +20,7 @@ LoadOn s c o =
 abbrev pub HandOn : Option PageRange → Type 0
 HandOn o = (r : PageRange) → o ≡ Some r → 1 ≤ r.count
 
--- a ticket's slot is in the stage that the ticket says, with its generation and kind
+-- a ticket's slot is in the stage of the ticket, with its generation and kind
 abbrev pub TicketOn : Contents → Option Ticket → Type 0
 TicketOn s o = (t : Ticket) → o ≡ Some t → IsTicketOf s t
 
@@ -30,8 +30,8 @@ pub record CpuFits (s : Contents) (c : ℕ) : Type 0 where
   pub hand : HandOn (s.cpu c).hand
   pub ticket : TicketOn s (s.cpu c).ticket
 
--- a vCPU of a slot, where a CPU is to have it loaded: it is one of eight, the slot is Open, and the
--- CPU has it
+-- a vCPU for which the slot names a CPU: it is one of eight, the slot is Open, and the CPU has it
+-- loaded
 abbrev pub VcpuOn : Contents → ℕ → ℕ → Option ℕ → Type 0
 VcpuOn s v i o =
     (c : ℕ) → o ≡ Some c → (i < 8) × ((s.vms.slot v).stand ≡ opened) × HasLoaded s v i c

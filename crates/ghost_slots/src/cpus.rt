@@ -26,7 +26,7 @@ fn has_loaded(slot: &GhostSlot, vcpu: u64, cpu: u64) -> bool
     }
 }
 
-/// Whether what a CPU has loaded is what the slot says.
+/// Whether the slot of a CPU's loaded vCPU names the CPU for it.
 fn is_load(state: &GhostLists, cpu: u64, load: Loaded) -> bool
     requires kept { IsKept state.now }
     requires slot { load.vm.slot < 64 }
@@ -39,7 +39,7 @@ fn is_load(state: &GhostLists, cpu: u64, load: Loaded) -> bool
     has_loaded(slot, load.vcpu, cpu)
 }
 
-/// So it is where the CPU has something loaded.
+/// The same for a CPU that may have no vCPU loaded.
 fn is_loaded(state: &GhostLists, cpu: u64, loaded: Option<Loaded>) -> bool
     requires kept { IsKept state.now }
     requires low { HasLowLoad loaded }
@@ -51,7 +51,7 @@ fn is_loaded(state: &GhostLists, cpu: u64, loaded: Option<Loaded>) -> bool
     }
 }
 
-/// Whether a hand, where there is one, has a frame.
+/// Whether a hand, if there is one, has a frame.
 fn has_frame(hand: Option<PageRange>) -> bool
     ensures { IsTrue result ↔ HandOn hand }
 {
@@ -79,7 +79,7 @@ fn is_of_slot(state: &GhostLists, ticket: Ticket) -> bool
     fits_stage(ticket.stage, slot.stand, guest.phase)
 }
 
-/// So it is where the CPU has a ticket.
+/// The same for a CPU that may have no ticket.
 fn is_ticket(state: &GhostLists, ticket: Option<Ticket>) -> bool
     requires kept { IsKept state.now }
     requires low { HasLowTicket ticket }
@@ -91,7 +91,7 @@ fn is_ticket(state: &GhostLists, ticket: Option<Ticket>) -> bool
     }
 }
 
-/// What isn't right of a CPU's own state.
+/// The first fault of a CPU's own state.
 fn cpu_fault(state: &GhostLists, cpu: u64) -> Option<SlotFault>
     requires kept { IsKept state.now }
     requires cpu { cpu < state.now.layout.config.cpus }
@@ -112,7 +112,7 @@ fn cpu_fault(state: &GhostLists, cpu: u64) -> Option<SlotFault>
     None
 }
 
-/// What isn't right of CPUs' own states.
+/// The first fault of the CPUs' own states.
 pub(crate) fn first_cpu(state: &GhostLists) -> Option<SlotFault>
     requires { IsKept state.now }
     ensures { MatchOption result ((c : ℕ) → CpuFits (contents_in state.now) c)

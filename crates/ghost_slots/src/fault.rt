@@ -1,4 +1,4 @@
-//! Where slots, loads, tickets, guests and hands don't agree.
+//! Disagreements of slots, loads, tickets, guests and hands.
 ghost use Rattle.std.specs.Prelude.{MatchOption};
 ghost use Rattle.reference_model.specs.help.Conditions.{SlotsFit};
 ghost use Rattle.ghost_spec.specs.States.{contents_in, IsKept};
@@ -8,10 +8,10 @@ use crate::cpus::first_cpu;
 use crate::slots::first_slot;
 use ghost_spec::lists::GhostLists;
 
-/// Where slots, loads, tickets, guests and hands don't agree: the first that isn't right, CPUs by number, then slots.
+/// The first disagreement of slots, loads, tickets, guests and hands: CPUs by number, then slots.
 #[derive(Clone, Copy, PartialEq)]
 pub enum SlotFault {
-    /// What the CPU has loaded isn't what its slot says.
+    /// The slot of the CPU's loaded vCPU doesn't name the CPU for it.
     Load(u64),
     /// The CPU's hand is a range without a frame.
     Hand(u64),
@@ -25,7 +25,7 @@ pub enum SlotFault {
     Tickets(u64),
 }
 
-/// Where slots, loads, tickets, guests and hands don't agree.
+/// Disagreements of slots, loads, tickets, guests and hands.
 pub fn first_slot_fault(state: &GhostLists) -> Option<SlotFault>
     requires { IsKept state.now }
     ensures { MatchOption result (SlotsFit (contents_in state.now)) (IsSlotFault (contents_in state.now)) }

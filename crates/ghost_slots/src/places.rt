@@ -113,7 +113,7 @@ fn is_dying(phase: GhostPhase) -> bool
     }
 }
 
-/// Whether a guest's phase is as a ticket's stage says.
+/// Whether a guest's phase fits a ticket's stage.
 fn fits_phase(stage: Stage, phase: GhostPhase) -> bool
     ensures { IsTrue result ↔ PhaseOn stage (phase_in phase) }
 {
@@ -126,7 +126,7 @@ fn fits_phase(stage: Stage, phase: GhostPhase) -> bool
     }
 }
 
-/// Whether a slot is in the stage that a ticket says.
+/// Whether a slot is in the stage of a ticket.
 fn fits_stand(stage: Stage, stand: GhostStand) -> bool
     ensures { IsTrue result ↔ StandOn stage (stand_in stand) }
 {
@@ -139,7 +139,7 @@ fn fits_stand(stage: Stage, stand: GhostStand) -> bool
     }
 }
 
-/// Whether a slot is in the stage that a ticket says, and its guest too.
+/// Whether a slot and its guest are in the stage of a ticket.
 pub(crate) fn fits_stage(stage: Stage, stand: GhostStand, phase: GhostPhase) -> bool
     ensures { IsTrue result ↔ StageFits stage (stand_in stand) (phase_in phase) }
 {

@@ -24,7 +24,7 @@ fn loads(state: &GhostLists, cpu: u64, slot: u64, vcpu: u64) -> bool
     }
 }
 
-/// Whether a vCPU of a slot is loaded on a CPU as it is to be.
+/// Whether the CPU that a slot names for a vCPU has it loaded.
 fn is_vcpu_on(state: &GhostLists, slot: u64, vcpu: u64, cpu: u64) -> bool
     requires kept { IsKept state.now }
     requires slot { slot < 64 }
@@ -42,7 +42,7 @@ fn is_vcpu_on(state: &GhostLists, slot: u64, vcpu: u64, cpu: u64) -> bool
     loads(state, cpu, slot, vcpu)
 }
 
-/// So it is where one has it loaded.
+/// The same for a vCPU that may be loaded by no CPU.
 fn is_vcpu(state: &GhostLists, slot: u64, vcpu: u64, on: Option<u64>) -> bool
     requires kept { IsKept state.now }
     requires slot { slot < 64 }
@@ -169,7 +169,7 @@ fn is_named(state: &GhostLists, slot: u64) -> bool
     true
 }
 
-/// What isn't right of a slot.
+/// The first fault of a slot.
 fn slot_fault(state: &GhostLists, slot: u64) -> Option<SlotFault>
     requires kept { IsKept state.now }
     requires slot { slot < 64 }
@@ -189,7 +189,7 @@ fn slot_fault(state: &GhostLists, slot: u64) -> Option<SlotFault>
     None
 }
 
-/// What isn't right of slots.
+/// The first fault of the slots.
 pub(crate) fn first_slot(state: &GhostLists) -> Option<SlotFault>
     requires kept { IsKept state.now }
     requires cpus { (c : ℕ) → CpuFits (contents_in state.now) c }

@@ -1,4 +1,4 @@
--- What holds of legal states, and of sound ones.
+-- Laws of legal states and of sound states.
 use Rattle.page_state.specs.Layouts.{Layout}
 use Rattle.reference_model.specs.help.Conditions.{IsUsable, Legal}
 use Rattle.reference_model.specs.model.State.{Contents}

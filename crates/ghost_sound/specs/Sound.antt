@@ -1,5 +1,5 @@
--- What makes a state sound, by its maps alone, and why it isn't. Frames that are no memory count
--- too.
+-- The soundness of a state, from its maps only, and the reasons why it isn't sound. Frames that are
+-- no memory count too.
 use Rattle.std.specs.Prelude.{◌≡◌, ℕ}
 use Rattle.descriptor.specs.declared.State.TheVariants.{SharedOwned, SharedBorrowed}
 use Rattle.reference_model.specs.claims.Sound.{Holds, Maps}

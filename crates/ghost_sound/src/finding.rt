@@ -1,10 +1,10 @@
-//! What is found where a state isn't sound.
+//! The finding for a state that isn't sound.
 use page_state::Page;
 
 /// A page of a tree.
 #[derive(Clone, Copy, PartialEq)]
 pub struct Place {
-    /// Whose tree, by the number of an owner: 0 the host's, 1 the hypervisor's, from 2 on those of the guests by slot.
+    /// The owner number of the tree: 0 the host's, 1 the hypervisor's, 2 + v that of the guest in slot v.
     pub tree: u64,
     pub page: Page,
 }

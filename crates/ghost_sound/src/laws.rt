@@ -1,4 +1,4 @@
-//! What holds of legal and of sound states.
+//! Laws of legal states and of sound states.
 ghost use Rattle.ghost_sound.specs.Laws.{LegalIsSound, SoundElse};
 
 /// A legal state, as each state of a run is, has no finding.

@@ -10,11 +10,11 @@ use page_state::{Run, State, Target};
 /// Which leaves count.
 #[derive(Clone, Copy, PartialEq)]
 pub(crate) enum Side {
-    /// Those in states Owned and SharedOwned.
+    /// The leaves in states Owned and SharedOwned.
     Owns,
-    /// Those in state SharedBorrowed.
+    /// The leaves in state SharedBorrowed.
     Borrows,
-    /// Those in state SharedOwned.
+    /// The leaves in state SharedOwned.
     Shares,
 }
 
@@ -41,7 +41,7 @@ fn counts(side: Side, state: State) -> bool
     }
 }
 
-/// The first frame of a run, where its leaves count.
+/// The first frame of a run, if its leaves count.
 pub(crate) fn first_frame(side: Side, run: Run) -> Option<u64>
     requires { IsSmall run }
     ensures value { result ≡ first_frame_of side run }

@@ -11,7 +11,7 @@ use crate::leaves::{Side, TREES, first_frame, runs_of};
 use ghost_spec::lists::GhostLists;
 use page_state::{Page, Run};
 
-/// A borrowed frame, and where.
+/// A borrowed frame, and the tree and page that borrow it.
 #[derive(Clone, Copy, PartialEq)]
 pub(crate) struct Stray {
     pub frame: u64,

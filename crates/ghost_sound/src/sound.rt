@@ -10,8 +10,8 @@ use crate::pairs::{Pair, twice};
 use crate::share::{Stray, first_stray};
 use ghost_spec::lists::GhostLists;
 
-/// Why a state isn't sound, by its maps alone: two owners of a frame are told before two borrowers, and these before a borrower
-/// of what nobody shares. It takes no memory, and time by the square of the number of runs.
+/// Why a state isn't sound, from its maps only: two owners of a frame are reported before two borrowers, and these
+/// before a borrower of a frame that nobody shares. It takes no memory, and time by the square of the number of runs.
 pub fn unsound(state: &GhostLists) -> Option<Unsound>
     requires host { IsKeptTree state.now.shared.host }
     requires hyp { IsKeptTree state.now.shared.hyp }

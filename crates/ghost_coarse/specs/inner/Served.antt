@@ -14,11 +14,11 @@ use Rattle.ghost_trees.specs.Trees.{table_of}
 abbrev pub tree_with : List Run → List Table → Tree
 tree_with rs ts = record { map = map_of rs; table = table_of ts }
 
--- at the block of each table below the root no word would do
+-- no word can encode the map at the block of any table below the root
 abbrev pub AreNeeded : ℕ → Map → List Table → Type 0
 AreNeeded depth m ts = All (λ t. t.block.0 ≤ depth → is_one_word m t.block ≡ false) ts
 
--- the map goes on along a run as it says
+-- the map has the entries of a run along it
 abbrev pub Goes : Map → Run → Type 0
 Goes m r = (p : ℕ) → r.pages.first.0 ≤ p → p < run_end r → m p ≡ entry_on r p
 
@@ -31,31 +31,31 @@ abbrev pub indexes_in : ℕ → List Table → List ℕ
 indexes_in depth [] = []
 indexes_in depth (t ∷ ts) = index_in depth t.block ++ indexes_in depth ts
 
--- a block of the depth is among those that have a table, or one word can say what the map says of
--- it
+-- a block of the depth is served: it is among those that have a table, or one word can encode the
+-- map there
 abbrev pub IsServed : Map → List ℕ → ℕ → ℕ → Type 0
 IsServed m indexes depth index = Contains indexes index ⊎ (is_one_word m (depth, index) ≡ true)
 
--- so is each block of the depth, one of so many
+-- each of the first `count` blocks of the depth is served
 abbrev pub AreAllServed : Map → List ℕ → ℕ → ℕ → Type 0
 AreAllServed m indexes depth count = (i : ℕ) → i < count → IsServed m indexes depth i
 
--- so is each from one on and before another
+-- each block from one on and before another is served
 abbrev pub AreServedFrom : Map → List ℕ → ℕ → ℕ → ℕ → Type 0
 AreServedFrom m indexes depth from to = (i : ℕ) → from ≤ i → i < to → IsServed m indexes depth i
 
--- so is each behind one and before another
+-- each block after one and before another is served
 abbrev pub AreServedBetween : Map → List ℕ → ℕ → ℕ → ℕ → Type 0
 AreServedBetween m indexes depth low high =
     (i : ℕ) → low < i → i < high → IsServed m indexes depth i
 
--- a run covers the blocks of the depth behind one and before another
+-- a run covers the blocks of the depth after one and before another
 pub record CoversBetween (m : Map) (r : Run) (depth low high : ℕ) : Type 0 where
   pub goes : Goes m r
   pub first : r.pages.first.0 ≤ (low + 1) * block_pages depth
   pub end : high * block_pages depth < run_end r
 
--- so is the block of each page of the run, where it is one of so many
+-- the block of each page of the run is served, if it is one of the first `count`
 abbrev pub AreServedOn : Map → List ℕ → ℕ → ℕ → Run → Type 0
 AreServedOn m indexes depth count r =
     (p : ℕ)
@@ -64,28 +64,28 @@ AreServedOn m indexes depth count r =
     → p / block_pages depth < count
     → IsServed m indexes depth (p / block_pages depth)
 
--- one of so many blocks of the depth isn't
+-- one of the first `count` blocks of the depth isn't served
 pub record IsUnserved (m : Map) (indexes : List ℕ) (depth count index : ℕ) : Type 0 where
   pub before : index < count
   pub neither : IsServed m indexes depth index → ⊥
 
--- the tree has a table at the block where no word would do
+-- the tree has a table at the block if no word can encode the map there
 abbrev pub HasWanted : Tree → Block → Type 0
 HasWanted t b = is_one_word t.map b ≡ false → is_some (t.table b) ≡ true
 
--- so it is at each block of the depth, one of so many
+-- the same at each of the first `count` blocks of the depth
 abbrev pub HasWantedAt : Tree → ℕ → ℕ → Type 0
 HasWantedAt t depth count = (i : ℕ) → i < count → HasWanted t (depth, i)
 
--- so it is at each block below the root
+-- the same at each block below the root
 abbrev pub HasAllWanted : ℕ → Tree → Type 0
 HasAllWanted depth t = (b : Block) → IsInTree depth b → b.0 ≤ depth → HasWanted t b
 
--- it has none, and no word would do
+-- the tree has no table at the block, and no word can encode the map there
 pub record IsWanting (t : Tree) (b : Block) : Type 0 where
   pub none : is_some (t.table b) ≡ false
   pub no_word : is_one_word t.map b ≡ false
 
--- so it is at a block of the depth, one of so many
+-- the same at one of the first `count` blocks of the depth
 abbrev pub IsWantingAt : Tree → ℕ → ℕ → ℕ → Type 0
 IsWantingAt t depth count i = (i < count) × IsWanting t (depth, i)

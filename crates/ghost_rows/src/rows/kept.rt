@@ -1,5 +1,5 @@
-//! Kept rows, compared with what the lists say: a run as a whole where it is annotated, or lent, or neither, from its first frame
-//! to its last, and else piece by piece.
+//! Kept rows, compared with the lists' facts: a run as a whole if it is annotated, or lent, or neither, from its first
+//! frame to its last; else piece by piece.
 ghost use Rattle.std.specs.Prelude.{◌≡◌, ◌↔◌, ◌≤◌, true, false, All, IsTrue, drop};
 ghost use Rattle.page_state.specs.Rows.{advance_row, HasPageBelow};
 ghost use Rattle.run_list.specs.Runs.{run_end, InReach, IsCoarsest, AreInReach, StartsFrom};
@@ -14,7 +14,7 @@ use run_list::{Advance, Run};
 pub(crate) struct Near {
     /// The place in each list.
     stands: Stands,
-    /// A frame: from the one that the lists have come to up to this, none is shared and none used.
+    /// A frame: from the current frame of the lists up to this, none is shared and none in use.
     quiet: u64,
 }
 
@@ -67,7 +67,7 @@ fn is_on(runs: &[Run<Row>], place: usize, pages: PageRange) -> bool
     own.first.0 == pages.first.0 && own.count == pages.count
 }
 
-/// The owner of a frame that is lent and not annotated: who shares it where the host borrows it, and else the host.
+/// The owner of a frame that is lent and not annotated: the sharer if the host borrows it, else the host.
 #[inline(always)]
 fn lender_of(lent: Option<Lent>, sharer: Owner) -> Owner
     ensures { result.0 ≡ lender lent sharer.0 }
@@ -89,7 +89,7 @@ fn is_row(row: Row, owner: Owner, lent: Option<Lent>, steady: Steady) -> bool
     row == other
 }
 
-/// Whether a run has just the frames of the annotation at a place, and the row that follows.
+/// Whether a run has exactly the frames of the annotation at a place, and the row that follows from it.
 #[inline(always)]
 fn is_annotated_on(annotated: &[Run<Row>], place: usize, steady: Steady, run: &Run<Row>) -> bool
     ensures { IsTrue result ↔ IsAnnotatedOn run.now steady place annotated.now }
@@ -100,7 +100,7 @@ fn is_annotated_on(annotated: &[Run<Row>], place: usize, steady: Steady, run: &R
     is_row(run.value, annotated[place].value.owner, None, steady)
 }
 
-/// Whether a run has just the frames of the loan at a place, and the row that follows.
+/// Whether a run has exactly the frames of the loan at a place, and the row that follows from it.
 #[inline(always)]
 fn is_lent_on(lent: &[Run<Row>], place: usize, steady: Steady, run: &Run<Row>) -> bool
     ensures { IsTrue result ↔ IsLentOn run.now steady place lent.now }
@@ -112,9 +112,9 @@ fn is_lent_on(lent: &[Run<Row>], place: usize, steady: Steady, run: &Run<Row>) -
     is_row(run.value, lender_of(to, steady.sharer), to, steady)
 }
 
-/// Whether a run has what the lists say of its frames as a whole: none of them is annotated or lent, or one run of
-/// either list has just these, and up to its end it is known who shares them and what holds them. If so, the lists go
-/// on to its end, and else it stays.
+/// Whether the row of a run as a whole follows from the lists: none of its frames is annotated or lent, or one run of
+/// either list has exactly these frames, and their sharer and use are known up to its end. If so, the lists go on to
+/// its end; else they stay.
 #[inline(always)]
 fn is_told_whole(lists: &Lists, stands: &mut Stands, steady: Steady, run: &Run<Row>) -> bool
     requires run { InReach HasPageBelow run.now }
@@ -151,8 +151,8 @@ fn is_told_whole(lists: &Lists, stands: &mut Stands, steady: Steady, run: &Run<R
     true
 }
 
-/// Whether the lists say of each frame of a run what the run has there. If they do, they go on to its end. Who shares
-/// its frames and what holds them is looked up first.
+/// Whether the lists give each frame of a run the row of the run. If they do, they go on to its end. The sharer and the
+/// use of its frames are looked up first.
 #[inline(never)]
 fn is_told_anew(lists: &Lists, near: &mut Near, run: &Run<Row>) -> bool
     requires lists { AreReached lists.now }
@@ -189,8 +189,8 @@ fn is_told(lists: &Lists, near: &mut Near, run: &Run<Row>) -> bool
     is_told_anew(lists, near, run)
 }
 
-/// Whether they say of each frame of rows what these have there. The place in each list goes on with the runs, so that no list
-/// is searched.
+/// Whether the lists give each frame its row. The place in each list goes on with the runs, so that no list is
+/// searched.
 pub(crate) fn are_told(lists: &Lists, rows: &[Run<Row>]) -> bool
     requires lists { AreReached lists.now }
     requires coarsest { IsCoarsest advance_row rows.now }

@@ -36,8 +36,8 @@ fn annotation(target: Target) -> Option<Row>
     }
 }
 
-/// The pages of a run get its owner, where it is annotated. They come after those of all rows, which end at `high` or before it.
-/// The page after them, or `high` where the run isn't annotated.
+/// The pages of an annotated run get its owner. They come after those of all rows, which end at `high` or before it.
+/// Returns the page after them, or `high` if the run isn't annotated.
 #[inline(always)]
 fn annotate(rows: &mut Vec<RowRun<Row>>, high: u64, run: Run) -> Result<u64, AllocError>
     requires run { IsSmall run }
@@ -162,8 +162,8 @@ fn lend_back(
     Ok(())
 }
 
-/// The frames that a run maps in the state are lent to the component of a number, after those of all rows, which end before
-/// `high`. The frame after them, or `high` where the run maps none; None where they begin before that.
+/// The frames that a run maps in the state are lent to the component of a number, after those of all rows, which end
+/// before `high`. Returns the frame after them, or `high` if the run maps none; None if they begin before that.
 fn lend_next(
     layout: &Layout,
     rows: &mut Vec<RowRun<Row>>,
@@ -199,8 +199,8 @@ fn lend_next(
     Ok(Some(frames.first.0 + frames.count))
 }
 
-/// The frames that runs in order map in the state, lent to the component of a number, each at its page. None where they don't
-/// rise with the pages.
+/// The frames that runs in order map in the state, lent to the component of a number, each at its page. None if they
+/// don't rise with the pages.
 fn rising_loans(
     alloc: Global,
     layout: &Layout,
@@ -230,8 +230,8 @@ fn rising_loans(
     Ok(Some(RunList::of(rows)))
 }
 
-/// The same of runs in order, each at the first page that maps it. Where the frames don't rise with the pages, that of the first
-/// run is written last.
+/// The same of runs in order, each at the first page that maps it. If the frames don't rise with the pages, the loan of
+/// the first run is written last.
 fn lend_runs(
     alloc: Global,
     layout: &Layout,

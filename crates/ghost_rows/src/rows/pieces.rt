@@ -8,7 +8,7 @@ ghost use Rattle.ghost_rows.specs.RowsTold.{lent_told, usage_told, number_told, 
 use page_state::{Lent, Owner, Row, Usage};
 use run_list::{Advance, Run, RunList};
 
-/// What is known of frames: each list has a row for those that it speaks of.
+/// The known facts about frames: each list has a row for the frames with facts of its kind.
 #[derive(Drop)]
 pub(crate) struct Lists {
     /// The owners of annotated pages.
@@ -17,7 +17,7 @@ pub(crate) struct Lists {
     pub(crate) lent: RunList<Row>,
     /// Which guests share frames.
     pub(crate) shared: RunList<Row>,
-    /// What holds frames.
+    /// The uses of frames.
     pub(crate) used: RunList<Row>,
 }
 
@@ -60,19 +60,19 @@ impl Stands {
     };
 }
 
-/// Who shares frames and what holds them, from one frame on up to another.
+/// The sharer and the use of frames, from one frame up to another.
 #[derive(Clone, Copy)]
 pub(crate) struct Steady {
     /// A later frame: up to there it is so.
     pub(crate) until: u64,
-    /// The guest that shares each of them, or the host where none does.
+    /// The guest that shares each of them, or the host if none does.
     pub(crate) sharer: Owner,
-    /// What holds each of them.
+    /// The use of each of them.
     pub(crate) usage: Usage,
 }
 
 impl Steady {
-    /// None is shared, and none used.
+    /// No frame is shared, and none is in use.
     #[inline(always)]
     pub(crate) fn quiet_to(until: u64) -> Steady
         ensures { result ≡ quiet_to until }
@@ -84,7 +84,7 @@ impl Steady {
         }
     }
 
-    /// The frame up to which none is shared and none used: 0 where the first is.
+    /// The frame up to which none is shared and none in use: 0 if the first is.
     pub(crate) fn quiet(self) -> u64
         ensures { result ≡ (if is_quiet self then self.until else 0) }
     {
@@ -117,7 +117,7 @@ fn lent_of(row: Option<Row>) -> Option<Lent>
     }
 }
 
-/// What holds a row's frame.
+/// The use of a row's frame.
 #[inline(always)]
 fn usage_of(row: Option<Row>) -> Usage
     ensures { result ≡ usage_told row }
@@ -150,7 +150,8 @@ pub(crate) fn is_of_host(lent: Option<Lent>) -> bool
     }
 }
 
-/// The owner of a frame: that of its annotation, and else, where the host borrows it, the guest that shares it.
+/// The owner of a frame: that of its annotation; without one, the guest that shares it if the host borrows it, else the
+/// host.
 #[inline(always)]
 fn owner_of(annotated: Option<Row>, lent: Option<Row>, shared: Option<Row>) -> Owner
     ensures { result.0 ≡ owner_told annotated lent shared }
@@ -273,8 +274,8 @@ fn row_at(runs: &[Run<Row>], here: &Stand, frame: u64) -> Option<Row>
 impl Lists {
     ghost use Rattle.ghost_rows.specs.RowsTold.{told, AreReached, AreStanding, AreCarried, IsSteady};
 
-    /// Twice the runs of the annotations and of the loans: about the number of pieces where frames are in few uses, one for
-    /// each run and one for what comes before it.
+    /// Twice the runs of the annotations and of the loans: about the number of pieces if frames are in few uses, one
+    /// for each run and one for the frames before it.
     pub(crate) fn count(&self) -> usize {
         let annotated = self.annotated.runs().len();
         let runs = annotated.saturating_add(self.lent.runs().len());
@@ -317,7 +318,7 @@ impl Lists {
         look(self.used.runs(), &mut stands.used, low, high)
     }
 
-    /// Who shares frames and what holds them, from one on. The lists of these go on to it.
+    /// The sharer and the use of frames, from one frame on. Their lists go on to it.
     pub(crate) fn steady(&self, stands: &mut Stands, frame: u64) -> Steady
         requires low { frame ≤ 2 ^ 63 }
         requires reach { AreReached self.now }

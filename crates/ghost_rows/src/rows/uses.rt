@@ -93,7 +93,7 @@ fn has_place(layout: &Layout, block: Block) -> bool
     block.0 >= 1 && block.0 <= root && block.1 < 1 << (9 * (root - block.0))
 }
 
-/// The frame of a table that counts: the first of its block, where trees have one.
+/// The frame of a table that counts: the first of its block, if trees have such a block.
 fn frame_at(layout: &Layout, tables: &[Table], block: Block) -> Option<u64>
     ensures { result
         ≡ (if has_place_of (layout_of layout.now).depth block then table_of tables.now block
@@ -106,7 +106,7 @@ fn frame_at(layout: &Layout, tables: &[Table], block: Block) -> Option<u64>
     }
 }
 
-/// Puts a frame, where there is one, at the end of a list.
+/// Puts a frame, if there is one, at the end of a list.
 fn push_found(frames: &mut Vec<u64>, frame: Option<u64>) -> Result<(), AllocError>
     ensures { OnOk result
         ((f : ℕ)

@@ -37,7 +37,7 @@ HasLeaf side f other = ⊥
 abbrev pub Has : Side → Contents → ℕ → ℕ → ℕ → Type 0
 Has side s tree page f = HasLeaf side f ((tree_at s tree).map page)
 
--- the first frame of a target, where its leaves count
+-- the first frame of a target, if its leaves count
 abbrev pub target_frame : Side → Target → Option ℕ
 target_frame side (Leaf frame prot kind state) = if counts side state then Some frame.0 else None
 target_frame side other = None
@@ -54,7 +54,7 @@ pub record IsOn (side : Side) (r : Run) (page f : ℕ) : Type 0 where
   pub below : page < run_end r
   pub frame : start + (page - r.pages.first.0) ≡ f
 
--- the runs of a guest, and none past the list's end
+-- the runs of a guest; no runs past the list's end
 abbrev pub guest_runs : List GhostGuest → ℕ → List Run
 guest_runs gs v = get_or (map (λ g. g.tree.runs.items) gs) v []
 

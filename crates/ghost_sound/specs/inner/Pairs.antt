@@ -7,7 +7,7 @@ use Rattle.ghost_sound.specs.declared.leaves.Side.{Side}
 use Rattle.ghost_sound.specs.declared.pairs.Pair.{Pair}
 use Rattle.ghost_sound.specs.inner.Leaves.{runs_in, Has, IsOn}
 
--- where two runs of two trees map one frame they do so at one place
+-- two runs of two trees that map one frame map it at one place
 abbrev pub AreOne : Side → ℕ → Run → ℕ → Run → Type 0
 AreOne side t r u s = (p q f : ℕ) → IsOn side r p f → IsOn side s q f → (u ≡ t) × (q ≡ p)
 
