@@ -1,5 +1,4 @@
--- What the model says of a step where pools may hold any number of frames, and states that hold
--- enough.
+-- The model's step if pools may hold any number of frames, and states that hold enough.
 use Rattle.std.specs.Prelude.{◌≡◌, ℕ, ◌+◌, ◌<◌, Bool, true, false, List, [], All, nat_lt, if◌then◌else◌}
 use Rattle.call_table.specs.declared.reply.Reply.{Reply}
 use Rattle.call_table.specs.declared.step.Step.{Step}
@@ -19,7 +18,7 @@ abbrev pub asked_guest : Bool → Guest → Guest
 asked_guest true g = g
 asked_guest false g = bare_guest g
 
--- a state without tables and free frames, but for the guests', where the pool of one is asked
+-- a state without tables and free frames, except those of guests if the step reads a guest's pool
 abbrev pub asked_by : Bool → Contents → Contents
 asked_by b s = record s { shared = bare_shared s.shared; guest = λ v. asked_guest b (s.guest v) }
 
@@ -52,7 +51,7 @@ pub record IsOpen (cpus : ℕ) (r : Rooms) : Type 0 where
   pub guest : (v : ℕ) → v < 64 → r.guest v ≡ 1
   pub cpu : (c : ℕ) → c < cpus → r.cpu c ≡ 1
 
--- what the step uses of the state that it is asked of
+-- the parts that the step uses of the state from which it is made
 abbrev pub used_asked : Contents → ℕ → Step → Used
 used_asked s cpu step = used_of (names step) (guest_slot (s.cpu cpu) step) cpu (asked_of step s)
 
@@ -63,13 +62,13 @@ most_needed l s cpu step =
     let h = (rule_of l cpu (guest_slot (s.cpu cpu) step) step x).changes in
     shared_need l.depth h x.shared + guest_need l.depth h x.guest
 
--- the reply, and all but tables and free frames of the state after it, are what the model says of
--- the state that the step is asked of
+-- the reply, and all but tables and free frames of the state after it, are the model's for the
+-- state from which the step is made
 pub record IsToldAmply (l : Layout) (s : Contents) (cpu : ℕ) (step : Step) (reply : Reply)
     (after : Contents) : Type 0 where
   pub reply_is : reply ≡ (foretell_amply l (asked_of step s) cpu step).0
   pub contents_are : OwnTables after (foretell_amply l (asked_of step s) cpu step).1
 
--- the host's entry of a page where its kind may be free
+-- the host's entry of a page, as a device's if its kind may be free
 abbrev pub kind_seen : Freedoms → Layout → ℕ → Entry → Entry
 kind_seen w l p e = if w.any_kind then kind_entry l p e else e

@@ -1,4 +1,4 @@
--- When the judge agrees, and the first difference where it doesn't.
+-- When the judge agrees, and the first difference if it doesn't.
 use Rattle.std.specs.Prelude.{◌≡◌, ◌⊎◌, ◌↔◌, ℕ, false, true, Option, Some, None, IfSome, if◌then◌else◌}
 use Rattle.call_table.specs.declared.reply.Reply.{Reply}
 use Rattle.call_table.specs.declared.reply.Reply.TheVariants.{Done}
@@ -20,19 +20,20 @@ use Rattle.ghost_judge.specs.Judgements.{IsFirstOfState}
 use Rattle.ghost_spec.specs.declared.lists.GhostLists.{GhostLists}
 use Rattle.ghost_spec.specs.States.{contents_in}
 
--- what a step is judged by: what the freedoms leave of the state before, and for one that only
--- reads the state itself without tables and free frames
+-- the state by which a step is judged: the state before, as far as the freedoms fix it; for a step
+-- that only reads, the state itself without tables and free frames
 abbrev pub stepped_from : Freedoms → Layout → Contents → Step → Contents
 stepped_from w l before step = if is_read step then without_tables before else view w l before
 
--- the state that the model steps from; where a guest's pool is asked, its tables and free frames
--- are chosen
+-- the state from which the model steps; if the step reads a guest's pool, the guest's tables and
+-- free frames are chosen
 pub record IsReady (w : Freedoms) (l : Layout) (before : Contents) (step : Step)
     (ready : Contents) : Type 0 where
   pub alike : OwnTables ready (stepped_from w l before step)
   pub is : asks_pool step ≡ false → ready ≡ stepped_from w l before step
 
--- the reply and the state after it, but for tables and free frames, are the model's of such a state
+-- the reply and the state after it, apart from tables and free frames, are the model's for such a
+-- state
 pub record IsToldFreely (w : Freedoms) (l : Layout) (before : Contents) (cpu : ℕ) (step : Step)
     (reply : Reply) (after : Contents) : Type 0 where
   pub ready : Contents
@@ -40,7 +41,7 @@ pub record IsToldFreely (w : Freedoms) (l : Layout) (before : Contents) (cpu : �
   pub reply_is : reply ≡ (foretell_amply l ready cpu step).0
   pub contents_are : OwnTables after (foretell_amply l ready cpu step).1
 
--- the reply and the state after it agree with what is told; and a lazy host has the page that it
+-- the reply and the state after it agree with the model's; and a lazy host maps the page that it
 -- touched
 pub record AgreesFreely (w : Freedoms) (l : Layout) (before : Contents) (step : Step)
     (reply : Reply) (after : Contents) (told : Reply × Contents) : Type 0 where
@@ -52,7 +53,7 @@ abbrev pub page_touched : Step → Reply → Option ℕ
 page_touched (HostAbort page) (Done value) = Some page
 page_touched step other = None
 
--- what the host hasn't mapped, and what is wanted there
+-- the page that the host hasn't mapped, and the expected entry there
 pub record IsMissing (page : ℕ) (post wanted : Contents) (d : Disagreement) : Type 0 where
   pub unmapped : is_unmapped (post.shared.host.map page) ≡ true
   pub told_is : d ≡ MapDiffers Host page Unmapped (wanted.shared.host.map page)
@@ -65,26 +66,26 @@ pub record IsUntouchedBy (w : Freedoms) (step : Step) (reply : Reply) (post want
   pub touched : page_touched step reply ≡ Some page
   pub missing : IsMissing page post wanted d
 
--- the state is the one that is wanted, and a lazy host has the page that it touched
+-- the state is the expected one, and a lazy host maps the page that it touched
 abbrev pub IsWanted : Freedoms → Step → Reply → Contents → Contents → Contents → Type 0
 IsWanted w step reply after wanted post =
     (after ≡ wanted) × (w.lazy_host ≡ true → Touches step reply post)
 
--- the first difference from the state that is wanted, or else that page
+-- the first difference from the expected state, or else that page
 abbrev pub IsFirstUnwanted : Freedoms → Step → Reply → Contents → Contents → Contents → Disagreement
     → Type 0
 IsFirstUnwanted w step reply after wanted post d =
     IsFirstOfState after wanted d ⊎ ((after ≡ wanted) × IsUntouchedBy w step reply post wanted d)
 
--- agreement by what is seen of the states before and after and of the one that is wanted, and by
--- the state after itself
+-- agreement in the view of the states before and after and of the expected one, and in the state
+-- after itself
 pub record AgreesBy (w : Freedoms) (step : Step) (reply told : Reply)
     (before after wanted post : Contents) : Type 0 where
   pub agrees : (SaysAs w told reply × (after ≡ wanted))
       ⊎ (WantsAnyMemory step reply told × (after ≡ before))
   pub mapped : w.lazy_host ≡ true → Touches step reply post
 
--- the reply is neither the model's, nor one that stands for it, nor that of a step that wants
+-- the reply is neither the model's, nor one that counts as it, nor that of a step that ran out of
 -- memory
 pub record IsOtherReply (w : Freedoms) (step : Step) (reply told said spec : Reply) : Type 0 where
   pub said_is : said ≡ reply
@@ -92,9 +93,9 @@ pub record IsOtherReply (w : Freedoms) (step : Step) (reply told said spec : Rep
   pub differ : SaysAs w told reply → ⊥
   pub is_no_want : WantsAnyMemory step reply told → ⊥
 
--- memory was wanted, and the state changed: the first difference from the one before. Or the reply
--- stands for the model's, and the state isn't the one that is wanted; or it is, and a lazy host
--- hasn't the page that it touched
+-- memory ran out, and the state changed: the first difference from the one before. Or the reply
+-- counts as the model's, and the state isn't the expected one; or it is, and a lazy host doesn't
+-- map the page that it touched
 abbrev pub IsFirstSeen : Freedoms → Step → Reply → Reply → Contents → Contents → Contents → Contents
     → Disagreement → Type 0
 IsFirstSeen w step reply told before after wanted post d =
@@ -123,8 +124,8 @@ IsFirstIn w step reply told before after wanted post =
     IsFirstBy w step reply told (contents_in before) (contents_in after) (contents_in wanted)
     (contents_in post)
 
--- judged up to the freedoms: nothing is found just where reply and state agree with what the model
--- says, else the first difference of what the freedoms leave
+-- judged up to the freedoms: nothing is found if and only if reply and state agree with the
+-- model's; else the first difference in the view that the freedoms leave
 pub record IsJudgedFreely (w : Freedoms) (l : Layout) (before : Contents) (cpu : ℕ) (step : Step)
     (reply : Reply) (after : Contents) (found : Option Disagreement) : Type 0 where
   pub ready : Contents

@@ -1,4 +1,4 @@
--- What a judgement up to the freedoms says of legal states and of steps of the model.
+-- Laws of a judgement up to the freedoms, on legal states and on steps of the model.
 use Rattle.std.specs.Prelude.{◌≡◌, ◌≢◌, ◌↔◌, ℕ, false, true, Option, None}
 use Rattle.call_table.specs.declared.reply.Call.{Call}
 use Rattle.call_table.specs.declared.reply.Refusal.TheVariants.{LogFull}
@@ -17,8 +17,8 @@ use Rattle.freedoms.specs.OwnTables.{OwnTables}
 use Rattle.ghost_judge.specs.declared.disagreement.Disagreement.{Disagreement}
 use Rattle.free_judge.specs.Freely.{IsJudgedFreely}
 
--- where some legal state is like the one before, nothing is found just where the call is judged to
--- agree. A read is of the state itself
+-- if some legal state is like the one before, nothing is found if and only if the call is judged to
+-- agree. A read is from the state itself
 abbrev pub FoundWhere : Type 0
 FoundWhere =
     (w : Freedoms) (l : Layout) (before legal : Contents) (cpu : ℕ) (step : Step) (reply : Reply)
@@ -32,7 +32,7 @@ FoundWhere =
     → (found ≡ None) ↔ JudgedWith w l before cpu step reply after
 
 -- no false alarm: nothing is found of a step of the model from a legal state, whatever tables and
--- free frames are told of the states before and after it
+-- free frames are reported for the states before and after it
 abbrev pub NoFalseAlarm : Type 0
 NoFalseAlarm =
     (w : Freedoms) (l : Layout) (s t : Reference) (c : Call) (before after : Contents)

@@ -1,4 +1,4 @@
-//! The reference step where the pools hold as many frames as it takes.
+//! The reference step with as many frames in the pools as it needs.
 ghost use Rattle.std.specs.Prelude.{◌≡◌, ℕ, ◌<◌, None, IfOk, IfSome, OnOk, length};
 ghost use Rattle.page_state.specs.LayoutView.{layout_of};
 ghost use Rattle.freedoms.specs.Ample.{asks_pool as asks_pool_of};
@@ -50,7 +50,7 @@ fn filled(alloc: Global, state: &Ghost, step: Step, frames: &[u64]) -> Result<Gh
     }
 }
 
-/// That state, where each log has room for a call.
+/// That state, with room for a call in each log.
 fn ready(alloc: Global, state: &Ghost, step: Step, frames: &[u64]) -> Result<Ghost, AllocError>
     requires { AreOutside frames.now }
     ensures contents { IfOk result
@@ -63,7 +63,7 @@ fn ready(alloc: Global, state: &Ghost, step: Step, frames: &[u64]) -> Result<Gho
     Ok(open)
 }
 
-/// The reference step with these free frames in each pool that it doesn't ask; none where they are too few.
+/// The reference step with these free frames in each pool that it doesn't read; None if they are too few.
 fn attempted(
     alloc: Global,
     state: &Ghost,
@@ -94,9 +94,9 @@ fn attempted(
     Ok(Some((reply, after)))
 }
 
-/// The reference step where the pools may hold any number of frames, and logs aren't asked: the reply, but for want of memory,
-/// and the state after it, but for tables and free frames. A step that asks a guest's pool is of the pool that the state has. Err
-/// where memory is refused.
+/// The reference step if the pools may hold any number of frames and logs are ignored: the reply, unless memory runs
+/// out, and the state after it, apart from tables and free frames. A step that reads a guest's pool reads the pool of
+/// the state. Err if the allocator refuses memory.
 pub fn predict_amply(
     alloc: Global,
     state: &Ghost,

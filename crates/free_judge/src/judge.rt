@@ -1,4 +1,4 @@
-//! Judges a call up to what a hypervisor may choose.
+//! Judges a call up to the choices of a hypervisor.
 ghost use Rattle.std.specs.Prelude.{◌≡◌, ◌<◌, ◌↔◌, None, IfOk, IfSome, false, true};
 ghost use Rattle.page_state.specs.EntryTests.{is_unmapped};
 ghost use Rattle.page_state.specs.LayoutView.{layout_of};
@@ -69,7 +69,7 @@ fn untouched(
     }
 }
 
-/// The first difference from the state that is wanted, where the reply stands for the one that is told.
+/// The first difference from the expected state, if the reply counts as the model's.
 fn in_state(
     freedoms: Freedoms,
     step: Step,
@@ -92,7 +92,7 @@ fn in_state(
     untouched(freedoms, step, reply, post, wanted)
 }
 
-/// The first difference from what is told, or from the state before where memory is wanted.
+/// The first difference from the model's reply and state, or from the state before if memory ran out.
 fn judge_seen(
     freedoms: Freedoms,
     step: Step,
@@ -118,8 +118,8 @@ fn judge_seen(
     in_state(freedoms, step, reply, after, wanted, post)
 }
 
-/// The state that the model steps from: for a step that only reads the state itself, and for one that asks a guest's pool what the
-/// freedoms leave, with the pool that the rows say.
+/// The state from which the model steps: the state itself for a step that only reads, and for one that reads a guest's
+/// pool the view that the freedoms leave, with the pool from the rows.
 fn ready(
     alloc: Global,
     freedoms: Freedoms,
@@ -147,8 +147,9 @@ fn ready(
     Ok(seen)
 }
 
-/// The reply that the model gives to a step of a CPU on what the freedoms leave of a state, and the state after it, but for tables and
-/// free frames. Of a call that was made and names a frame of a guest's pool, that frame is given where the rows say it is the pool's.
+/// The model's reply to a step of a CPU in the view that the freedoms leave of a state, and the state after it, apart
+/// from tables and free frames. If a call was made and names a frame of a guest's pool, the model gives that frame if
+/// its row has the pool as its use.
 pub fn told_freely(
     alloc: Global,
     freedoms: Freedoms,
@@ -168,10 +169,10 @@ pub fn told_freely(
     Ok(told)
 }
 
-/// Judges a call of a CPU by the state before it, its reply and the state after it, up to the freedoms and the hypervisor's own
-/// tables and free frames: none where some states that differ from these in that alone are a step of the model with such a reply.
-/// Else the first difference of what the freedoms leave. The layout is that of the state before. Logs aren't asked. Err where memory
-/// is refused to the judge.
+/// Judges a call of a CPU by the state before it, its reply and the state after it, up to the freedoms and the
+/// hypervisor's own tables and free frames: None if some states that differ from these only in that are a step of the
+/// model with such a reply. Else the first difference in the view that the freedoms leave. The layout is that of the
+/// state before. Logs are ignored. Err if the allocator refuses memory to the judge.
 pub fn judge_freely(
     alloc: Global,
     freedoms: Freedoms,

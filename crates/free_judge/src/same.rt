@@ -7,7 +7,7 @@ ghost use Rattle.freedoms.specs.Freedoms.{is_read as is_read_of, is_test, SaysAs
 use call_table::{Refusal, Reply, Step};
 use freedoms::Freedoms;
 
-/// Whether a step can be refused for want of memory.
+/// Whether a step can be refused for lack of memory.
 fn may_grow(step: Step) -> bool
     ensures { result ≡ may_grow_of step }
 {
@@ -50,7 +50,7 @@ pub(crate) fn is_read(step: Step) -> bool
     }
 }
 
-/// Whether a reply is want of memory, by either name.
+/// Whether a reply is NoMemory or NoPool.
 fn is_want(reply: Reply) -> bool
     ensures { IsTrue result ↔ IsWant reply }
 {
@@ -61,7 +61,7 @@ fn is_want(reply: Reply) -> bool
     }
 }
 
-/// Whether a step that the model makes, and that can take memory, was refused for want of it.
+/// Whether a step that the model makes, and that may allocate, was refused for lack of memory.
 pub(crate) fn wants(step: Step, reply: Reply, told: Reply) -> bool
     ensures { IsTrue result ↔ WantsAnyMemory step reply told }
 {
@@ -78,7 +78,7 @@ fn is_rule(why: Refusal) -> bool
     }
 }
 
-/// Whether what is said may stand for what the model says.
+/// Whether a reply counts as the model's under the freedoms.
 pub(crate) fn says(freedoms: Freedoms, told: Reply, said: Reply) -> bool
     ensures { IsTrue result ↔ SaysAs freedoms told said }
 {

@@ -15,7 +15,7 @@ use host_views::touched::touched;
 use page_state::{Layout, Run};
 use std::alloc::{AllocError, Global};
 
-/// The host's map with each leaf of a device's page as one of a device, where its kind is free.
+/// The host's map with each leaf of a device's page as one of a device, if its kind is free.
 fn kinds(
     alloc: Global,
     freedoms: Freedoms,

@@ -15,15 +15,15 @@ use Rattle.page_state.specs.Map.{Map}
 use Rattle.page_state.specs.Regions.{find_region, is_in_range, is_memory_kind}
 use Rattle.reference_model.specs.model.SharedRules.{abort_leaf}
 
--- what the first map says, and where that maps nothing what the second says
+-- the entries of the first map, and of the second where the first maps nothing
 abbrev pub over : Map → Map → Map
 over m n p = elim (is_unmapped (m p)) [ true ↦ n p | false ↦ m p ]
 
--- what a map says of the pages of a range
+-- the entries of a map on the pages of a range
 abbrev pub within_range : PageRange → Map → Map
 within_range pages m p = elim (is_in_range pages p) [ true ↦ m p | false ↦ Unmapped ]
 
--- what the host has of a page of these regions once it has touched it
+-- the host's entry of a page of these regions after it has touched it
 abbrev pub own_in : List Region → Map
 own_in regions p = elim (find_region regions p) [ Some r ↦ abort_leaf r p | None ↦ Unmapped ]
 
@@ -32,7 +32,7 @@ abbrev pub as_device : Entry → Entry
 as_device (Leaf frame prot kind state) = Leaf frame prot device_kind state
 as_device other = other
 
--- a run with its leaves as those of a device
+-- a run with its leaves as a device's
 abbrev pub device_target : Target → Target
 device_target (leaf_target frame prot kind state) = leaf_target frame prot device_kind state
 device_target other = other

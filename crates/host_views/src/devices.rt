@@ -13,7 +13,7 @@ use std::alloc::{AllocError, Global};
 /// All pages of runs are below this one.
 const MOST: u64 = 0x8000_0000_0000_0000;
 
-/// The coarsest list of runs for what a map says of the pages of a range.
+/// The coarsest list of runs for the entries of a map on the pages of a range.
 fn within(alloc: Global, runs: &[Run], pages: PageRange) -> Result<Vec<Run>, AllocError>
     requires runs { AreSmall runs.now }
     requires coarsest { IsCoarsest runs.now }
@@ -36,7 +36,7 @@ fn within(alloc: Global, runs: &[Run], pages: PageRange) -> Result<Vec<Run>, All
     Ok(part)
 }
 
-/// A run with its leaves as those of a device.
+/// A run with its leaves as a device's.
 fn device_run(run: Run) -> Run
     ensures { result ≡ device_run_of run }
 {
@@ -60,7 +60,7 @@ fn device_run(run: Run) -> Run
     }
 }
 
-/// Runs with their leaves as those of a device.
+/// Runs with their leaves as a device's.
 fn all_devices(alloc: Global, runs: &[Run]) -> Result<Vec<Run>, AllocError>
     ensures { IfOk result (λ v. v.items ≡ map device_run_of runs.now) }
 {
@@ -77,7 +77,7 @@ fn device_runs(alloc: Global, runs: &[Run]) -> Result<Vec<Run>, AllocError>
     Ok(out)
 }
 
-/// What a map says of a region's pages, of the region's kind.
+/// The entries of a map on a region's pages, with the region's kind.
 fn of_region(alloc: Global, runs: &[Run], region: Region) -> Result<Vec<Run>, AllocError>
     requires runs { AreSmall runs.now }
     requires coarsest { IsCoarsest runs.now }

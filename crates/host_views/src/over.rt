@@ -8,7 +8,7 @@ use ghost_trees::runs::updated;
 use page_state::{Entry, Run};
 use std::alloc::{AllocError, Global};
 
-/// The coarsest list of runs for what the second list maps, and else for what the first one does.
+/// The coarsest list of runs with the entries of the second list, and of the first where the second maps nothing.
 pub(crate) fn overlaid(alloc: Global, under: Vec<Run>, runs: &[Run]) -> Result<Vec<Run>, AllocError>
     requires under { AreSmall under.items }
     requires coarsest { IsCoarsest under.items }

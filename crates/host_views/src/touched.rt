@@ -10,7 +10,7 @@ use ghost_trees::runs::updated;
 use page_state::{Entry, Frame, Kind, MemoryMap, Prot, Region, RegionKind, Run, State};
 use std::alloc::{AllocError, Global};
 
-/// What the host has of the first page of a region once it has touched it.
+/// The host's entry of the first page of a region after it has touched it.
 fn first_entry(region: Region) -> Entry
     ensures { result ≡ abort_leaf region region.pages.first.0 }
 {

@@ -1,6 +1,6 @@
--- What an audit compares, and the first difference in its order: the maps, the owner rows, and then
--- the tables of the host, of the hypervisor and of the guests by slot. Where all agrees, the state
--- is legal, or why it isn't.
+-- The comparison of an audit, and the first difference in its order: the maps, the owner rows, and
+-- then the tables of the host, of the hypervisor and of the guests by slot. If all agrees, the
+-- state is legal, or the finding is why it isn't.
 use Rattle.std.specs.Prelude.{◌≡◌, ℕ, ◌<◌, true, List, Option, get_or, map}
 use Rattle.page_state.specs.Layouts.{Layout}
 use Rattle.page_state.specs.Trees.{Block}
@@ -68,14 +68,15 @@ IsGuestTable kept walked (TableDiffers (Guest v) height index x y) =
     IsGuestTableOf kept walked v (height, index) x y
 IsGuestTable kept walked other = ⊥
 
--- why a state isn't legal: its maps aren't sound; and where they are, what is told of it
+-- why a state isn't legal: its maps aren't sound, or, if they are, the reason reported for the
+-- state
 abbrev pub IsUnlawful : Layout → Contents → Finding → Type 0
 IsUnlawful l s (Unsound why) = (Legal l s → ⊥) × IsUnsound s why
 IsUnlawful l s (Illegal why) = (Legal l s → ⊥) × IsSound s × IsToldOf true l s why
 IsUnlawful l s other = ⊥
 
--- the first difference: all that comes before it agrees; and why the state isn't legal, where there
--- is no difference
+-- the first difference: all that comes before it agrees; and if there is no difference, why the
+-- state isn't legal
 abbrev pub IsFirstFinding : Layout → Contents → Contents → Finding → Type 0
 IsFirstFinding l kept walked (Differs d) = IsFirstDifference kept walked d
 IsFirstFinding l kept walked (TableDiffers tree height index x y) =

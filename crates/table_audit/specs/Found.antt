@@ -14,8 +14,8 @@ use Rattle.ghost_spec.specs.declared.parts.GhostGuest.{GhostGuest}
 use Rattle.ghost_spec.specs.States.{contents_in, guest_in}
 use Rattle.table_audit.specs.declared.walked.Trees.{Trees}
 
--- the trees of a list by their numbers: 0 the host's, 1 the hypervisor's, 2 + v that of the guest
--- in slot v
+-- the trees of a list by owner number: 0 the host's, 1 the hypervisor's, 2 + v that of the guest in
+-- slot v
 abbrev pub trees_in : List TreeOfLists → ℕ → Tree
 trees_in trees n = get_or (map tree_in_lists trees) n no_tree
 

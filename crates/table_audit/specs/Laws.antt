@@ -1,4 +1,4 @@
--- What agrees has no finding, and all else one.
+-- States that agree have no finding, and all others have one.
 use Rattle.std.specs.Prelude.{◌≡◌}
 use Rattle.page_state.specs.Layouts.{Layout}
 use Rattle.reference_model.specs.model.State.{Contents}
@@ -7,7 +7,7 @@ use Rattle.table_audit.specs.declared.finding.Finding.{Finding}
 use Rattle.table_audit.specs.declared.finding.Finding.TheVariants.{Differs, Table as TableDiffers, Unsound, Illegal}
 use Rattle.table_audit.specs.Audited.{IsFirstFinding, IsWell}
 
--- where all agrees and is legal nothing is found
+-- if all agrees and is legal, nothing is found
 abbrev pub WellElse : Type 0
 WellElse =
     (l : Layout) (kept walked : Contents) (f : Finding)

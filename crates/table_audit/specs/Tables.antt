@@ -11,7 +11,7 @@ use Rattle.table_audit.specs.declared.finding.Finding.TheVariants.{Differs, Tabl
 abbrev pub IsTableApart : List Table → List Table → Block → Type 0
 IsTableApart a b block = table_of a block ≢ table_of b block
 
--- a table of a tree differs, as the finding says
+-- a table of a tree differs, as the finding reports
 pub record IsTableTold (kept walked : Block → Option ℕ) (block : Block)
     (x y : Option ℕ) : Type 0 where
   pub apart : kept block ≢ walked block

@@ -24,9 +24,9 @@ use ghost_spec::state::Ghost;
 use ghost_trees::tree::Tree;
 use std::alloc::{AllocError, Global};
 
-/// Compares a kept state with trees that were found, those of the host, of the hypervisor and of the guests, by slot: the maps
-/// in this order, the owner rows, which follow from the trees, and then the tables. None where all agree and the state is legal,
-/// and else the first difference, or where there is none why the maps aren't sound, or the state isn't legal.
+/// Compares a kept state with trees that were found, those of the host, of the hypervisor and of the guests, by slot:
+/// the maps in this order, the owner rows, which follow from the trees, and then the tables. None if all agree and the
+/// state is legal; else the first difference; if there is none, why the maps aren't sound or the state isn't legal.
 pub fn audited(alloc: Global, kept: &Ghost, trees: &[Tree]) -> Result<Option<Finding>, AllocError>
     requires count { length trees.now ≡ 66 }
     requires trees { All IsKeptTree trees.now }
@@ -86,7 +86,7 @@ fn unlawful(alloc: Global, state: &GhostLists) -> Result<Option<Finding>, AllocE
     }
 }
 
-/// Why a state isn't legal, by its maps where these aren't sound.
+/// Why a state isn't legal: from its maps if these aren't sound.
 fn by_maps_first(state: &GhostLists, why: Illegal) -> Finding
     requires maps { AreMapsKept state.now }
     requires kept { IsKept state.now }

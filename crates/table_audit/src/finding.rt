@@ -1,4 +1,4 @@
-//! What an audit finds, and how it is written.
+//! The findings of an audit, and their text.
 ghost use Rattle.std.specs.Prelude.{Some};
 ghost use Rattle.table_audit.specs.Texts.{text_of_finding, text_of_frame_or_none};
 
@@ -7,7 +7,7 @@ use ghost_legal::Illegal;
 use ghost_sound::Unsound;
 use std::fmt;
 
-/// Where what is kept and the trees that were found disagree, or why both aren't sound or legal.
+/// A disagreement of the kept state and the trees that were found, or the reason why both aren't sound or legal.
 #[derive(Clone, Copy, PartialEq)]
 pub enum Finding {
     /// On a page of a map, or on the owner row of a frame.
@@ -26,7 +26,7 @@ pub enum Finding {
     Illegal(Illegal),
 }
 
-/// A frame, where there is one.
+/// A frame, if there is one.
 #[derive(Clone, Copy)]
 struct FrameOrNone(Option<u64>);
 

@@ -1,4 +1,4 @@
-//! Tables that are kept, and those that were found.
+//! Kept tables and tables that were found.
 ghost use Rattle.std.specs.Prelude.{◌≡◌, All, MatchOption};
 ghost use Rattle.ghost_trees.specs.Trees.{table_of};
 ghost use Rattle.ghost_judge.specs.inner.Same.{HasSameFrame};
@@ -22,7 +22,7 @@ fn apart_among(tables: &[Table], a: &[Table], b: &[Table]) -> Option<Block>
     None
 }
 
-/// The first block at which two lists have tables of different frames, or one has a table alone.
+/// The first block at which two lists have tables of different frames, or only one has a table.
 fn first_block_apart(kept: &[Table], walked: &[Table]) -> Option<Block>
     ensures { MatchOption result (table_of kept.now ≡ table_of walked.now)
         (IsTableApart kept.now walked.now) }

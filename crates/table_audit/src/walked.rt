@@ -29,7 +29,7 @@ fn guest_of(alloc: Global, guest: &GhostGuest, tree: &Tree) -> Result<GhostGuest
     })
 }
 
-/// The guests with other trees: those behind the first two.
+/// The guests with other trees: those after the first two.
 fn guests_of(
     alloc: Global,
     guests: &[GhostGuest],
