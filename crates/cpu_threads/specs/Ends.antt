@@ -1,4 +1,4 @@
--- Which passes are given where a machine is shut down, and what the world keeps of each.
+-- The passes that a shutdown is given, and what the world keeps of each.
 use Rattle.std.specs.Prelude.{◌≡◌, ◌≢◌, ℕ, ◌<◌, List, length, Option, Some, None, slice_get}
 use Rattle.page_state.specs.declared.layout.Layout.{Layout as TheLayout}
 use Rattle.part_types.specs.declared.parts.CpuState.{CpuState}

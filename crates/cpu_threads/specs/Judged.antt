@@ -22,8 +22,8 @@ use Rattle.ghost_judge.specs.Judgements.{JudgeAgrees, told_of}
 use Rattle.ghost_oracle.specs.Low.{IsLowCpu, IsLowGuest}
 use Rattle.ghost_oracle.specs.Recorded.{Given, put_given, recorded}
 
--- What a judge is asked: of a call of the CPU, with the records before and after it, or with none
--- where memory was refused to a record
+-- What a judge is asked: about a call of the CPU, with the records before and after it, or without
+-- them if memory was refused to either
 pub record Asked : Type 0 where
   pub cpu : ℕ
   pub step : Step
@@ -37,7 +37,7 @@ shown cpu step reply pre post =
 abbrev pub untold : ℕ → Step → Reply → Asked
 untold cpu step reply = record { cpu = cpu; step = step; reply = reply; states = None }
 
--- both records, where memory was refused to neither
+-- both records, if memory was refused to neither
 abbrev pub both_in : {E : Type 0}
     → Result GhostLists E
     → Result GhostLists E
@@ -102,7 +102,7 @@ module _ {A : Type 0} where
     pub states : IfSome asked.states
         (λ s. IsRecordOf (layout_of l) before own s.0 × IsRecordOf (layout_of l) after owned s.1)
 
--- So it was for a stored call, and `judge` agrees on what was shown
+-- the same for a stored call, and `judge` agrees on the states that it was shown
 pub record IsJudged (A : Type 0) {J : Type 0} (takes : J → Asked → J → Type 0) (step : Step)
     (reply : Reply) (v w : Known) (from to : J) : Type 0 where
   pub made : IsMade (AsksOnce {A = A} takes) step reply v w from to

@@ -49,8 +49,8 @@ pub record OneHistory {A : Type 0} (t : Opened) (found : List (Slot A)) (cpus : 
   pub each : OfGiven given (IsHistoryOf t.layout end.left.log)
   pub idle : (c : ℕ) → IsAtHome passes c → calls_by c end.left.log ≡ (own_in t.begun c).log.calls
 
--- so it is where the parts and the CPUs are what a shutdown gives: the end of a legal history,
--- which is each given pass's, and in which the other CPUs made no call more
+-- the parts and the CPUs that a shutdown gives are the end of one legal history, which agrees with
+-- each given pass, and in which the other CPUs made no further call
 abbrev pub EndsInOne : Type 0 → Type 0
 EndsInOne A =
     (t : Opened) (found : List (Slot A)) (cpus : List CpuState) (passes : List (Option Pass))
@@ -59,7 +59,7 @@ EndsInOne A =
     → AreFreshAt t passes cpus
     → OneHistory t found cpus passes given
 
--- where a try of a given pass found a part's log full, it is full at the end
+-- if a try of a given pass found a part's log full, it is full at the end
 abbrev pub FullLogsStay : Type 0 → Type 0
 FullLogsStay A =
     (m : Opened) (found : List (Slot A)) (cpus : List CpuState) (passes : List (Option Pass))
@@ -76,7 +76,7 @@ SeenGrows = (step : Step) (reply : Reply) (v w : Known) (s : MakesCall step repl
     → StartsWith (seen_at w.seen k) (seen_at v.seen k)
     × (uses s.call k ≡ true → (before : List Call) × (seen_at w.seen k ≡ before ++ s.call ∷ []))
 
--- a stored call tried just the parts that its step uses, in their order and each once, and took
+-- a stored call tried exactly the parts that its step uses, in their order and each once, and took
 -- each with room in its log
 abbrev pub TakesEach : Type 0
 TakesEach = (step : Step) (reply : Reply) (v w : Known) (s : MakesCall step reply v w)
@@ -106,7 +106,7 @@ StopsAtFullLog =
     (step : Step) (v w : Known) (f : FindsLogFull step v w)
     → ((v.own.log.room ≡ 0) × (f.tries ≡ [])) ⊎ StopAt FoundFull (used_by step v) f.tries
 
--- a judge that keeps all that it is asked is asked of a stored call once, by its CPU, its step and
+-- a judge that keeps all questions is asked about a stored call once, with its CPU, its step and
 -- its reply
 abbrev pub keeps : List Asked → Asked → List Asked → Type 0
 keeps from asked to = to ≡ from ++ asked ∷ []
@@ -121,8 +121,8 @@ AskedOnce A =
     × (asked.step ≡ step)
     × (asked.reply ≡ reply)
 
--- what a judge is shown of a call that didn't want memory is the model's step: the reply and the
--- state after it are those that the model says on the state before it
+-- if a call didn't lack memory, its judge is shown the model's step: the reply and the state after
+-- it are those that the model gives from the state before it
 abbrev pub ShowsModel : (A : Type 0) {J : Type 0} → (J → Asked → J → Type 0) → Type 0
 ShowsModel A {J = J} takes =
     (step : Step) (reply : Reply) (v w : Known) (from to : J)
@@ -154,7 +154,7 @@ module _ (kind : VmKind) (vcpus pfn n : ℕ) where
       ∷ []) v w
 
 -- making a VM adds the calls of all four stages to the CPU's list, or those up to the refused one,
--- where that is stored
+-- if that is stored
 abbrev pub InitAdds : Type 0
 InitAdds = (kind : VmKind) (vcpus pfn n : ℕ) (v w : Known)
     → ((vm : VmId)
@@ -165,7 +165,7 @@ InitAdds = (kind : VmKind) (vcpus pfn n : ℕ) (v w : Known)
     → InitsVm kind vcpus pfn n (Err (stage, why)) v w
     → AddsTo kind vcpus pfn n stage (Refused why) v w)
 
--- where a pass is missing, not all are given
+-- if a pass is missing, not all are given
 abbrev pub MissingOne : Type 0
 MissingOne =
     (passes : List (Option Pass)) (given : List Pass)

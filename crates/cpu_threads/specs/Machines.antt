@@ -62,8 +62,8 @@ pub record BeginsAtBoot (t : Opened) : Type 0 where
   pub logs : (k : ℕ) → k < parts → slice_index_or t.begun.logs k [] ≡ []
   pub owns : (c : ℕ) → c < t.layout.config.cpus → own_in t.begun c ≡ own_at_boot t.layout c
 
--- a machine that has booted, where no test failed: it is of the memory and the configuration, and
--- no pass was handed out
+-- a booted machine: it has the memory and the configuration, all tests of a boot passed, and no
+-- pass was handed out
 pub record IsBootedMachine (m : Memory) (c : Config) (it : Machine) : Type 0 where
   pub geometry : Geometry
   pub memory : IsAccepted m

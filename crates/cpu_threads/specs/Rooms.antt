@@ -65,7 +65,7 @@ pub record HaveRoom (passes : List (Option Pass)) (given : List Pass) (n : ℕ)
   pub guests : AllFit (λ v. picks (guest_log v)) passes given 64 h.guests.items
   pub cpus : AllFit (λ c. picks (cpu_log c)) passes given n h.cpus.items
 
--- one where it is so
+-- 1 if the condition holds, otherwise 0
 abbrev pub one_if : Bool → ℕ
 one_if b = cond b 1 0
 

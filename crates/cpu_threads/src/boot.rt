@@ -44,8 +44,8 @@ fn machine_of<A: Allocator + Copy>(
 }
 
 impl<A: Allocator + Copy> Machine<A> {
-    /// A machine of a world as it stands, with a pass for each CPU. Its history goes on from the world's: the calls that the
-    /// world has stored come first. Where memory is refused the world is dropped.
+    /// A machine that begins in a world's state, with a pass for each CPU. Its history continues the world's: the calls
+    /// that the world has stored come first. If memory is refused it drops the world.
     pub fn open(global: Global, alloc: A, world: World<A>) -> Result<Machine<A>, AllocError>
         requires history { HasHistory world.parts }
         ensures { IfOk result (IsMachineOf world.parts) }

@@ -18,8 +18,8 @@ pub fn full_logs<A: Allocator>()
     ensures { FullLogsStay A }
 {}
 
-/// What the tries of a call tell (`Machine::try_call`): a stored call took each part that its step uses once, in their
-/// order, and what its pass has seen of each part only grows. A try that finds a part with another pass, or a log full,
+/// The tries of a call (`Machine::try_call`): a stored call took each part that its step uses once, in their order, and
+/// the calls that its pass has seen of each part only grow. A try that finds a part with another pass, or a log full,
 /// stops there.
 pub fn tries()
     ensures grows { SeenGrows }
@@ -28,8 +28,8 @@ pub fn tries()
     ensures full { StopsAtFullLog }
 {}
 
-/// What a judge is asked (`Machine::try_call_judged`: `judged`): of a stored call once, and what it is shown is the model's
-/// step, unless the call wanted memory.
+/// The questions to a judge (`Machine::try_call_judged`: `judged`): one for a stored call, and it is shown the model's
+/// step, unless the call lacked memory.
 pub fn judged<A: Allocator, J: Judge>()
     ensures once { AskedOnce A }
     ensures shows { ShowsModel A J.takes }

@@ -16,7 +16,7 @@ use std::alloc::{Allocator, Global};
 use std::marker::Model;
 use std::sync::Wait;
 
-/// A booted machine. It may be shared by threads, each with the pass of a CPU. `A` is where the tables of all trees lie.
+/// A booted machine. Threads may share it, each with the pass of a CPU. `A` allocates the tables of all trees.
 #[derive(Drop)]
 pub struct Machine<A: Allocator> {
     pub(crate) table: PartTable<A>,

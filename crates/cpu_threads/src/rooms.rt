@@ -1,4 +1,4 @@
-//! Room for the logs of a machine, counted from its passes' lists while it still stands.
+//! Room for the logs of a machine, counted from its passes' lists before the machine is taken apart.
 ghost use Rattle.std.specs.Prelude.{◌≡◌, ◌≤◌, ◌+◌, ℕ, [], true, IfOk, filter, get_or, length, slice_get};
 ghost use Rattle.std.specs.Vec.{vec_capacity, vec_len};
 ghost use Rattle.hypercalls.specs.Stands.{at_place, kept_of, parts_layout};
@@ -35,7 +35,7 @@ impl Tally {
     }
 }
 
-/// Counts one more where it is so. False where the count would pass a `usize`.
+/// Adds 1 to a count if the condition holds. False if the count would exceed a `usize`.
 fn count_if(count: &mut usize, is_so: bool) -> bool
     ensures { result ≡ true → count.new ≡ count.old + one_if is_so }
 {
@@ -51,7 +51,7 @@ fn count_if(count: &mut usize, is_so: bool) -> bool
     }
 }
 
-/// Counts one more at a place, if there is such a place. False where the count would pass a `usize`.
+/// Adds 1 to the count at a place, if there is such a place. False if the count would exceed a `usize`.
 fn count_at(counts: &mut Vec<usize>, place: Option<u64>) -> bool
     ensures { result ≡ true → HasOneMore place counts.old.items counts.new.items }
 {

@@ -115,8 +115,8 @@ impl<A: Allocator> Machine<A> {
         Ok((world, histories))
     }
 
-    /// Ends a machine without its world, where a pass of each CPU is given: there is one legal history of all calls, as
-    /// at a shutdown. It takes no memory.
+    /// Ends a machine without its world. It requires a pass of each CPU: there is one legal history of all calls, as at
+    /// a shutdown. It takes no memory.
     pub fn drop_with(self, given: Vec<CpuPass<A>>)
         requires pass { AreOf self.table given.items }
         requires all { AllGiven self.table.layout given.items }

@@ -48,7 +48,7 @@ abbrev pub taken_beside : {A : Type 0} → Option (RawGuest A) → Option GuestB
 taken_beside None = None
 taken_beside (Some r) = Some (raw_beside r)
 
--- of a slot: what its guest has, and its log
+-- one slot: the state of its guest other than trees, and its log
 pub record SlotBeside : Type 0 where
   pub guest : Option GuestBeside
   pub log : StoredCalls

@@ -42,6 +42,6 @@ pub record SaysMaplets {A : Type 0} (p : Parts A) (g : GhostLists) : Type 0 wher
 abbrev pub SaysRows : {A : Type 0} → Parts A → GhostLists → Type 0
 SaysRows p g = run_map advance_row g.shared.rows.runs ≡ run_map advance_row p.shared.owners
 
--- just the memory frames have a row
+-- a frame has a row if and only if it is a memory frame
 abbrev pub HasRowsOf : Layout → GhostLists → Type 0
 HasRowsOf l g = (f : ℕ) → is_some (run_map advance_row g.shared.rows.runs f) ≡ is_memory l f

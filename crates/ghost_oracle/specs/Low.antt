@@ -7,7 +7,7 @@ pub record IsLowGuest (g : Guest) : Type 0 where
   pub tables : HasLowTables g.tree.table
   pub free : AreLowFrames g.free
 
--- a CPU's hand is small, and what it has loaded and its ticket are of slots
+-- a CPU's hand is a small range, and its loaded vCPU and its ticket name slots
 pub record IsLowCpu (k : Cpu) : Type 0 where
   pub hand : IsSmallRange k.hand
   pub loaded : HasLowLoad k.loaded

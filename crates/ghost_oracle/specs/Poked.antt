@@ -82,7 +82,7 @@ module _ {A : Type 0} where
         log = s.log;
       }
 
-  -- what they have beside
+  -- all that the parts hold other than trees
   abbrev pub raw_beside_of : RawParts A → Beside
   raw_beside_of p =
       record {

@@ -24,7 +24,7 @@ use Rattle.ghost_oracle.specs.declared.trees.Source.{Source}
 use Rattle.ghost_oracle.specs.declared.trees.Source.TheVariants.{Maplets, Words}
 use Rattle.ghost_oracle.specs.Seen.{raw_seen, slot_seen}
 
--- the free frames of a slot's guest: the one that was poked, where there is one
+-- the free frames of a slot's guest: of the poked guest, if there is one
 abbrev pub slot_free : {A : Type 0} → GuestPart A → Option (RawGuest A) → Pool
 slot_free g None = (guest_of g.guest).free
 slot_free g (Some r) = r.pool.frames
@@ -47,7 +47,7 @@ abbrev pub slot_kind : {A : Type 0} → GuestPart A → Option (RawGuest A) → 
 slot_kind g None = (guest_of g.guest).kind
 slot_kind g (Some r) = r.kind
 
--- a guest on lists is that of a slot, its runs from where they are asked for
+-- a guest on lists is the slot's guest, with its runs from the given source
 pub record IsSlotFound {A : Type 0} (source : Source) (part : GuestPart A)
     (held : Option (RawGuest A)) (g : GhostGuest) : Type 0 where
   pub kept : IsKeptTree g.tree
@@ -77,7 +77,8 @@ pub record AreRoomsFound {A : Type 0} (p : RawParts A) (r : GhostRooms) : Type 0
   pub guests : r.guests.items ≡ map (λ g. g.log.room) p.guests.items
   pub cpus : r.cpus.items ≡ map (λ k. k.log.room) p.cpus.items
 
--- a state on lists is that of the parts, its runs from where they are asked for, but for its rows
+-- a state on lists is the state of the parts, except for its rows; its runs are from the given
+-- source
 pub record IsRawFound {A : Type 0} (source : Source) (p : RawParts A)
     (g : GhostLists) : Type 0 where
   pub layout : layout_of g.layout ≡ layout_of p.layout

@@ -1,4 +1,5 @@
--- The state that a record of given parts describes: it has what they hold, and all else is empty.
+-- The state that a record of given parts describes: it has all that they hold, and the rest is
+-- empty.
 use Rattle.std.specs.Borrow.{Bor}
 use Rattle.std.specs.Option.{option_copied}
 use Rattle.std.specs.Prelude.{◌≡◌, ℕ, List, get_or, map, Option, Some, None, is_some, option_map}
@@ -32,7 +33,7 @@ abbrev pub given : {A : Type 0}
     → Given A
 given v s g k = record { vms = v; shared = s; guest = g; own = k }
 
--- the same of parts behind references
+-- the same for references to parts
 abbrev pub given_by : {A : Type 0}
     → Option (Bor VmPart)
     → Option (Bor (SharedPart A))
@@ -41,7 +42,7 @@ abbrev pub given_by : {A : Type 0}
     → Given A
 given_by v s g k = given (option_copied v) (option_copied s) (option_map (λ p. (p.0, p.1.now)) g) k
 
--- slots in a list are those of the VM part, where one is given, and else Empty
+-- a list's slots are those of the VM part, if one is given, and otherwise Empty
 abbrev pub AreSlotsGiven : Option (Bor VmPart) → List GhostSlot → Type 0
 AreSlotsGiven v slots =
     (slot : ℕ)
@@ -99,14 +100,14 @@ module _ {A : Type 0} (x : Given A) where
         cpu = x.own.log.room;
       }
 
-  -- just the parts that a call uses are given: those that it names, and the Guest part of its slot
+  -- only the parts that a call uses are given: those that it names, and the Guest part of its slot
   pub record IsGivenFor (n : Names) (slot : Option ℕ) : Type 0 where
     pub vms : is_some x.vms ≡ uses_vms n
     pub shared : is_some x.shared ≡ uses_shared n slot
     pub guest : option_map (λ g. g.0) x.guest ≡ slot
 
--- where just the parts that a call uses are given, the record is what the call uses, put into a
--- state in which nothing is mapped, held or loaded, and each log is empty
+-- if only the parts that a call uses are given, the record is the state that the call uses, put
+-- into a state in which nothing is mapped, held or loaded, and each log is empty
 abbrev pub RecordsUsed : Type 0 → Type 0
 RecordsUsed A =
     (l : Layout) (n : Names) (slot : Option ℕ) (x : Given A)

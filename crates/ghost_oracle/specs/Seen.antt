@@ -29,7 +29,7 @@ abbrev pub body_seen : {A : Type 0} → Option (Body A) → SeenTree
 body_seen None = nothing_seen
 body_seen (Some b) = tree_seen b.map.tree
 
--- of a slot: the guest that was poked, where there is one
+-- the tree of a slot: of the poked guest, if there is one
 abbrev pub slot_seen : {A : Type 0} → GuestPart A → Option (RawGuest A) → SeenTree
 slot_seen g None = body_seen g.guest.body
 slot_seen g (Some r) = raw_seen r.map.tree

@@ -42,8 +42,8 @@ fn one_for_each<A: Allocator>(
     })
 }
 
-/// What is kept, and what a walk found. Where the walk found just the runs that are kept, and by these the rows that are kept, one
-/// state is both, with a copy of these rows.
+/// The kept state and the walked state. If the walk found the same runs as the kept ones, and so the same rows, both
+/// are one state, with a copy of these rows.
 pub(crate) fn compared<A: Allocator>(
     alloc: Global,
     parts: &Parts<A>,

@@ -150,8 +150,8 @@ fn go_on_by<'a, A: Allocator>(
     None
 }
 
-/// Extends a run over the words of a table, eight at a time from slot `8 * from` on, while they are the words that continue
-/// it. Gives the number and the slots of the first eight that don't, or None where all do. Each slot is looked at once.
+/// Extends a run over the words of a table, eight at a time from slot `8 * from` on, while they continue it. Gives the
+/// number and the slots of the first eight that don't, or None if all do. It reads each slot once.
 #[inline(never)]
 pub(crate) fn go_on<'a, A: Allocator>(
     table: &'a Table<A>,

@@ -18,7 +18,7 @@ fn is_continued(run: Run, next: Run) -> bool
         && run.target.advance(run.pages.count) == next.target
 }
 
-/// Puts a run at the end of a list, or gives its pages to the last run where it continues that one.
+/// Appends a run to a list, or extends the last run if the new one continues it.
 fn put_last(runs: &mut Vec<Run>, run: Run) -> Result<(), AllocError>
     requires runs { AreSmall runs.old.items }
     requires run { IsSmall run }

@@ -1,5 +1,5 @@
-//! The reference state of all parts on lists: what is kept, and what walking every word finds. What walks for a caller adds to a
-//! count each word that it reads, and so shows that it looks.
+//! The reference state of all parts on lists: the kept one, and the one that a walk of every word finds. A walk for a
+//! caller counts each word that it reads, which shows that it does read them.
 ghost use Rattle.std.specs.Prelude.{◌≡◌, [], All, IfOk, OnOk, map};
 ghost use Rattle.page_state.specs.LayoutView.{layout_of};
 ghost use Rattle.page_state.specs.Rows.{HasPageBelow};
@@ -217,10 +217,10 @@ pub fn kept<A: Allocator>(alloc: Global, parts: &Parts<A>) -> Result<Ghost, Allo
     Ok(Ghost::of_kept(kept))
 }
 
-/// What walking every descriptor from scratch finds: the map of each tree by its words alone, and
-/// the owner row of each memory frame by these maps, the tables, the pools and the hands. Pools, slots, CPUs and rooms, which
-/// are in no table, are as they are. Of parts that no calls lead to, `Ghost::of` tests whether these lists make a state. It adds
-/// to `reads` each word that it reads.
+/// The state that a walk of every descriptor finds from scratch: the map of each tree by its words alone, and the owner
+/// row of each memory frame by these maps, the tables, the pools and the hands. Pools, slots, CPUs and rooms, which are
+/// in no table, are as they are. If no calls lead to the parts, `Ghost::of` tests whether these lists make a state. It
+/// adds the number of words that it reads to `reads`.
 pub fn recompute<A: Allocator>(
     alloc: Global,
     parts: &Parts<A>,
@@ -237,9 +237,9 @@ pub fn recompute<A: Allocator>(
     with_scratch(alloc, parts, found)
 }
 
-/// What is kept, as `kept` gives it, and what walking every descriptor finds, as `recompute` does, by one walk: each word is read
-/// once. Where the walk finds just the runs that are kept, and the rows from scratch are the kept ones, as in every state that
-/// calls lead to, one state is both. It adds to `reads` each word that it reads.
+/// The kept state, as `kept` gives it, and the one that a walk of every descriptor finds, as `recompute` gives it, by
+/// one walk that reads each word once. If the walk finds the kept runs and rows, as in every state that calls lead to,
+/// both are one state. It adds the number of words that it reads to `reads`.
 pub fn kept_and_walked<A: Allocator>(
     alloc: Global,
     parts: &Parts<A>,

@@ -4,8 +4,8 @@ ghost use Rattle.ghost_oracle.specs.Recorded.{RecordsUsed};
 
 use std::alloc::Allocator;
 
-/// A record of just the parts that a call uses is what the call uses, put into a state in which nothing is mapped, held or
-/// loaded, and each log is empty.
+/// A record of only the parts that a call uses is the state that the call uses, put into a state in which nothing is
+/// mapped, held or loaded, and each log is empty.
 pub fn record_is_put_back<A: Allocator>()
     ensures { RecordsUsed A }
 {}

@@ -1,5 +1,5 @@
-//! The run-time oracle: what walking every descriptor from scratch finds, and what is kept, as lists of one type. How two
-//! such lists compare is `ghost_judge`'s, whose `audit` and `judge` are passed on.
+//! The run-time oracle: it lists the kept state, and the state that a walk of every descriptor finds from scratch, in
+//! one type. `ghost_judge` compares two such lists; this crate re-exports its `audit` and `judge`.
 #![tactic(auto)]
 
 mod both;

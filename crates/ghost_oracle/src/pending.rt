@@ -38,7 +38,8 @@ pub(crate) fn nothing_pending(first: u64) -> Pending
     }
 }
 
-/// The difference between neighbouring words that advance an entry. None where a frame could pass the last one in this table.
+/// The difference between neighbouring words that advance an entry. None if a frame could pass the last one in this
+/// table.
 fn step_of(depth: u32, pages: u64, entry: Entry) -> Option<u64>
     requires depth_in { IsDepth depth }
     requires pages { pages ≡ block_pages depth }

@@ -127,7 +127,7 @@ fn slot_word<A: Allocator>(
     }
 }
 
-/// Takes what a slot holds; None where it is Empty.
+/// Takes the guest out of a slot; None if the slot is Empty.
 fn take_guest<A: Allocator>(
     part: &mut GuestPart<A>,
     held: &mut Option<RawGuest<A>>,
@@ -166,7 +166,7 @@ fn set_slot<A: Allocator>(
     }
 }
 
-/// The same of a slot by its number.
+/// Sets the word at a path of a guest's tree, by the guest's slot. The path must have a word.
 fn set_place<A: Allocator>(
     guests: &mut Vec<GuestPart<A>>,
     poked: &mut Vec<Option<RawGuest<A>>>,
@@ -212,7 +212,7 @@ impl<A: Allocator> RawComponent<A> {
 }
 
 impl<A: Allocator> RawParts<A> {
-    /// The word at a path of a tree; None where there is none.
+    /// The word at a path of a tree; None if the path has no word.
     pub fn word_at(&self, which: Which, path: &[u16]) -> Option<u64>
         ensures { result ≡ (raw_trees self.now which).words path.now }
     {
@@ -233,8 +233,8 @@ impl<A: Allocator> RawParts<A> {
         slot_word(part, held, path)
     }
 
-    /// Sets the word at a path of a tree, and leaves all else. PathFault is answered where there is no such word; then all is as
-    /// it was.
+    /// Sets the word at a path of a tree, and changes nothing else. It answers PathFault if the path has no word, and
+    /// then changes nothing.
     pub fn poke(
         self,
         which: Which,
@@ -254,7 +254,7 @@ impl<A: Allocator> RawParts<A> {
         Ok(parts)
     }
 
-    /// The same in place, where there is a word.
+    /// Sets the word at a path in place. The path must have a word.
     pub fn set(&mut self, which: Which, path: &[u16], word: u64)
         requires there { IsSome ((raw_trees self.old which).words path.now) }
         ensures poked { IsRawPoked self.old self.new which path.now word }
@@ -294,7 +294,7 @@ impl<A: Allocator> RawParts<A> {
     }
 }
 
-/// The word at a path of a tree; None where there is none.
+/// The word at a path of a tree of parts; None if the path has no word.
 fn parts_word<A: Allocator>(parts: &Parts<A>, which: Which, path: &[u16]) -> Option<u64>
     ensures { result ≡ (parts_trees parts.now which).words path.now }
 {
@@ -313,8 +313,8 @@ fn guest_word<A: Allocator>(parts: &Parts<A>, slot: u64, path: &[u16]) -> Option
     slot_word(part, &None, path)
 }
 
-/// Sets the word at a path of a tree of parts, and leaves all else. PathFault is answered where there is no such word; then all is
-/// as it was.
+/// Sets the word at a path of a tree of parts, and changes nothing else. It answers PathFault if the path has no word,
+/// and then changes nothing.
 pub fn poke<A: Allocator>(
     parts: Parts<A>,
     poked: Vec<Option<RawGuest<A>>>,

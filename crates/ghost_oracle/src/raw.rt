@@ -14,7 +14,7 @@ use part_types::{CpuState, GuestPart, Log, VmPart};
 use std::alloc::Allocator;
 use table_tree::RawTree;
 
-/// Which tree of a world: a guest's by its slot.
+/// A tree of a world: the host's, the hypervisor's, or a guest's by its slot.
 #[derive(Clone, Copy, PartialEq)]
 pub enum Which {
     Host,

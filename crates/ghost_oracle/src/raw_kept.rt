@@ -206,8 +206,8 @@ pub fn kept_raw<A: Allocator>(alloc: Global, parts: &RawParts<A>) -> Result<Ghos
     raw_from(alloc, parts, Source::Maplets, rows)
 }
 
-/// What walking every word of them from scratch finds: the map of each tree by its words alone, malformed
-/// ones among them, and the owner row of each memory frame by these maps, the tables, the pools and the hands.
+/// The state that a walk of every word finds from scratch: the map of each tree by its words alone, which may be
+/// malformed, and the owner row of each memory frame by these maps, the tables, the pools and the hands.
 pub fn recompute_raw<A: Allocator>(
     alloc: Global,
     parts: &RawParts<A>,

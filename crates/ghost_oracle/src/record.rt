@@ -211,10 +211,10 @@ fn slots_and_cpus_given(
     })
 }
 
-/// What the given parts and a CPU hold, and nothing else: the map of each of their trees by its words alone, each of which is
-/// read, and the tables, pools, rows, phases, slots and rooms as they are. Every other part, slot and CPU is empty, and
-/// so is its log. Of parts that no calls lead to, `Ghost::of` tests whether these lists make a state. It adds to `reads` each word
-/// that it reads.
+/// All that the given parts and a CPU hold, and nothing else: the map of each of their trees by a walk of all its
+/// words, and the tables, pools, rows, phases, slots and rooms as they are. Every other part, slot and CPU is empty,
+/// and so is its log. If no calls lead to the parts, `Ghost::of` tests whether these lists make a state. It adds the
+/// number of words that it reads to `reads`.
 pub fn record<A: Allocator>(
     alloc: Global,
     layout: &Layout,

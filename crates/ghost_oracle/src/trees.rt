@@ -64,7 +64,7 @@ pub(crate) fn frames_of(alloc: Global, pool: &Pool) -> Result<Vec<u64>, AllocErr
     Ok(frames)
 }
 
-/// A component's tree. The walk takes room for as many runs as the maplets have: mostly it finds just as many.
+/// A component's tree. The walk takes room for as many runs as the maplets have: in most cases it finds that many.
 pub(crate) fn tree_from<A: Allocator>(
     alloc: Global,
     component: &Component<A>,

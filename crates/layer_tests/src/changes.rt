@@ -190,8 +190,8 @@ const SPLIT: Words = &[
 /// Nothing.
 const NOTHING: Words = &[(&[1], 0)];
 
-/// The changes of a tree, one after another: a block as one word, a page of it and back, which makes it one word again, the block
-/// once more, and nothing.
+/// The changes of a tree, one after another: a block as one word, a page of it and back, which makes it one word again,
+/// the block again, and nothing.
 const ROWS: &[Row] = &[
     (0x40200, 512, Some(State::Owned), 1, BLOCK, (2, 7)),
     (0x40300, 1, Some(State::SharedOwned), 1, SPLIT, (3, 6)),
@@ -242,7 +242,7 @@ fn with_frames<A: Allocator + Copy>(
     bench.expect_left(rt, left);
 }
 
-/// A change of an empty tree: refused where the pool has fewer frames than it needs, made where it has as many.
+/// A change of an empty tree: refused if the pool has fewer frames than it needs, made if it has as many.
 fn with_and_without<A: Allocator + Copy>(
     rt: &impl Abort,
     global: Global,

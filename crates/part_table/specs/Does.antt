@@ -81,8 +81,8 @@ module _ {A : Type 0} where
       → ⊥
 
   -- The call is the reference step on the parts that it uses and on its CPU's own state, in each
-  -- state that has these: nothing else of the state changes. It is stored in the log of each part
-  -- that it uses, and in its CPU's. Memory runs out only where it may
+  -- state that has these: nothing else of the state changes. The log of each part that it uses
+  -- stores it, and so does its CPU's log. Memory runs out only where it may
   pub record Does (l : Layout) (c : Call) (before : ℕ → Option (Slot A)) (own : CpuState)
       (after : ℕ → Option (Slot A)) (owned : CpuState) : Type 0 where
     pub stored : IsStored c.reply

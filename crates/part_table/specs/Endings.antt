@@ -25,7 +25,7 @@ pub record IsEndOf {A : Type 0} (l : TheLayout) (found : List (Slot A))
   pub count : length cpus ≡ l.config.cpus
   pub left : AreLeft (layout_of l) (λ c. slice_get cpus c) (λ k. slice_get found k)
 
--- so it is where each part lies in its slot
+-- the same for parts that each lie in a slot
 pub record IsEndIn {A : Type 0} (l : TheLayout) (slots : List (Option (Slot A)))
     (cpus : List CpuState) : Type 0 where
   pub found : List (Slot A)
@@ -56,10 +56,10 @@ KeepsTried l found p = AreFronts l.config.log (calls_at found) p.knows.tries
 abbrev pub ForEach : List (Option Pass) → (Pass → Type 0) → Type 0
 ForEach passes F = (c : ℕ) (p : Pass) → slice_get passes c ≡ Some (Some p) → F p
 
--- The parts and the CPUs' own states are the end of one legal history, which goes on from what the
--- table began with, and it is each pass's: its CPU has the state in which it ends, with all its
--- calls, and each part's log begins with what it has seen of the part and with each log of it that
--- it took
+-- The parts and the CPUs' own states are the end of one legal history, which continues the one that
+-- the table began with, and agrees with each pass: its CPU ends in the pass's state, with all its
+-- calls, and each part's log begins with the calls that the pass has seen of the part, and with
+-- each log of it that the pass took
 pub record IsEndFor {A : Type 0} (t : Opened) (found : List (Slot A)) (cpus : List CpuState)
     (Each : (Pass → Type 0) → Type 0) : Type 0 where
   pub end : IsEndOf t.layout found cpus
@@ -85,8 +85,8 @@ HasJoined p before after own = (after ≡ before ++ ended_of p ∷ []) × (own �
 abbrev pub owns_of : List Ended → List CpuState
 owns_of ended = map (λ e. e.0) ended
 
--- the first n passes have ended: the root has the state in which each ends, what it has seen and
--- what it tried, and the list has the states
+-- the first n passes have ended: the root has each one's final state, the calls that it has seen
+-- and its tries, and the list has the states
 abbrev pub HaveEnded : ℕ → List (Option Pass) → List Ended → List CpuState → Type 0
 HaveEnded n passes ended cpus = (length ended ≡ n) × (length cpus ≡ n)
     × ((c : ℕ) (p : Pass)

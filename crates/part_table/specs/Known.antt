@@ -23,8 +23,8 @@ abbrev pub seen_at : List (ℕ × List Call) → ℕ → List Call
 seen_at seen k = at seen [] k
 
 -- What a pass knows while it holds no part: the layout, its CPU's number and own state with its
--- log, what it has seen of each part's log, and each part that it tried, with its log as it was
--- taken, or none where another pass had it
+-- log, the calls that it has seen of each part's log, and each part that it tried, with the log
+-- that it took, or none if another pass had it
 pub record Known : Type 0 where
   pub layout : TheLayout
   pub cpu : ℕ
@@ -56,14 +56,15 @@ own_at_boot l cpu =
       log = record { calls = []; room = l.config.log };
     }
 
--- there is a legal history that ends with the call. The pass's own state, with its list, is left by
--- it, and what it has seen of the parts that the call used are the history's parts of them
+-- there is a legal history that ends with the call. It leads to the pass's own state, with its
+-- list, and the calls that the pass has seen of each part that the call used are the history's
+-- calls of that part
 pub record Extends (c : Call) (w : Known) : Type 0 where
   pub left : IsLeft {A = Unit {0}} (layout_of w.layout) w.cpu w.own none_at
   pub ends : (before : List Call) × (left.log ≡ before ++ c ∷ [])
   pub seen : (k : ℕ) → uses c k ≡ true → seen_at w.seen k ≡ calls_on (part_of k) left.log
 
--- what a call that isn't stored leaves of what a pass knows: all but what was tried
+-- a call that isn't stored leaves unchanged all that a pass knows, except its tries
 pub record IsSame (v w : Known) : Type 0 where
   pub layout : w.layout ≡ v.layout
   pub cpu : w.cpu ≡ v.cpu

@@ -9,7 +9,7 @@ use Rattle.part_table.specs.Beginnings.{begun_in, own_in}
 use Rattle.part_table.specs.Rule.{Hands, Seated, held_at}
 use Rattle.part_table.specs.Known.{Known}
 
--- the table that it is of, what it knows, and the numbers of the parts that it holds
+-- a pass: its table, all that it knows, and the numbers of the parts that it holds
 pub record Pass : Type 0 where
   pub table : TableId
   pub knows : Known
@@ -23,7 +23,7 @@ numbers_below (suc n) = n ∷ numbers_below n
 unfoldable pub numbers_held : {A : Type 0} → Hands A → List ℕ
 numbers_held h = filter (λ k. is_some (held_at h k)) (numbers_below parts)
 
--- a table of parts: which it is, its layout, and what it begins with
+-- a table of parts: its identity, its layout, and the state that it begins with
 pub record Opened : Type 0 where
   pub table : TableId
   pub layout : TheLayout
@@ -32,7 +32,7 @@ pub record Opened : Type 0 where
 abbrev pub opened_as : TableId → TheLayout → Begun → Opened
 opened_as table l b = record { table = table; layout = l; begun = b }
 
--- the table of what it was told
+-- the table that an opening describes
 abbrev pub opened_in : {A : Type 0} → TableId → Opening A → Opened
 opened_in table k = opened_as table k.layout (begun_in k)
 

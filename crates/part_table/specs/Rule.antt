@@ -35,7 +35,8 @@ Hands A = List (ℕ × Option (Slot A))
 abbrev pub held_at : {A : Type 0} → Hands A → ℕ → Option (Slot A)
 held_at h k = at h None k
 
--- the state in which a CPU's pass ends, what it has seen of each part's log, and what it tried
+-- the state in which a CPU's pass ends, the calls that it has seen of each part's log, and its
+-- tries
 abbrev pub Ended : Type 0
 Ended = CpuState × List (ℕ × List Call) × List (ℕ × Option StoredCalls)
 
@@ -66,9 +67,9 @@ module _ {A : Type 0} (key : TheLayout) (ws : List ℕ) (holder : ℕ → ℕ) (
         → held_at v.held k ≡ Some x
         → (v.on ≡ true) × (k < parts) × (slice_index ws k ≢ 0) × (holder k ≡ j) × StandsAfter k x
 
--- what the root knows: how many CPUs have a seat, of the first ones, which have ended, their
--- states, what they have seen and tried, that the others are as they began, and that the history
--- goes on from what the table began with
+-- what the root knows: how many CPUs have a seat, counted from the first, which of them have ended,
+-- the states, seen calls and tries of these, that the others are as they began, and that the
+-- history continues the one that the table began with
 pub record Rooted {A : Type 0} (key : TheLayout) (views : List (View A)) (log : List Call)
     (state : Reference) (v : View A) : Type 0 where
   pub off : v.on ≡ false
@@ -158,7 +159,7 @@ abbrev pub newcomer : {A : Type 0} → View A → View A
 newcomer v =
     record nobody { on = true; layout = v.layout; cpu = v.made; own = own_in v.begun v.made }
 
--- the root has taken in the view of a CPU that ends, with what it has seen and tried
+-- the root has taken in the view of a CPU that ends, with its seen calls and its tries
 abbrev pub with_end : {A : Type 0} → View A → View A → View A
 with_end v w = record v { ended = v.ended ++ (w.own, w.seen, w.tries) ∷ [] }
 
@@ -209,8 +210,8 @@ releasing v k = record v { held = (k, None) ∷ v.held }
 abbrev pub Standing : {A : Type 0} → View A → Type 0
 Standing v = IsLeft (layout_of v.layout) v.cpu v.own (held_at v.held)
 
--- word found 0: the part is in hand, and its log begins with what was seen. Else it is recorded
--- that it was taken
+-- if the word found is 0, the pass holds the part, and the part's log begins with the calls seen of
+-- it. Otherwise the pass notes that the part was taken
 abbrev pub took : {A : Type 0} → Step (Option (Slot A)) → Seated A → ℕ → Seated A → Type 0
 took {A = A} st m r n =
     (r ≡ 0

@@ -4,8 +4,7 @@ use Rattle.call_table.specs.declared.reply.Call.{Call}
 use Rattle.part_types.specs.Logs.{StoredCalls}
 use Rattle.part_table.specs.Known.{Known, StartsWith, seen_at}
 
--- a try of a part: its number, and the log with which it was taken, or none where another pass had
--- it
+-- a try of a part: its number, and the log with which it was taken, or none if another pass had it
 abbrev pub Try : Type 0
 Try = ℕ × Option StoredCalls
 

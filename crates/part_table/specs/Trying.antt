@@ -1,5 +1,5 @@
--- What a try of a call requires, and what it leaves: how a pass is between its calls, what its
--- exchanges and its step ask, and what each try comes to.
+-- The requirements and results of a try of a call: the state of a pass between its calls, the
+-- requirements of its exchanges and of its step, and the outcome of each try.
 use Rattle.std.specs.Prelude.{◌≡◌, ◌≢◌, ℕ, ◌<◌, List, [], ◌∷◌, ◌++◌, Option, Some, None, true}
 use Rattle.atomic_table.specs.Seated.{TableId}
 use Rattle.page_state.specs.declared.layout.Layout.{Layout as TheLayout}
@@ -46,9 +46,9 @@ module _ {A : Type 0} where
     pub room : own.log.room ≢ 0
     pub words : table.words ≡ parts
 
-  -- What the step on these parts requires: its CPU is one of the layout's, a run leaves the parts
-  -- and the CPU's own state, they are just those that the step uses, in this order, and no log that
-  -- would store the call is full
+  -- The requirements of the step on these parts: its CPU is one of the layout's, a run leads to the
+  -- parts and the CPU's own state, they are exactly the parts that the step uses, in this order,
+  -- and no log that would store the call is full
   pub record CanMake (l : TheLayout) (own : CpuState) (step : Step) (ks : List ℕ)
       (lent : ℕ → Option (Slot A)) : Type 0 where
     pub known : own.id < l.config.cpus
@@ -71,7 +71,7 @@ module _ {A : Type 0} where
     pub used : (j : ℕ) (x : Slot A) → held_at v.held j ≡ Some x → uses c j ≡ true
     pub does : Does (layout_of v.layout) c (held_at v.held) v.own (held_at after) own
 
--- the tries of one call that uses these parts, by what it comes to
+-- the tries of one call that uses these parts, by its outcome
 abbrev pub TriesOf : List ℕ → Tried → Known → Known → Type 0
 TriesOf ks (Stored c) v w = (ts : List Try) × (w.tries ≡ v.tries ++ ts) × AllTaken c v w ks ts
 TriesOf ks Contended v w = (ts : List Try) × (w.tries ≡ v.tries ++ ts) × EndsIn FoundAway ks ts
@@ -91,7 +91,7 @@ reply_of (Stored c) = c.reply
 reply_of Contended = Refused contended
 reply_of LogFull = Refused log_full
 
--- so it is where the call of a try is stored
+-- if the call of a try is stored, this holds
 abbrev pub WhereStored : Tried → Type 0 → Type 0
 WhereStored (Stored c) F = F
 WhereStored Contended F = Unit {0}

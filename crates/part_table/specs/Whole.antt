@@ -20,7 +20,6 @@ module _ {A : Type 0} where
   AreParts (VmSlot v ∷ (SharedSlot s ∷ xs)) = AreGuests xs
   AreParts other = ⊥
 
--- where there is a legal history of the parts, what lies in the slots and the CPUs' own states are
--- its end
+-- if the parts have a legal history, the slots' parts and the CPUs' own states are its end
 abbrev pub EndsInSlots : {A : Type 0} → Parts A → List (Option (Slot A)) → List CpuState → Type 0
 EndsInSlots p slots cpus = HasHistory p → IsEndIn p.layout slots cpus

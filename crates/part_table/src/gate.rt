@@ -43,7 +43,7 @@ impl Gate for Open {
     fn answered(&self, _cpu: u64, _number: u64) {}
 }
 
-/// The gate of a try. It hears that a call's parts are held only where no log that would store the call is full.
+/// The gate of a try. It hears that a call's parts are held only if no log that would store the call is full.
 #[derive(Drop)]
 pub struct TryGate<'a, G> {
     gate: &'a G,

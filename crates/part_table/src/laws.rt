@@ -5,8 +5,8 @@ use crate::gate::Gate;
 use crate::maker::Maker;
 use std::alloc::Allocator;
 
-/// What a maker tells of a stored call (`PartTable::try_step_by`: `made`) is of the parts as they were taken: it isn't told of
-/// others, nor of these as they were before or later.
+/// A maker's report of a stored call (`PartTable::try_step_by`: `made`) is about the parts as they were taken: not
+/// about other parts, nor about these at an earlier or later time.
 pub fn made_as_taken<A: Allocator, T, G: Gate, M: Maker<T, G>>()
     ensures { MadeAsTaken {A = A} M.tells }
 {}

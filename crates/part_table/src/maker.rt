@@ -13,8 +13,9 @@ use page_state::Layout;
 use part_types::CpuState;
 use std::alloc::Allocator;
 
-/// Makes the step of a call while its pass holds the parts that the call uses, once the gate has heard that it does. Whatever
-/// a maker is, the step is the same; what else it does with the parts before and after the step changes what is told alone.
+/// Makes the step of a call while its pass holds the parts that the call uses, once the gate has heard that it does.
+/// The step is the same for every maker; what else a maker does with the parts before and after the step changes only
+/// its report.
 pub trait Maker<T, G: Gate> {
     ghost use Rattle.std.specs.Prelude.{ℕ, Option};
     ghost use Rattle.part_types.specs.declared.parts.CpuState.{CpuState};
@@ -22,8 +23,8 @@ pub trait Maker<T, G: Gate> {
     ghost use Rattle.part_table.specs.declared.slot.Slot.{Slot};
     ghost use Rattle.call_table.specs.declared.reply.Call.{Call};
 
-    /// What is told before and after a call: of the layout, the parts that the call uses, by number, and its CPU's own
-    /// state, as they are taken and as they go home.
+    /// A maker's report before and after a call: on the layout, the parts that the call uses, by number, and its CPU's
+    /// own state, as they are taken and as they go home.
     ghost tells: { {A : Type 0}
         → TheLayout
         → (ℕ → Option (Slot A))

@@ -15,7 +15,7 @@ use part_types::CpuState;
 use std::alloc::Allocator;
 use std::marker::Model;
 
-/// A CPU's pass: its own state, and the right to take parts. Contracts see the table that it is of, and what it knows.
+/// A CPU's pass: its own state, and the right to take parts. Contracts see its table and all that it knows.
 #[derive(Drop)]
 pub struct CpuPass<A: Allocator> {
     pub(crate) seat: PartSeat<A>,

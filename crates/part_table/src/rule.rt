@@ -9,7 +9,7 @@ use std::collections::LinkedList;
 use std::marker::{Brand, PhantomData};
 use std::snapshot::Snapshot;
 
-/// What a table is told when it is made: its layout, and the parts and the CPUs' own states with which it begins.
+/// The start of a table: its layout, and the parts and the CPUs' own states with which it begins.
 #[derive(Drop)]
 pub struct Opening<A: Allocator> {
     pub layout: Layout,
@@ -36,14 +36,15 @@ pub struct View<A: Allocator> {
     pub seen: LinkedList<(u64, LinkedList<Call>)>,
     /// The parts that the pass holds.
     pub held: LinkedList<(u64, Option<Slot<A>>)>,
-    /// Each part that was tried, with its log as it was taken, or none where another pass had it.
+    /// Each part that was tried, with its log as it was taken, or none if another pass had it.
     pub tries: LinkedList<(u64, Option<Log>)>,
     pub root: bool,
     /// Of the root: what the table began with.
     pub begun: Begun,
     /// Of the root: how many CPUs have a pass.
     pub made: u64,
-    /// Of the root: each CPU's own state at the end, what its pass has seen of each part's log, and what it tried.
+    /// In the root: each CPU's own state at the end, the calls that its pass has seen of each part's log, and its
+    /// tries.
     pub ended: LinkedList<
         (
             CpuState,

@@ -25,7 +25,7 @@ impl<A: Allocator> Slot<A> {
         }
     }
 
-    /// The VM part, where it lies here.
+    /// The VM part, which the slot must hold.
     pub(crate) fn into_vm(self) -> VmPart
         requires { HoldsVms self }
         ensures { self ≡ Slot.Vm result }
@@ -36,7 +36,7 @@ impl<A: Allocator> Slot<A> {
         }
     }
 
-    /// The Shared part, where it lies here.
+    /// The Shared part, which the slot must hold.
     pub(crate) fn into_shared(self) -> SharedPart<A>
         requires { HoldsShared self }
         ensures { self ≡ Slot.Shared result }
@@ -47,7 +47,7 @@ impl<A: Allocator> Slot<A> {
         }
     }
 
-    /// The Guest part, where one lies here.
+    /// The Guest part, which the slot must hold.
     pub(crate) fn into_guest(self) -> GuestPart<A>
         requires { HoldsGuest self }
         ensures { self ≡ Slot.Guest result }

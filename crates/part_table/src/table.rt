@@ -121,8 +121,8 @@ fn new_passes<A: Allocator>(
 }
 
 impl<A: Allocator> PartTable<A> {
-    /// A table of parts and CPUs' own states, which stand at the end of a legal history, and the passes of all CPUs, by
-    /// number. `alloc` is where the tables of all trees lie.
+    /// A table of parts and CPUs' own states, which are the end of a legal history, and the passes of all CPUs, by
+    /// number. `alloc` holds the tables of all trees.
     pub fn open(
         global: Global,
         alloc: A,
@@ -235,7 +235,7 @@ impl<A: Allocator + Copy> PartTable<A> {
         self.try_step_by(gate, &Plain, pass, step, &mut ())
     }
 
-    /// The same where a maker makes the step. It does so once, if the call is stored; otherwise it reports nothing.
+    /// The same with a maker that makes the step, once, if the call is stored; otherwise it reports nothing.
     pub fn try_step_by<T, G: Gate, M: Maker<T, G>>(
         &self,
         gate: &G,
@@ -335,7 +335,7 @@ fn join_all<A: Allocator>(
     cpus
 }
 
-/// The same where the CPUs' own states are dropped.
+/// The same, but it drops the CPUs' own states.
 fn join_each<A: Allocator>(
     table: &SlotTable<A>,
     root: &mut PartSeat<A>,

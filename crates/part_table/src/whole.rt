@@ -96,8 +96,8 @@ fn first_of<A: Allocator>(mut found: Vec<Slot<A>>) -> (VmPart, SharedPart<A>, Ve
     (vm, part, found)
 }
 
-/// The parts of which these are the slots, by number, with the CPUs' own states, where they are at the end of one legal
-/// history. Requires room in the lists of parts, and takes no memory.
+/// The parts that these slots hold, by number, with the CPUs' own states, which must be the end of one legal history.
+/// Requires room in the list of guests, and takes no memory.
 pub fn together<A: Allocator>(
     layout: Layout,
     found: Vec<Slot<A>>,

@@ -13,12 +13,12 @@ use Rattle.reference_model.specs.model.Step.{Steps}
 use Rattle.race_outcomes.specs.declared.node.Turn.{Turn}
 use Rattle.race_outcomes.specs.Orders.{Gives, IsOutcome}
 
--- whether a step, where there is one, is of a CPU
+-- whether a step, if there is one, is of a CPU
 abbrev pub is_of : ℕ → Option Turn → Bool
 is_of cpu (Some t) = t.cpu == cpu
 is_of cpu None = false
 
--- the places of a CPU's steps, where the first step has this place
+-- the places of a CPU's steps in a list whose first step has this place
 abbrev pub places_of : ℕ → ℕ → List Turn → List ℕ
 places_of cpu first [] = []
 places_of cpu first (t ∷ more) =

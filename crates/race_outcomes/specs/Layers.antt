@@ -1,4 +1,4 @@
--- All points that orders of so many steps lead to.
+-- All points that orders with a given number of steps lead to.
 use Rattle.std.specs.Prelude.{◌≡◌, ◌≢◌, ◌⊎◌, ℕ, ◌+◌, ◌*◌, ◌%◌, ◌<◌, ◌≤◌, List, [], ◌∷◌, ◌++◌, All, AllPairs, Contains, Option, Some, None, Vec, get_or, length, map, slice_get}
 use Rattle.std.specs.Global.{Global}
 use Rattle.page_state.specs.Layouts.{Layout}
@@ -112,15 +112,15 @@ IsPlaceFault turns m place Generation = EndsAt turns m place
 IsPlaceFault turns m place NoMemory = Unit {0}
 
 module _ (turns : List Turn) (wanted : List (Option (Vec ℕ Global))) where
-  -- a node has a reply for each step, or none yet, and for each something or nothing is wanted;
-  -- each step is of one of the layout's CPUs; and the replies are wanted
+  -- a node has a reply or none for each step, and the list of wanted texts has an entry for each;
+  -- each step is of one of the layout's CPUs; and each reply has the wanted text, if there is one
   pub record IsReady (n : Node) : Type 0 where
     pub count : length n.told.items ≡ length turns
     pub wanted_count : length wanted ≡ length turns
     pub cpus : All (λ t. t.cpu < n.state.layout.config.cpus) turns
     pub are_wanted : AreWanted wanted n.told.items
 
-  -- from one node the step at a place leads to another, whose replies are wanted
+  -- the step at a place leads from one node to another, whose replies have the wanted texts
   pub record IsStepAt (m : Node) (place : ℕ) (n : Node) : Type 0 where
     pub layout : layout_of n.state.layout ≡ layout_of m.state.layout
     pub makes : Makes (layout_of m.state.layout) turns (point_of m) place (point_of n)
@@ -130,7 +130,8 @@ module _ (turns : List Turn) (wanted : List (Option (Vec ℕ Global))) where
   abbrev pub IsStepOf : Node → Node → Type 0
   IsStepOf m n = (place : ℕ) × IsStepAt m place n
 
-  -- the point where the step at a place leads from a node is there, if its replies are wanted
+  -- if the step at a place leads from a node to a point, and its replies have the wanted texts, the
+  -- list has the point
   abbrev pub HasStep : Node → List Node → ℕ → Type 0
   HasStep m new place =
       (q : Point)
@@ -138,11 +139,11 @@ module _ (turns : List Turn) (wanted : List (Option (Vec ℕ Global))) where
       → AreWanted wanted q.told
       → Contains (points_of new) q
 
-  -- some nodes are added where steps lead from one node
+  -- adds some nodes that steps lead to from one node
   abbrev pub IsSpread : Node → List Node → List Node → Type 0
   IsSpread m old new = (more : List Node) × (new ≡ old ++ more) × All (IsStepOf m) more
 
-  -- why nodes where the step at a place leads from one node, or any step, aren't added
+  -- why the nodes that the step at a place, or any step, leads to from a node aren't added
   pub record IsCrowding (limit : ℕ) (m : Node) (old : List Node) (made : ℕ) : Type 0 where
     pub new : List Node
     pub spread : IsSpread m old new
@@ -179,14 +180,14 @@ module _ (turns : List Turn) (wanted : List (Option (Vec ℕ Global))) where
     pub complete : All (λ m. (place : ℕ) → HasStep m new place) old
 
   module _ (l : Layout) (s : Reference) where
-    -- a node's order has so many steps, and leads to its point
+    -- a node's order has `count` steps, and leads to its point
     pub record IsReached (count : ℕ) (n : Node) : Type 0 where
       pub layout : layout_of n.state.layout ≡ l
       pub count_is : length n.order.items ≡ count
       pub leads : Leads l turns (first_point s turns) n.order.items (point_of n)
       pub are_wanted : AreWanted wanted n.told.items
 
-    -- the nodes where orders of so many steps lead, of all whose replies are wanted
+    -- the nodes that orders of `count` steps lead to, all those whose replies have the wanted texts
     pub record IsLayer (count : ℕ) (ns : List Node) : Type 0 where
       pub sound : All (IsReached count) ns
       pub complete : (order : List ℕ) (p : Point)
@@ -223,7 +224,7 @@ pub record AreOutcomes (ns : List Node) (os : List Outcome) : Type 0 where
       → Contains (replies_of os) replies) ns
   pub once : AllPairs (λ a b. a.replies.items ≢ b.replies.items) os
 
--- the first layer, whatever is wanted
+-- the first layer, for any wanted texts
 abbrev pub IsFirstLayer : List Turn → Layout → Reference → List Node → Type 0
 IsFirstLayer turns l s ns = (wanted : List (Option (Vec ℕ Global))) → IsLayer turns wanted l s 0 ns
 

@@ -31,7 +31,7 @@ unfoldable pub told_to : Layout → Reference → Turn → Reply × Reference
 told_to l s turn = let told = foretell l s turn.cpu turn.step in
     if is_wanting turn told.0 then wanting s told else told
 
--- how far an order has come: the model's state, and the reply of each step that is made, by its
+-- how far an order has come: the model's state, and the reply of each step made so far, by its
 -- place in the list of all steps
 pub record Point : Type 0 where
   pub state : Reference
@@ -56,7 +56,7 @@ pub record IsNext (turns : List Turn) (told : List (Option Reply)) (place : ℕ)
       → t.cpu ≡ turn.cpu
       → slice_get told j ≢ Some None
 
--- where the model makes it
+-- the point after the step at a place, if the model makes it
 abbrev pub point_after : Layout → Point → ℕ → Turn → Point
 point_after l p place turn =
     let r = told_to l p.state turn in
@@ -74,8 +74,8 @@ Leads l turns p [] q = q ≡ p
 Leads l turns p (place ∷ more) q =
     (between : Point) × Makes l turns p place between × Leads l turns between more q
 
--- an order of all steps, by their places, gives each step this reply: it leads from the state to
--- where each is made
+-- an order of all steps, by their places, gives each step this reply: it leads from the state to a
+-- point at which each is made
 pub record Gives (l : Layout) (s : Reference) (turns : List Turn) (order : List ℕ)
     (replies : List Reply) : Type 0 where
   pub end : Reference
@@ -86,7 +86,7 @@ pub record Gives (l : Layout) (s : Reference) (turns : List Turn) (order : List 
 abbrev pub IsOutcome : Layout → Reference → List Turn → List Reply → Type 0
 IsOutcome l s turns replies = (order : List ℕ) × Gives l s turns order replies
 
--- the reply has the wanted text, if one is wanted
+-- the reply has the wanted text, if there is one
 abbrev pub IsWanted : Option (Vec ℕ Global) → Option Reply → Type 0
 IsWanted (Some text) (Some r) = text_of_reply r ≡ text.items
 IsWanted other told = Unit {0}
@@ -97,7 +97,7 @@ AreWanted [] told = Unit {0}
 AreWanted (w ∷ ws) [] = Unit {0}
 AreWanted (w ∷ ws) (t ∷ ts) = IsWanted w t × AreWanted ws ts
 
--- the replies that some order gives, of those that are wanted
+-- all lists of replies that some order gives and that have the wanted texts
 pub record AllOutcomes (l : Layout) (s : Reference) (turns : List Turn)
     (wanted : List (Option (Vec ℕ Global))) (os : List Outcome) : Type 0 where
   pub sound : All
@@ -109,7 +109,7 @@ pub record AllOutcomes (l : Layout) (s : Reference) (turns : List Turn)
       → Contains (map (λ o. o.replies.items) os) replies
   pub once : AllPairs (λ a b. a.replies.items ≢ b.replies.items) os
 
--- an order gives replies that are wanted; and no order gives any
+-- an order gives replies that have the wanted texts; and no order gives any
 abbrev pub GivesWanted : Layout → Reference → List Turn → List (Option (Vec ℕ Global)) → List ℕ
     → Type 0
 GivesWanted l s turns wanted order =
@@ -118,7 +118,7 @@ GivesWanted l s turns wanted order =
 abbrev pub NoneWanted : Layout → Reference → List Turn → List (Option (Vec ℕ Global)) → Type 0
 NoneWanted l s turns wanted = (order : List ℕ) → ¬ GivesWanted l s turns wanted order
 
--- an order that gives wanted replies, or none where no order does
+-- an order that gives replies with the wanted texts, or none if no order does
 abbrev pub IsExplained : Layout → Reference → List Turn → List (Option (Vec ℕ Global))
     → Option (Vec ℕ Global) → Type 0
 IsExplained l s turns wanted None = NoneWanted l s turns wanted
@@ -136,7 +136,7 @@ told_along l s (t ∷ more) =
 abbrev pub IsLastGeneration : Reference → Turn → Type 0
 IsLastGeneration s turn = ¬ HasNextGeneration (s.contents.cpu turn.cpu).ticket turn.step
 
--- why steps in order aren't made: a generation, where the steps before it lead, or memory
+-- why steps in order aren't made: a VM's generation after the steps before it, or memory
 abbrev pub IsStepFault : Layout → Reference → List Turn → OutcomesFault → Type 0
 IsStepFault l s turns (TooMany made) = ⊥
 IsStepFault l s turns Generation =
@@ -147,7 +147,7 @@ IsStepFault l s turns Generation =
 IsStepFault l s turns NoMemory = Unit {0}
 
 module _ (l : Layout) (s : Reference) (turns : List Turn) where
-  -- orders of so many steps, whose replies are wanted, lead to more points than the limit
+  -- orders of `made` steps, whose replies have the wanted texts, lead to more points than the limit
   pub record HasMorePoints (wanted : List (Option (Vec ℕ Global))) (limit made : ℕ) : Type 0 where
     pub points : List Point
     pub more : limit < length points
@@ -158,7 +158,7 @@ module _ (l : Layout) (s : Reference) (turns : List Turn) where
         × Leads l turns (first_point s turns) order p
         × AreWanted wanted p.told) points
 
-  -- some order leads to where a step comes next that releases a VM whose generation is the greatest
+  -- some order leads to a point at which a next step releases a VM whose generation is the greatest
   -- u64
   pub record ReachesLastGeneration : Type 0 where
     pub order : List ℕ

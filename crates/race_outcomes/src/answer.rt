@@ -14,7 +14,7 @@ use ghost_spec::lists::GhostLists;
 use ghost_spec::state::{Ghost, has_next_generation, predict};
 use std::alloc::{AllocError, Global};
 
-/// What the model says of a step where there is memory.
+/// The model's reply to a step and the state after it, if there is memory.
 fn foretold(alloc: Global, state: &Ghost, turn: Turn) -> Result<(Reply, Ghost), OutcomesFault>
     requires { turn.cpu < state.now.layout.config.cpus }
     ensures told { IfOk result

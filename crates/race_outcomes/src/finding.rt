@@ -20,7 +20,7 @@ use trace_reader::Progress;
 /// Why there is no list of outcomes.
 #[derive(Clone, Copy, PartialEq, Debug)]
 pub enum OutcomesFault {
-    /// After so many steps there are more points than the limit: states of the model with the replies so far.
+    /// After this number of steps there are more points than the limit: states of the model with the replies so far.
     TooMany(u64),
     /// A VM is to be released whose generation is the greatest u64.
     Generation,
@@ -37,7 +37,7 @@ pub struct Outcome {
     pub order: Vec<usize>,
 }
 
-/// All replies, where each step has one.
+/// All replies, if each step has one.
 fn whole(alloc: Global, told: &[Option<Reply>]) -> Result<Option<Vec<Reply>>, AllocError>
     ensures { IfOk result
         (λ o. MatchOption o ((rs : List TheReply) → told.now ≢ map Some rs)
@@ -56,7 +56,7 @@ fn whole(alloc: Global, told: &[Option<Reply>]) -> Result<Option<Vec<Reply>>, Al
     Ok(Some(all))
 }
 
-/// The node where no step is made, alone.
+/// The one node at which no step is made yet.
 fn first_nodes(alloc: Global, state: &Ghost, turns: &[Turn]) -> Result<Vec<Node>, AllocError>
     ensures { IfOk result
         (λ v. IsFirstLayer turns.now (layout_of state.now.layout)
@@ -68,7 +68,7 @@ fn first_nodes(alloc: Global, state: &Ghost, turns: &[Turn]) -> Result<Vec<Node>
     Ok(nodes)
 }
 
-/// The nodes where all orders of all steps lead.
+/// The nodes that orders of all steps lead to.
 fn last_layer<P: Progress>(
     alloc: Global,
     state: &Ghost,
@@ -148,9 +148,10 @@ fn distinct(alloc: Global, nodes: &[Node]) -> Result<Vec<Outcome>, AllocError>
     Ok(found)
 }
 
-/// All that CPUs may be told which make these steps from a state, each in its own order and at any time, where the replies are
-/// those that are wanted: each outcome once, with an order that gives it. Err where after some steps there are more points than
-/// the limit, a generation would be no number of 64 bits, or memory was refused. `progress` is told of each point that is left.
+/// All lists of replies that steps of CPUs may get from a state, if each CPU makes its own in order and at any time,
+/// and that have the wanted texts: each outcome once, with an order that gives it. Err if there are more points than
+/// the limit after some number of steps, a generation would exceed 64 bits, or memory was refused. `progress` counts
+/// each point that is left.
 pub fn outcomes<P: Progress>(
     alloc: Global,
     state: &Ghost,
@@ -177,7 +178,7 @@ pub fn outcomes<P: Progress>(
     }
 }
 
-/// An order of these steps that gives replies that are wanted; none where there is no such order.
+/// An order of these steps that gives replies with the wanted texts; None if there is no such order.
 pub fn explained<P: Progress>(
     alloc: Global,
     state: &Ghost,

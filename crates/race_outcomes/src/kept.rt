@@ -58,7 +58,7 @@ impl Shared {
     }
 }
 
-/// Where the step at a place leads from a state: the reply, the state after it, and where steps from there may be kept.
+/// A step from a state: its place and reply, the state after it, and the place for the steps known from there.
 #[derive(Drop)]
 pub(crate) struct Made {
     pub place: usize,
@@ -84,7 +84,7 @@ pub(crate) struct States {
 impl Made {
     ghost use Rattle.std.specs.Prelude.{◌≡◌, IfOk};
 
-    /// The same once more.
+    /// A copy.
     fn again(&self) -> Result<Made, AllocError>
         ensures place { IfOk result (λ m. m.place ≡ self.now.place) }
         ensures reply { IfOk result (λ m. m.reply ≡ self.now.reply) }
@@ -156,7 +156,7 @@ impl States {
         is_same_state(self.states[place].get(), state)
     }
 
-    /// The place of this state, if it is found by its key.
+    /// The place of this state, if its key finds it.
     fn place_of(&self, key: usize, state: &Ghost) -> Option<usize>
         ensures inside { IfSome result (λ i. i < length self.now.states.items) }
         ensures same { IfSome result
@@ -206,7 +206,7 @@ impl States {
         Ok((state, place))
     }
 
-    /// A state, shared with the nodes that have it, where it is found, and its place among all.
+    /// A state, shared with the nodes that have it, if it is known, and its place among all.
     pub(crate) fn shared(
         &mut self,
         alloc: Global,
@@ -330,7 +330,7 @@ fn is_known_at(known: &[Known], at: usize, state: &Ghost) -> bool
     is_same_state(known[at].state.get(), state)
 }
 
-/// Where a state is among known ones: at the place that is said, or else behind them.
+/// The place of a state among known ones: the given place, or else the end of the list, to which it is added.
 pub(crate) fn known_at(
     alloc: Global,
     known: &mut Vec<Known>,

@@ -6,8 +6,8 @@ pub fn orders_keep()
     ensures { OrdersKeep }
 {}
 
-/// Where a list of calls is a run of the model, and these are the steps with their replies, each CPU's own in order, the replies
-/// are an outcome, unless one of them tells of a machine's memory, of a full log or of a part that was taken.
+/// If a list of calls is a run of the model, and these are the steps with their replies, each CPU's own in order, the
+/// replies are an outcome, unless one of them reports a machine's lack of memory, a full log or a part that was taken.
 pub fn runs_are_outcomes()
     ensures { RunsAreOutcomes }
 {}

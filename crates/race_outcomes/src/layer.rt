@@ -1,4 +1,4 @@
-//! The nodes at which all orders of so many steps are, each point once.
+//! The nodes that orders of a given number of steps lead to, each point once.
 ghost use Rattle.std.specs.Prelude.{◌≡◌, ℕ, ◌<◌, [], All, Contains, IfErr, IfOk, IsTrue, OnOk, false, length};
 ghost use Rattle.page_state.specs.LayoutView.{layout_of};
 ghost use Rattle.race_outcomes.specs.Kept.{AreKnown, IsAtHand};
@@ -156,7 +156,7 @@ impl Layer {
         is_same_point(&self.nodes[place], node)
     }
 
-    /// Adds a node, unless its point is there. There may be so many nodes.
+    /// Adds a node, unless the layer has its point. The layer holds at most `limit` nodes.
     fn add(&mut self, node: Node, limit: usize) -> Result<(), OutcomesFault>
         requires { IsIndexed self.old }
         ensures added { OnOk result (IsAdded self.old.nodes.items node self.new.nodes.items) }
@@ -219,7 +219,7 @@ impl Layer {
     }
 }
 
-/// Adds the node where the step at a place comes next, if it can and its reply is wanted.
+/// Adds the node after the step at a place, if that step can come next and its reply has the wanted text.
 fn spread_at(
     alloc: Global,
     turns: &[Turn],
@@ -250,7 +250,7 @@ fn spread_at(
     }
 }
 
-/// Adds all nodes where a step comes next.
+/// Adds all nodes that a next step leads to.
 fn spread(
     alloc: Global,
     turns: &[Turn],
@@ -277,7 +277,7 @@ fn spread(
     Ok(())
 }
 
-/// Adds all nodes where a step comes next, with the states whose steps are known so far.
+/// Adds all nodes that a next step leads to, with the states whose steps are known so far.
 fn spread_known(
     alloc: Global,
     turns: &[Turn],

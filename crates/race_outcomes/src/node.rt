@@ -64,7 +64,7 @@ pub(crate) fn is_next(turns: &[Turn], told: &[Option<Reply>], place: usize) -> b
     told[place].is_none() && is_made_before(turns, told, place, turns[place].cpu)
 }
 
-/// Whether a reply is the one that is wanted, where one is.
+/// Whether a reply has the wanted text, if there is one.
 fn is_wanted(alloc: Global, wanted: &Option<Vec<u8>>, reply: Reply) -> Result<bool, AllocError>
     ensures { IfOk result (λ b. IsTrue b ↔ IsWanted wanted.now (Some reply)) }
 {
@@ -149,7 +149,7 @@ fn node_with(alloc: Global, node: &Node, place: usize, made: Made) -> Result<Nod
     })
 }
 
-/// Where the step at a place comes next, unless its reply isn't wanted.
+/// The node after the step at a place; None if its reply hasn't the wanted text.
 pub(crate) fn next_node(
     alloc: Global,
     node: &Node,

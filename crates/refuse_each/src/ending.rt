@@ -98,8 +98,8 @@ pub struct Ended {
 /// A machine, and its passes.
 type Held = (Machine<Global>, Vec<CpuPass<Global>>);
 
-/// Shuts a machine down with the Nth request refused. On such a refusal machine and passes come back; None where one that
-/// was refused a request tells anything but NoMemory, or one that wasn't is refused.
+/// Shuts a machine down with the Nth request refused. On such a refusal machine and passes come back; None if a
+/// shutdown with a refused request answers anything but NoMemory, or one without is refused.
 fn try_end(global: Global, held: Held, n: usize) -> Result<Histories, Option<Held>>
     requires { AreOf held.0.table held.1.items }
     ensures { IfErr result (λ back. IfSome back (λ b. AreOf b.0.table b.1.items)) }
@@ -123,7 +123,7 @@ fn try_end(global: Global, held: Held, n: usize) -> Result<Histories, Option<Hel
     }
 }
 
-/// Shuts a machine down until a try is refused nothing. None where one goes wrong.
+/// Shuts a machine down until no request of a try is refused. None if one goes wrong.
 pub fn end_in_turn(
     global: Global,
     machine: Machine<Global>,

@@ -9,11 +9,11 @@ use std::alloc::{AllocError, Global};
 pub struct Reached {
     /// The state after them.
     pub state: Ghost,
-    /// How many calls were refused for want of memory. Each of these leaves the state.
+    /// The number of calls that were refused for lack of memory. Each of these leaves the state.
     pub wanting: usize,
 }
 
-/// Follows a call. None where the model foretells another reply than it has, but for want of memory of one that it makes.
+/// Follows a call. None if its reply isn't the model's, unless it is a lack of memory in a call that the model makes.
 fn follow_one(
     global: Global,
     state: Ghost,
@@ -41,7 +41,7 @@ fn follow_one(
     Ok(None)
 }
 
-/// Follows calls, one after another. None where one of them can't be followed.
+/// Follows calls, one after another. None if one of them can't be followed.
 pub fn follow(
     global: Global,
     begun: Ghost,
@@ -59,7 +59,7 @@ pub fn follow(
     Ok(Some(Reached { state, wanting }))
 }
 
-/// Whether the calls get, from boot on, the replies that the model foretells. None where memory is refused.
+/// Whether the calls get the model's replies from boot on. None if memory is refused.
 pub fn follows(global: Global, calls: &[(u64, Step, Reply)]) -> Option<bool> {
     let world = booted_world(global)?;
     let begun = world.to_ghost(global).ok()?;

@@ -1,8 +1,8 @@
-//! Makes calls with each of their requests for memory refused in turn, by a library that is loaded before the C library's
-//! (`tests/refused/run`); alone it refuses nothing. The trace on standard input gives the memory, the configuration and the
-//! steps; a line is told of each, with how many of its tries were refused a request. Then a machine of its own is ended. Status
-//! 1 where a call went wrong: a refused try must answer NoMemory and change nothing, and the last one must do what it does
-//! with ample memory. Status 2 where there is no such trace, or the lines can't be written.
+//! Makes calls with each of their requests for memory refused in turn, by a library that is loaded before the C
+//! library's (`tests/refused/run`); without it nothing is refused. The trace on standard input gives the memory, the
+//! configuration and the steps; each gets a line with the number of its tries that had a request refused. Then it ends
+//! a machine of its own. Status 1 if a call went wrong: a refused try must answer NoMemory and change nothing, and the
+//! last one must do the same as with ample memory. Status 2 if there is no such trace, or the lines can't be written.
 #![tactic(auto)]
 
 ghost use Rattle.std.specs.Prelude.{◌≡◌};
@@ -28,7 +28,7 @@ use trace_race::{Asked, Course};
 use wholes::{of_boots, of_judgement, of_looks, of_map};
 use world::World;
 
-/// Tells how many tries were refused a request. False where the call went wrong, or the line can't be written.
+/// Prints how many tries had a request refused. False if the call went wrong, or the line can't be written.
 fn tell<R: Print>(rt: &R, call: &str, refused: Option<usize>) -> bool {
     let Some(refused) = refused else {
         let _ = println!(rt; "{call} went wrong");
@@ -67,7 +67,7 @@ fn make_one<R: AllocGlobal + Print>(rt: &R, world: &mut World<Global>, asked: As
     is_good && told.is_ok()
 }
 
-/// The last step of a trace again, foretold and judged, where it has one.
+/// Predicts and judges the last step of a trace again, if it has one.
 fn judgement<R: AllocGlobal + Print>(rt: &R, world: &World<Global>, course: &Course) -> bool {
     match course.steps.last() {
         Some(asked) => tell(rt, "judge", of_judgement(rt.alloc(), world, asked.step)),
@@ -118,7 +118,7 @@ fn make_all<R: AllocGlobal + Print>(
 /// The most steps of a trace whose run is made: all of them are made again for each request.
 const FEW: usize = 60;
 
-/// The run of all steps, where they are few.
+/// The run of all steps, if there are only a few.
 fn run<R: AllocGlobal + Print>(rt: &R, course: &Course, map: &MemoryMap, config: Config) -> bool {
     course.steps.len() > FEW || tell(rt, "run", run_in_turn(rt.alloc(), course, map, config))
 }
@@ -133,7 +133,7 @@ fn sweep<R: AllocGlobal + Print>(rt: &R, course: &Course) -> bool {
         && run(rt, course, &map, config)
 }
 
-/// How many tries were refused a request, and how many calls the merged list has. None where anything went wrong.
+/// The number of tries with a refused request, and the number of calls in the merged list. None if anything went wrong.
 fn ended(global: Global) -> Option<(usize, usize)> {
     let (machine, passes) = used(global)?;
     let Ended { logs, refused } = end_in_turn(global, machine, passes)?;

@@ -6,7 +6,7 @@ use page_state::{Config, MemoryMap};
 use std::alloc::Global;
 use trace_race::Course;
 
-/// Reads all lines. None where one has a fault that is one under `race`, or reading or memory failed.
+/// Reads all lines. None if one has a fault that is one under `race`, or reading or memory failed.
 pub fn read_all<R: Input + AllocGlobal>(rt: &R) -> Option<Course>
     ensures { IfSome result (λ c. IsSound (course_in c)) }
 {

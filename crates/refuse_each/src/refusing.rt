@@ -1,5 +1,6 @@
-//! How the library that is loaded before the C library's (`tests/refused/refuse.c`) is told which requests for memory to
-//! refuse: by requests of odd sizes that nothing else makes. Without that library these are granted, and nothing is refused.
+//! Controls the library that is loaded before the C library's (`tests/refused/refuse.c`): requests of odd sizes that
+//! nothing else makes select the requests for memory that it refuses. Without that library these are granted, and
+//! nothing is refused.
 use std::alloc::Global;
 
 /// The size of the request that begins to count: from here on the Nth request is refused, for N up to `MOST`, by a size of
@@ -12,7 +13,7 @@ pub const MOST: usize = 1_000_000;
 /// The size of the request from which on all are refused.
 const ALL: usize = 9_000_001;
 
-/// The size of the request that ends refusing, and is itself refused where one was.
+/// The size of the request that ends refusing, and is itself refused if a request was.
 const MET: usize = 9_000_003;
 
 fn is_refused(global: Global, size: usize) -> bool {
@@ -43,7 +44,7 @@ pub enum Came {
     Else,
 }
 
-/// What a call came to that is refused for want of memory alone.
+/// The result of a call that is refused only for lack of memory.
 pub fn by_memory<T: Drop, E: Drop>(answer: Result<T, E>) -> Came {
     match answer {
         Ok(_) => Came::Done,

@@ -10,7 +10,7 @@ use std::alloc::Global;
 use trace_race::Course;
 use world::World;
 
-/// The steps of a trace. None where one is of a CPU that there isn't, or memory is refused.
+/// The steps of a trace. None if one is of a CPU that doesn't exist, or memory is refused.
 fn asked_of(global: Global, course: &Course, cpus: u64) -> Option<Vec<(u64, Step)>>
     ensures { IfSome result (λ v. All (λ s. s.0 < cpus) v.items) }
 {
@@ -43,17 +43,17 @@ fn calls_of(
     Some(calls)
 }
 
-/// What a run began with, and what it came to.
+/// The state before a run, and the run's result.
 #[derive(Drop)]
 struct Ran {
     begun: Ghost,
-    /// None where the run was refused.
+    /// None if the run was refused.
     calls: Option<Vec<(u64, Step, Reply)>>,
     /// Whether a request was refused.
     met: bool,
 }
 
-/// Runs steps with the Nth request refused: the replies, None where the run is refused, and whether a request was.
+/// Runs steps with the Nth request refused: the replies, None if the run is refused, and whether a request was.
 fn run_refused(
     global: Global,
     world: &mut World<Global>,
@@ -88,8 +88,9 @@ fn run_once(
     Some(Ran { begun, calls, met })
 }
 
-/// Whether a run is refused only where a request was, and any other has the model's replies, but for one step that wanted memory
-/// where a request was refused. That a refused run has made no step, and any other just these calls, is proved (`World::run`).
+/// Whether a run is refused only if a request was, and any other has the model's replies, except for one step that
+/// lacked memory if a request was refused. It is proved that a refused run has made no step, and any other exactly
+/// these calls (`World::run`).
 fn is_right(global: Global, ran: Ran) -> Option<bool> {
     let Ran { begun, calls, met } = ran;
     let Some(calls) = calls else {

@@ -24,8 +24,8 @@ struct Tried {
     reply: Reply,
     /// Whether a request was refused.
     met: bool,
-    /// Whether the oracle, which has ample memory, finds nothing wrong: nothing changed where memory was wanting, all is the
-    /// model's otherwise, and what is kept is what a walk finds.
+    /// Whether the oracle, which has ample memory, finds nothing wrong: nothing changed if memory was lacking, all is
+    /// the model's otherwise, and the kept state is the walked one.
     is_agreed: bool,
 }
 
@@ -34,7 +34,7 @@ impl Tried {
         self.reply == Reply::Refused(Refusal::NoMemory)
     }
 
-    /// A request that was refused doesn't leave the step made, and memory is wanting only then.
+    /// No step with a refused request is made, and a step lacks memory only if a request was refused.
     fn is_good(&self) -> bool {
         let is_made = matches!(self.reply, Reply::Done(_));
         self.is_agreed && !(self.met && is_made) && (self.met || !self.is_wanting())
@@ -79,7 +79,7 @@ fn try_step(
     })
 }
 
-/// Makes a step with all its requests refused, and then with each in turn, until memory isn't wanting.
+/// Makes a step with all its requests refused, and then with each in turn, until memory isn't lacking.
 pub fn make(
     global: Global,
     world: &mut World<Global>,

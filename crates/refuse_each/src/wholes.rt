@@ -1,4 +1,4 @@
-//! Calls on a whole world, each of which is refused for want of memory alone.
+//! Calls on a whole world, each of which is refused only for lack of memory.
 ghost use Rattle.std.specs.Prelude.{◌≡◌, ◌<◌};
 
 use crate::refusing::{Came, by_memory, in_turn};
@@ -90,7 +90,7 @@ fn judged(global: Global, world: &World<Global>, step: Step) -> Result<bool, All
     Ok(found.is_none())
 }
 
-/// The same of a step of CPU 0, foretold and judged.
+/// The same for predicting and judging a step of CPU 0.
 pub fn of_judgement(global: Global, world: &World<Global>, step: Step) -> Option<usize> {
     in_turn(global, || match judged(global, world, step) {
         Ok(true) => Came::Done,

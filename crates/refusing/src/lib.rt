@@ -7,7 +7,7 @@ use std::cell::Cell;
 /// An allocator that refuses one request when asked to. Collections hold a `&` to it.
 pub struct Refusing<B: Allocator> {
     inner: B,
-    /// The number of the request that is refused, where 1 is the next one. 0 once it was, and where none is to be.
+    /// The number of the request to refuse, 1 for the next one. 0 after it was refused, and if none is to be.
     left: Cell<u64>,
 }
 
@@ -20,7 +20,7 @@ impl<B: Allocator> Refusing<B> {
         }
     }
 
-    /// Has the Nth request from here on refused; none where N is 0.
+    /// Refuses the Nth request from here on; none if N is 0.
     pub fn refuse_nth(&self, n: u64) {
         self.left.set(n);
     }

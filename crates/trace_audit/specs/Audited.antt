@@ -43,7 +43,7 @@ pub record Audited (A : Type 0) : Type 0 where
   pub session : Standing
   pub poked : Option (RawWorld A)
 
--- the lines that end a report of so many step lines: the difference, if there is one, and the
+-- the lines that end a report of `steps` step lines: the difference, if there is one, and the
 -- numbers of step lines and of differences
 abbrev pub found_lines : ℕ → Option Disagreement → List ReportLine
 found_lines steps found =
@@ -70,7 +70,7 @@ module _ {A : Type 0} where
         (which_of poke.tree) path poke.word
     pub beside : kept (raw_beside_of world.parts)
 
-  -- what setting a word comes to: the world, and a fault just where the page's path has no word
+  -- the result of setting a word: the world, or a fault if and only if the page's path has no word
   abbrev pub Sets : Geometry → (Which → SeenTree) → (Beside → Type 0) → Poke
       → Result (RawWorld A) Stop → Type 0
   Sets geometry before kept poke result =
@@ -86,8 +86,8 @@ module _ {A : Type 0} where
   Comes (Ok world) session answer new =
       (answer ≡ Ok []) × (new ≡ record { session = session; poked = Some world })
 
-  -- the first poke, of a world of the machine, which is a poked one from then on. Only memory can
-  -- be wanting before
+  -- the first poke, on a world of the machine; from then on the world is a poked one. Before that,
+  -- only memory can be refused
   abbrev pub PokesFirst : Poke → Machine → Audited A → Answer → Audited A → Type 0
   PokesFirst poke m old answer new =
       (answer ≡ Err stops.NoMemory)
@@ -111,7 +111,7 @@ module _ {A : Type 0} where
       (λ m. PokesFirst poke m old answer new))
       (λ before. PokesAgain poke before old answer new)
 
-  -- any other line does what it does under `replay`, but that no oracle looks at a step
+  -- any other line does the same as in `replay`, but no oracle looks at a step
   pub record Carries (number : ℕ) (line : Line) (old : Audited A) (answer : Answer)
       (new : Audited A) : Type 0 where
     pub does : DoesLine agreed number line old.session answer new.session
@@ -163,8 +163,8 @@ module _ {A : Type 0} where
       × (lines ≡ end_lines a found)
       × (outcome ≡ outcome_of (length (audited_lines found)))
 
--- what was written is the report of an audit of the trace of these bytes, with the trees' tables
--- where A says
+-- the written text is the report of an audit of the trace of these bytes, with the trees' tables in
+-- `A`
 abbrev pub IsAuditTold : (A : Type 0)
     → Option (List ℕ)
     → Option (List ℕ)

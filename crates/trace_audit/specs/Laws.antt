@@ -38,7 +38,7 @@ pub record IsReplays (trace : List (List ℕ)) (lines : List ReportLine)
   pub replay : replay.IsReport agreed 1 at_start trace lines outcome
   pub agrees : HasNoDisagreement lines outcome
 
--- the audit of a trace without a poke reports what its replay does, and no disagreement
+-- the audit of a trace without a poke writes the report of its replay, and no disagreement
 abbrev pub AuditReplays : Type 0 → Type 0
 AuditReplays A =
     (trace : List (List ℕ)) (lines : List ReportLine) (outcome : Outcome)
@@ -61,7 +61,7 @@ pub record TellsNone (steps : ℕ) (lines : List ReportLine) (kept walked : Ghos
   pub lines_are : lines ≡ report.End steps 0 ∷ []
   pub agrees : AuditAgrees (contents_in kept) (contents_in walked)
 
--- or it tells the first
+-- or it reports the first
 pub record TellsFirst (steps : ℕ) (lines : List ReportLine) (kept walked : Ghost) : Type 0 where
   pub found : Disagreement
   pub lines_are : lines ≡ report.Audited found ∷ report.End steps 1 ∷ []
@@ -97,7 +97,7 @@ FirstKeeps A =
     × (old.session.machine ≡ Some (machine_of w))
     × KeepsAllBut (parts_trees w.parts) (IsBeside w.parts) after
 
--- and each line behind it all of the poked world but one tree
+-- and each later line keeps all of the poked world but one tree
 abbrev pub NextKeeps : Type 0 → Type 0
 NextKeeps A =
     (number : ℕ) (line : List ℕ) (old : Audited A) (reported : List ReportLine) (new : Audited A)

@@ -11,8 +11,8 @@ use Rattle.trace_lines.specs.declared.line.Poke.{Poke}
 use Rattle.trace_lines.specs.declared.line.TreeName.{TreeName}
 use Rattle.trace_lines.specs.declared.line.TreeName.TheVariants.{Host, Hyp, Guest}
 
--- the path of a page down to a level. None where the page isn't good, or the level isn't one of the
--- tree's, the root's being 3 less the levels below it
+-- the path of a page down to a level. None if the page isn't an input page, or the level isn't one
+-- of the tree's; the root's is 3 less the levels below it
 unfoldable pub path_on : Geometry → ℕ → ℕ → Option (List ℕ)
 path_on geometry page level =
     let depth = levels_below geometry in

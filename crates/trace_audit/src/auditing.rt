@@ -16,9 +16,9 @@ use table_tree::Reads;
 use trace_reader::{EngineFault, Outcome, Source};
 use trace_text::{Player, ReportLine, Sink, play_trace, tell_answer, tell_audited, tell_end};
 
-/// Reads a trace line by line, carries it out, pokes too, and writes its report. No oracle looks at its steps: at the end
-/// what is kept is compared once with what a walk of all words finds, and the first difference is told. `alloc` is where the
-/// tables of the trees lie. Err where the source or the sink failed, once, or memory was refused: what was written until
+/// Reads a trace line by line, carries it out, also its pokes, and writes its report. No oracle looks at its steps: at
+/// the end it compares the kept state once with a walk of all words, and reports the first difference. `alloc` holds
+/// the tables of the trees. Err if the source or the sink failed, once, or memory was refused: the text written until
 /// then is a beginning of the report.
 pub fn audit<A: Allocator + Copy, S: Source, K: Sink>(
     global: Global,

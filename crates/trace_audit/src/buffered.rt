@@ -8,8 +8,8 @@ use std::io::{Read, Write};
 use trace_reader::Outcome;
 use trace_text::{Stopped, play_buffered};
 
-/// Audits a trace, and gives the writer back with the whole report written to it. The report goes through a buffer, which is
-/// written out where the audit stops early too.
+/// Audits a trace, and gives the writer back with the whole report written to it. The report goes through a buffer,
+/// which is written out even if the audit stops early.
 pub fn audit_buffered<A: Allocator + Copy, R: Read + Drop, W: Write + Drop>(
     global: Global,
     alloc: A,

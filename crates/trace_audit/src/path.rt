@@ -20,7 +20,7 @@ fn path_to(page: u64, top: u32, level: u32) -> ArrayVec<u16, 4>
     path
 }
 
-/// The path of a page down to a level. None where the page isn't an input page, or the level isn't one of the tree's.
+/// The path of a page down to a level. None if the page isn't an input page, or the level isn't one of the tree's.
 #[tactic(auto, unfolding(crate::specs::Paths::path_on))]
 pub(crate) fn path_on(geometry: Geometry, page: u64, level: u64) -> Option<ArrayVec<u16, 4>>
     ensures { option_map (λ p. p.items) result ≡ path_on_level geometry page level }

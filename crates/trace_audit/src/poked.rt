@@ -30,7 +30,7 @@ pub struct Audit<A: Allocator> {
 }
 
 impl<A: Allocator + Copy> Audit<A> {
-    /// Nothing said yet. `alloc` is where the tables of the trees lie.
+    /// An audit before the first line. `alloc` holds the tables of the trees.
     pub fn new(global: Global, alloc: A) -> Audit<A>
         ensures start { audited_of result ≡ nothing_audited }
         ensures ready { IsReady result.session }
@@ -130,7 +130,8 @@ impl<A: Allocator + Copy> Audit<A> {
         }
     }
 
-    /// What the audit finds. None where all is the same, as it is without a poke; then it adds to `reads` each word that it reads.
+    /// The audit's finding. None if the kept state is the walked one, as it is without a poke; then it adds the number
+    /// of words that it reads to `reads`.
     pub fn audited(&self, reads: &mut Reads) -> Result<Option<Disagreement>, AllocError>
         ensures found { IfOk result (IsAudited (audited_of self.now)) }
         ensures looks { self.now.poked ≡ None

@@ -10,30 +10,30 @@ use Rattle.trace_text.specs.Reports.{IsPlayed}
 use Rattle.trace_text.specs.Session.{Answer}
 use Rattle.trace_audit.specs.Audited.{Audited, IsAudited, RunsLine, nothing_audited}
 
--- the place of the last of these lines that says something, from a place on, where that of those
--- before them is known
+-- the place of the last of these lines that isn't silent, counted from a place on, given that of
+-- the lines before them
 abbrev pub last_from : ℕ → ℕ → List (List ℕ) → ℕ
 last_from last place [] = last
 last_from last place (line ∷ rest) =
     last_from (if is_silent line then last else place) (place + 1) rest
 
--- and of all lines, 0 where none says anything
+-- and of all lines, 0 if all are silent
 abbrev pub last_said : List (List ℕ) → ℕ
 last_said lines = last_from 0 0 lines
 
--- what a line reports, and what was found behind it where it is the last
+-- the report of a line, followed by the audit's finding if it is the last
 abbrev pub with : Bool → List ReportLine → List ReportLine → List ReportLine
 with is_last found reported = if is_last then reported ++ found else reported
 
--- what lines report, from a place on, and what was found behind what the one at the last place
--- reports
+-- the reports of lines from a place on, with the audit's finding after the report of the line at
+-- the last place
 abbrev pub behind : ℕ → ℕ → List ReportLine → List (List ReportLine) → List (List ReportLine)
 behind place last found [] = []
 behind place last found (reported ∷ more) =
     with (place == last) found reported ∷ behind (place + 1) last found more
 
--- what is told from a line on that answers so: its report, and then what is told of the lines after
--- it. A fault is told last, and then nothing is looked for
+-- the reports from a line with this answer on: its report, and then those of the lines after it. A
+-- fault is the last report, and then no audit follows
 abbrev pub Tells : ℕ → Answer → (List (List ReportLine) → Option Disagreement → Type 0)
     → List (List ReportLine) → Option Disagreement → Type 0
 Tells number (Err (stops.Fault fault)) follows told found =
@@ -43,8 +43,8 @@ Tells number (Ok reported) follows told found =
     (more : List (List ReportLine)) × (told ≡ reported ∷ more) × follows more found
 
 module _ {A : Type 0} where
-  -- the lines of a trace, from a number on, are carried out as an audit does: what each reports, up
-  -- to the first that has a fault, and what is found at the end
+  -- the lines of a trace, from a number on, are carried out as in an audit: each one's report, up
+  -- to the first that has a fault, and the finding at the end
   abbrev pub Runs : ℕ → Audited A → List (List ℕ) → List (List ReportLine) → Option Disagreement
       → Type 0
   Runs number old [] told found = (told ≡ []) × IsAudited old found
@@ -54,7 +54,7 @@ module _ {A : Type 0} where
       × IsPlayed (RunsLine {A = A}) number line old answer new
       × Tells number answer (λ more last. Runs (number + 1) new rest more last) told found
 
--- what the lines of a trace report, with what is found at the end
+-- the reports of the lines of a trace, with the finding at the end
 pub record IsAuditTold (A : Type 0) (lines : List (List ℕ))
     (told : List (List ReportLine)) : Type 0 where
   pub own : List (List ReportLine)

@@ -1,4 +1,4 @@
--- What an expectation wants of a step whose reply may vary (profile).
+-- The texts that an expectation lists for a step whose reply may vary (profile).
 use Rattle.std.specs.Prelude.{ℕ, ◌-◌, Bool, ◌==◌, List, codes, drop, take, length, map, nat_eq, if◌then◌else◌}
 use Rattle.std.specs.Char.{is_ascii_whitespace}
 use Rattle.std.specs.List.{prefix_len, slice_split, starts_with, suffix_len}
@@ -17,6 +17,6 @@ led text = drop (prefix_len is_ascii_whitespace text) text
 abbrev pub trimmed : List ℕ → List ℕ
 trimmed text = take (length (led text) - suffix_len is_ascii_whitespace (led text)) (led text)
 
--- the texts that are wanted: those between bars
+-- the listed texts: those between bars
 abbrev pub kinds : List ℕ → List (List ℕ)
 kinds text = map trimmed (slice_split (λ byte. byte == 0x7c) (behind_word text))

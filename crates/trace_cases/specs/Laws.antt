@@ -1,4 +1,4 @@
--- Laws of what is compared with expectations.
+-- Laws of the reports that are compared with expectations.
 use Rattle.std.specs.Prelude.{ℕ, ◌≤◌, List, ◌++◌, length, Option}
 use Rattle.ghost_judge.specs.declared.disagreement.Disagreement.{Disagreement}
 use Rattle.trace_reader.specs.declared.outcome.Outcome.{Outcome}
@@ -9,8 +9,8 @@ use Rattle.trace_audit.specs.Audited.{Audited, Ends, RunsLine, nothing_audited}
 use Rattle.trace_check.specs.Laws.{reported_by}
 use Rattle.trace_cases.specs.Audits.{Runs}
 
--- what is told of lines from a number on, and what is found behind it, is the report of an audit,
--- but for one last line at most
+-- the reports of lines from a number on, and the finding after them, are the report of an audit,
+-- except for one last line at most
 pub record IsReported (A : Type 0) (number : ℕ) (old : Audited A) (lines : List (List ℕ))
     (told : List (List ReportLine)) (found : Option Disagreement) : Type 0 where
   pub last : List ReportLine

@@ -6,17 +6,17 @@ use Rattle.trace_outcomes.specs.Texts.{text_at}
 use Rattle.trace_cases.specs.Kinds.{is_open, kinds}
 use Rattle.trace_cases.specs.Races.{text_missed}
 
--- what the step at a place is told in some outcomes
+-- the replies to the step at a place in some outcomes
 abbrev pub told_at : List Outcome → ℕ → List (List ℕ)
 told_at found place = map (λ o. text_at place o.replies.items) found
 
--- each outcome tells the step at a place something that is wanted, unless others may come, too; and
--- each that is wanted comes
+-- each outcome's reply to the step at a place is a listed text, unless others may come, too; and
+-- each listed text comes
 pub record IsMet (found : List Outcome) (place : ℕ) (text : List ℕ) : Type 0 where
   pub among : is_open text ≡ false → All (Contains (kinds text)) (told_at found place)
   pub comes : All (Contains (told_at found place)) (kinds text)
 
--- just then nothing of an expectation is missed
+-- an expectation has no miss if and only if it is met
 abbrev pub UnmissedIsMet : Type 0
 UnmissedIsMet =
     (steps : List Asked) (found : List Outcome) (place number : ℕ) (text : List ℕ)

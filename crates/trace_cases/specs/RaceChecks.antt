@@ -17,7 +17,7 @@ use Rattle.trace_cases.specs.declared.races.Raced.{Raced}
 use Rattle.trace_cases.specs.Raced.{RacedOf}
 use Rattle.trace_cases.specs.Races.{race_misses, too_many_words}
 
--- the orders of so many steps lead to too many points
+-- the orders of `made` steps lead to too many points
 pub record ChecksMany (name : List ℕ) (lines : List (List ℕ)) (made : ℕ)
     (checked : Checked) : Type 0 where
   pub text : checked.text.items ≡ file_line name (too_many_words made)
@@ -33,15 +33,15 @@ ChecksRaced name lines r checked =
     (race_misses lines (told_in r.told.items) r.steps.items r.found.items) checked)
     (λ made. ChecksMany name lines made checked)
 
--- and to the bytes of a trace, of which so many lines are before the steps that may be made in any
--- order
+-- and for the bytes of a trace, whose first `count` lines come before the steps that may be made in
+-- any order
 pub record IsRaceChecked (name trace : List ℕ) (count : ℕ) (checked : Checked) : Type 0 where
   pub raced : Raced
   pub is : RacedOf (lines_of trace) count (course_of 1 nothing_asked (lines_of trace)) raced
   pub checks : ChecksRaced name (lines_of trace) raced checked
 
--- the expectation of a step of these replies, where there is one, and it is neither too long nor
--- has a stray byte
+-- the expectation of a step with these replies, if it has any, and the expectation is neither too
+-- long nor has a stray byte
 abbrev pub note_of : List (List ℕ) → List (List ℕ)
 note_of [] = []
 note_of (kind ∷ more) =

@@ -22,7 +22,7 @@ pub record IsAlone (told : List (List ReportLine)) (r : Raced) : Type 0 where
   pub many : r.many ≡ None
 
 module _ (lines : List (List ℕ)) (count : ℕ) where
-  -- so many lines report what they do in a replay
+  -- the first `count` lines report the same as in a replay
   pub record IsRun (told : List (List ReportLine)) : Type 0 where
     pub own : List (List ReportLine)
     pub runs : Runs 1 at_start (take count lines) own
@@ -36,7 +36,7 @@ module _ (lines : List (List ℕ)) (count : ℕ) where
     pub found_is : r.found.items ≡ found
     pub many_is : r.many ≡ many
 
-  -- by what is found
+  -- by the finding
   abbrev pub RacedBy : Asking → Found → Raced → Type 0
   RacedBy a (founds.All o) = IsRaced a o.found.items None
   RacedBy a (founds.TooMany made) = IsRaced a [] (Some made)
@@ -48,7 +48,7 @@ module _ (lines : List (List ℕ)) (count : ℕ) where
     pub finds : Finds 100000 a found
     pub raced : RacedBy a found r
 
-  -- by what the whole trace asks for, of which so many lines are before the steps that may be made
+  -- by the whole trace's requests; its first `count` lines come before the steps that may be made
   -- in any order
   abbrev pub RacedOf : Result Asking (ℕ × Fault) → Raced → Type 0
   RacedOf (Err told) r = IsAlone (faulted 1 told.0 told.1 lines) r

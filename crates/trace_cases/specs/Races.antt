@@ -12,7 +12,7 @@ use Rattle.trace_check.specs.Misses.{Miss, misses, other_words}
 use Rattle.trace_outcomes.specs.Texts.{is_among, kinds_at, places_said, text_at}
 use Rattle.trace_cases.specs.Kinds.{is_open, kinds}
 
--- what lines from a number on report where one of them has a fault: the fault alone
+-- the reports of lines from a number on if one of them has a fault: the fault alone
 abbrev pub faulted : ℕ → ℕ → Fault → List (List ℕ) → List (List ReportLine)
 faulted number at fault [] = []
 faulted number at fault (line ∷ rest) =
@@ -23,12 +23,12 @@ faulted number at fault (line ∷ rest) =
 abbrev pub silences : List (List ℕ) → List (List ReportLine)
 silences lines = map (λ line. []) lines
 
--- what all lines report, where so many are carried out in order, and each step after them may be
--- told several replies: here nothing
+-- the reports of all lines, if the first `count` are carried out in order, and each step after them
+-- may get several replies: here none
 abbrev pub padded : ℕ → List (List ℕ) → List (List ReportLine) → List (List ReportLine)
 padded count lines told = if length told == count then told ++ silences (drop count lines) else told
 
--- the expectation right behind the line of a number
+-- the expectation on the line right after that of a number
 abbrev pub expected_behind : List (List ℕ) → ℕ → Option (List ℕ)
 expected_behind lines number = option_and_then expectation (slice_get lines number)
 
@@ -36,7 +36,7 @@ expected_behind lines number = option_and_then expectation (slice_get lines numb
 abbrev pub is_step_line : List Asked → ℕ → Bool
 is_step_line steps number = list_any (λ a. a.line == number) steps
 
--- a line behind that of a number: an expectation of one of these steps is only a comment
+-- the line after that of a number: an expectation of one of these steps becomes a plain comment
 abbrev pub plain_at : List Asked → ℕ → List ℕ → List ℕ
 plain_at steps number line =
     if is_some (expectation line) && is_step_line steps number then codes "#" else line
@@ -50,7 +50,7 @@ plain_from steps number (line ∷ rest) =
 abbrev pub plain : List Asked → List (List ℕ) → List (List ℕ)
 plain steps lines = plain_from steps 0 lines
 
--- a reply that isn't among those that are wanted, and an order that gives it
+-- a reply that isn't a listed text, and an order that gives it
 abbrev pub order_words : List Asked → Outcome → List ℕ
 order_words steps o = codes " by order" ++ places_said steps o.order.items
 
@@ -58,7 +58,7 @@ abbrev pub other_said : List Asked → List ℕ → ℕ → Outcome → List ℕ
 other_said steps text place o =
     other_words text (text_at place o.replies.items) ++ order_words steps o
 
--- the first outcome whose reply of the step at a place isn't among those that are wanted
+-- the first outcome whose reply to the step at a place isn't a listed text
 abbrev pub other_missed : List Asked → ℕ → List ℕ → List (List ℕ) → ℕ → List Outcome → List Miss
 other_missed steps number text wanted place [] = []
 other_missed steps number text wanted place (o ∷ more) =
@@ -66,12 +66,12 @@ other_missed steps number text wanted place (o ∷ more) =
     then other_missed steps number text wanted place more
     else (number, other_said steps text place o) ∷ []
 
--- none of them where others may come, too
+-- no miss of this kind if others may come, too
 abbrev pub others_missed : List Asked → ℕ → List ℕ → List (List ℕ) → ℕ → List Outcome → List Miss
 others_missed steps number text wanted place found =
     if is_open text then [] else other_missed steps number text wanted place found
 
--- a text that is wanted, and never comes
+-- a listed text that never comes
 abbrev pub never_at : ℕ → List (List ℕ) → List ℕ → List Miss
 never_at number come kind = if is_among come kind then [] else (number, codes "never " ++ kind) ∷ []
 
@@ -79,7 +79,7 @@ abbrev pub never_missed : ℕ → List (List ℕ) → List (List ℕ) → List M
 never_missed number come [] = []
 never_missed number come (kind ∷ more) = never_at number come kind ++ never_missed number come more
 
--- what is missed of the expectation of the step at a place, on the line of a number
+-- the misses of the expectation of the step at a place, on the line of a number
 abbrev pub text_missed : List Asked → List Outcome → ℕ → ℕ → List ℕ → List Miss
 text_missed steps found place number text =
     others_missed steps number text (kinds text) place found

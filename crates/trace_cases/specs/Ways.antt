@@ -1,4 +1,4 @@
--- How a trace is carried out, by its lines (profile).
+-- The way to carry a trace out, by its lines (profile).
 use Rattle.std.specs.Prelude.{ℕ, Bool, List, codes, nat_eq, position, Option}
 use Rattle.std.specs.List.{list_any, starts_with}
 

@@ -1,4 +1,4 @@
-//! Carrying a trace out as an audit does, and keeping what its lines report.
+//! Carrying a trace out as an audit does, and keeping the reports of its lines.
 ghost use Rattle.std.specs.Prelude.{◌≡◌, ◌≤◌, IfOk, length, map};
 ghost use Rattle.trace_audit.specs.Audited.{nothing_audited};
 ghost use Rattle.trace_audit.specs.View.{audited_of};
@@ -23,7 +23,7 @@ struct Carried {
     found: Option<Disagreement>,
 }
 
-/// What the lines of a trace report, with what the audit finds at the end. `alloc` is where the tables of the trees lie.
+/// The reports of the lines of a trace, with the audit's finding at the end. `alloc` holds the tables of the trees.
 pub(crate) fn audited<A: Allocator + Copy>(
     global: Global,
     alloc: A,

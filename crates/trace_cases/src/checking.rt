@@ -15,10 +15,10 @@ use trace_check::{Checked, Watch, check_missed, check_told, count_expected, reco
 use trace_faults::add_file_line;
 use trace_reader::lines;
 
-/// Carries a trace out, and says where its lines don't report what the expectations after them have. One with a poke is audited:
-/// what the audit finds is expected after the last line that says something. Of one with `start` the model makes the steps after it
-/// in each order, and their expectations say all replies. `name` is its file's, for the text, and `watch` says when an oracle looks
-/// at a replay. `alloc` is where the tables of the trees lie. Err where memory was refused.
+/// Carries a trace out, and lists the lines whose reports differ from the expectations after them. One with a poke is
+/// audited: the audit's finding is expected after the last line that isn't silent. In one with `start` the model makes
+/// the steps after it in each order, and their expectations list all replies. `name` is its file's, for the text, and
+/// `watch` says when an oracle looks at a replay. `alloc` holds the tables of the trees. Err if memory was refused.
 pub fn check<A: Allocator + Copy>(
     global: Global,
     alloc: A,
@@ -87,7 +87,7 @@ fn check_told_raced(
     }
 }
 
-/// The orders of so many steps lead to too many points.
+/// The orders of `made` steps lead to too many points.
 fn check_many(global: Global, name: &str, lines: &[&[u8]], made: u64) -> Result<Checked, AllocError>
     ensures { IfOk result (ChecksMany name.now (map (λ line. line.now) lines.now) made) }
 {
@@ -102,10 +102,10 @@ fn check_many(global: Global, name: &str, lines: &[&[u8]], made: u64) -> Result<
     })
 }
 
-/// The trace with its expectations filled in: after each line that reports something, what it reports. Expectations that were
-/// there are left out, all other lines stay as they are, and so do those after a line with a fault. A step after `start` gets all its
-/// replies, and none where its orders lead to too many points. `alloc` is where the tables of the trees lie. Err where memory was
-/// refused.
+/// The trace with its expectations filled in: after each line that reports something, its report. Expectations already
+/// in the trace are left out, all other lines stay as they are, and so do those after a line with a fault. A step after
+/// `start` gets all its replies, and none if its orders lead to too many points. `alloc` holds the tables of the trees.
+/// Err if memory was refused.
 pub fn record<A: Allocator + Copy>(
     global: Global,
     alloc: A,

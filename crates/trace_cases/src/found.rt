@@ -1,4 +1,4 @@
-//! Where what an audit finds stands: behind what the last line that says something reports.
+//! The place of an audit's finding: after the report of the last line that isn't silent.
 ghost use Rattle.std.specs.Prelude.{◌≡◌, ◌++◌, ◌≤◌, IfOk, OnOk, length, map};
 ghost use Rattle.trace_cases.specs.Audits.{behind, last_said as last_said_by, with as with_by};
 ghost use Rattle.trace_check.specs.View.{told_in};
@@ -9,7 +9,7 @@ use ghost_judge::disagreement::Disagreement;
 use std::alloc::{AllocError, Global};
 use trace_text::ReportLine;
 
-/// The place of the last line that says something; 0 where none does.
+/// The place of the last line that isn't silent; 0 if all are.
 pub(crate) fn last_said(lines: &[&[u8]]) -> usize
     ensures { result ≡ last_said_by (map (λ line. line.now) lines.now) }
 {
@@ -29,7 +29,7 @@ fn is_silent(line: &[u8]) -> bool
     matches!(line, [] | [b'#', ..])
 }
 
-/// What lines report, and what was found behind what the one at a place reports.
+/// The reports of lines, with the audit's finding after the report of the line at a place.
 pub(crate) fn with_found(
     global: Global,
     told: &[Vec<ReportLine>],
@@ -47,7 +47,7 @@ pub(crate) fn with_found(
     Ok(all)
 }
 
-/// What a line reports, and what was found behind it where it is the last.
+/// The report of a line, followed by the audit's finding if it is the last.
 fn with(
     global: Global,
     reported: &[ReportLine],

@@ -1,4 +1,4 @@
-//! What an expectation wants of a step whose reply may vary: its texts, and whether others may come, too.
+//! The expectation of a step whose reply may vary: its texts, and whether others may come, too.
 ghost use Rattle.std.specs.Prelude.{◌≡◌, IfOk, map};
 ghost use Rattle.trace_cases.specs.Kinds.{behind_word as behind_word_by, is_open as is_open_by, kinds as kinds_by, trimmed as trimmed_by};
 
@@ -11,7 +11,7 @@ pub(crate) fn is_open(text: &[u8]) -> bool
     text.starts_with(b"sometimes ")
 }
 
-/// What stands behind that word.
+/// The text after that word.
 fn behind_word(text: &[u8]) -> &[u8]
     ensures { result.now ≡ behind_word_by text.now }
 {

@@ -1,5 +1,5 @@
-//! Traces as tests: each is carried out by what stands in it, and compared with what its comments expect. One with a poke is
-//! audited; the steps after `start` are made in each order; any other trace is replayed.
+//! Traces as tests: each is carried out in the way that its lines choose, and compared with the expectations in its
+//! comments. One with a poke is audited; the steps after `start` are made in each order; any other trace is replayed.
 #![tactic(auto)]
 
 mod audited;

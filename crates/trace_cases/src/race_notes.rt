@@ -12,8 +12,8 @@ use trace_outcomes::{add_kinds, kinds_at};
 use trace_race::Asked;
 use trace_text::ReportLine;
 
-/// The trace of these lines with its expectations filled in, by what the lines report, and by all that the steps after `start` may
-/// be told.
+/// The trace of these lines with its expectations filled in, from the reports of the lines, and from all replies that
+/// the steps after `start` may get.
 pub(crate) fn race_text(
     global: Global,
     trace: &[u8],
@@ -118,7 +118,7 @@ fn add_step(
     Ok(())
 }
 
-/// The expectation of a step of these replies, where it is one.
+/// The expectation of a step with these replies, if it is one.
 fn add_note(
     recorded: &mut Vec<Vec<u8>>,
     global: Global,

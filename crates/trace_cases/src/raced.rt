@@ -50,7 +50,7 @@ fn plain<'a>(
     Ok(plain)
 }
 
-/// The line behind that of a number.
+/// The line after that of a number.
 fn plain_at<'a>(steps: &[Asked], number: u64, line: &'a [u8]) -> &'a [u8]
     ensures { result.now ≡ plain_at_by steps.now number line.now }
 {
@@ -106,7 +106,7 @@ fn add_step(
     }
 }
 
-/// The expectation right behind the line of a number.
+/// The expectation on the line right after that of a number.
 fn expected_behind<'a>(lines: &[&'a [u8]], number: u64) -> Option<&'a [u8]>
     ensures text { option_copied result ≡ expected_behind_by (map (λ line. line.now) lines.now) number }
     ensures below { IfSome result (λ _. number < length lines.now) }
@@ -146,7 +146,7 @@ fn add_text(
     add_never(global, missed, number, come.as_slice(), wanted.as_slice())
 }
 
-/// The first outcome whose reply isn't among those that are wanted, unless others may come, too.
+/// The first outcome whose reply isn't a listed text, unless others may come, too.
 fn add_others(
     global: Global,
     missed: &mut Vec<Miss>,
@@ -168,7 +168,7 @@ fn add_others(
     add_other(global, missed, steps, found, place, number, text, wanted)
 }
 
-/// The first outcome whose reply isn't among those that are wanted.
+/// The first outcome whose reply isn't a listed text.
 fn add_other(
     global: Global,
     missed: &mut Vec<Miss>,
@@ -215,7 +215,7 @@ fn other_said(
     Ok(said)
 }
 
-/// The texts that are wanted, and never come.
+/// The listed texts that never come.
 fn add_never(
     global: Global,
     missed: &mut Vec<Miss>,

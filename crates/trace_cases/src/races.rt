@@ -24,9 +24,9 @@ pub(crate) struct Raced {
     pub told: Vec<Vec<ReportLine>>,
     /// The steps after `start`.
     pub steps: Vec<Asked>,
-    /// All that they may be told.
+    /// All outcomes of these steps.
     pub found: Vec<Outcome>,
-    /// Where not all of that is found: the orders of so many steps lead to too many points.
+    /// If not all outcomes were found: the orders of this number of steps lead to too many points.
     pub many: Option<u64>,
 }
 
@@ -124,7 +124,7 @@ fn add_silences(
     Ok(())
 }
 
-/// What the lines of a whole trace report, so many of which stand before the steps that may be made in any order.
+/// The reports of the lines of a whole trace, the first of which come before the steps that may be made in any order.
 fn raced_in<A: Allocator + Copy>(
     global: Global,
     alloc: A,
@@ -157,7 +157,7 @@ fn raced_in<A: Allocator + Copy>(
     }
 }
 
-/// What they report, with what is found of the steps after them.
+/// Their reports, with the outcomes of the steps after them.
 fn run<A: Allocator + Copy>(
     global: Global,
     alloc: A,
@@ -185,7 +185,7 @@ fn run<A: Allocator + Copy>(
     })
 }
 
-/// What all lines report, where so many are carried out in order.
+/// The reports of all lines, if only the first are carried out in order.
 fn run_to<A: Allocator + Copy>(
     global: Global,
     alloc: A,
@@ -201,7 +201,7 @@ fn run_to<A: Allocator + Copy>(
     padded(global, lines, count, told)
 }
 
-/// What all lines report, where those before some place report this.
+/// The reports of all lines, given those of the lines before some place.
 fn padded(
     global: Global,
     lines: &[&[u8]],

@@ -1,4 +1,4 @@
-//! How a trace is carried out, by its lines.
+//! The way to carry a trace out, by its lines.
 ghost use Rattle.std.specs.Prelude.{◌≡◌, ◌<◌, IfSome, length, map};
 ghost use Rattle.std.specs.List.{list_any, position};
 ghost use Rattle.trace_cases.specs.Ways.{has_poke as has_poke_by, is_poke as is_poke_by, is_start as is_start_by, start_at as start_at_by};

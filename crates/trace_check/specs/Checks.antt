@@ -47,7 +47,7 @@ mistaken_lines name number (line ∷ rest) =
     (if is_mistaken line then mistaken_line name number line else [])
     ++ mistaken_lines name (number + 1) rest
 
--- the fault that ended the run, where one did: its line reports it alone
+-- the fault that ended the run, if one did: its line reports it alone
 abbrev pub fault_in : List ReportLine → Option Fault
 fault_in (report.Fault line fault ∷ []) = Some fault
 fault_in other = None
@@ -56,7 +56,7 @@ abbrev pub last_fault : List (List ReportLine) → Option Fault
 last_fault told =
     elim (slice_get told (length told - 1)) [ Some reported ↦ fault_in reported | None ↦ None ]
 
--- where the fault is that ended the run, where something is missed
+-- the place of the fault that ended the run, if there is a miss
 abbrev pub spot_said : List ℕ → List (List ℕ) → List (List ReportLine) → ℕ → List ℕ
 spot_said name lines told missed =
     if missed == 0 then []
@@ -74,7 +74,7 @@ abbrev pub sum_said : List ℕ → ℕ → ℕ → List ℕ
 sum_said name expected wrong =
     file_line name (decimal expected ++ codes " expected, " ++ decimal wrong ++ codes " wrong")
 
--- all that is said of lines that report this and miss that
+-- the whole text for lines with these reports and misses
 abbrev pub said_of : List ℕ → List (List ℕ) → List (List ReportLine) → List Miss → ℕ → ℕ → List ℕ
 said_of name lines told missed expected wrong =
     miss_lines name missed ++ mistaken_lines name 1 lines

@@ -28,7 +28,7 @@ pub record IsMet (lines : List (List ℕ)) (texts : List (List ℕ)) : Type 0 wh
   pub met : misses lines told ≡ rest_missed lines told
   pub again : recorded lines told ≡ lines
 
--- so are the recorded lines of a trace, where both have no more than 1,048,576 lines
+-- so are the recorded lines of a trace, if both have no more than 1,048,576 lines
 abbrev pub RecordedIsMet : Type 0
 RecordedIsMet =
     (lines : List (List ℕ)) (told : List (List ReportLine))
@@ -45,7 +45,7 @@ pub record IsTraceMet (trace : List ℕ) : Type 0 where
   pub met : misses (lines_of trace) told ≡ rest_missed (lines_of trace) told
   pub again : trace ≡ recorded_text trace told
 
--- so is each record of a trace, where both have no more than 1,048,576 lines
+-- so is each record of a trace, if both have no more than 1,048,576 lines
 abbrev pub RecordIsMet : Type 0
 RecordIsMet =
     (trace text : List ℕ)

@@ -55,7 +55,7 @@ abbrev pub is_nothing : List ℕ → List ReportLine → Bool
 is_nothing line [] = is_silent line
 is_nothing line (told ∷ more) = false
 
--- what was reported by the line of a number, against the expectations after it
+-- the report of the line of a number, against the expectations after it
 abbrev pub against : ℕ → List (List ℕ) → List (List ℕ) → List Miss
 against number got texts =
     unmet (number + 1) (codes "got no more") got texts ++ extra number (drop (length texts) got)

@@ -16,7 +16,8 @@ can_expect lines = list_all (λ line. is_some (expectation line)) lines
 abbrev pub notes : List ReportLine → List (List ℕ)
 notes reported = map comment (map shown reported)
 
--- where each of them is an expectation, and so neither too long nor with a stray byte; else none
+-- the notes if each of them is an expectation, and so neither too long nor with a stray byte;
+-- otherwise none
 abbrev pub noted : List ReportLine → List (List ℕ)
 noted reported = if can_expect (notes reported) then notes reported else []
 
@@ -41,7 +42,7 @@ abbrev pub bytes_of : List (List ℕ) → List ℕ
 bytes_of [] = []
 bytes_of (line ∷ rest) = (line ++ 10 ∷ []) ++ bytes_of rest
 
--- and where the last lacks it
+-- and without the last line's end if it lacks it
 abbrev pub joined : Bool → List (List ℕ) → List ℕ
 joined lacking lines =
     if lacking then take (length (bytes_of lines) - 1) (bytes_of lines) else bytes_of lines
@@ -62,8 +63,8 @@ abbrev pub ends_empty : List (List ℕ) → Bool
 ends_empty lines =
     elim (slice_get lines (length lines - 1)) [ None ↦ true | Some line ↦ length line == 0 ]
 
--- whether the last of the lines that a trace is recorded as lacks its end: where the trace's does,
--- and neither an expectation nor an empty line is last
+-- whether the last recorded line lacks its end: if the trace's does, and neither an expectation nor
+-- an empty line is last
 abbrev pub is_lacking : List ℕ → List (List ℕ) → Bool
 is_lacking trace lines = lacks_end trace && (not (ends_expected lines) && not (ends_empty lines))
 

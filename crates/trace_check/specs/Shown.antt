@@ -25,7 +25,7 @@ shown (report.Audited found) = text_of_disagreement found
 shown (report.Fault line fault) = codes "fault " ++ text_of_fault fault
 shown (report.End steps disagreements) = text_of (report.End steps disagreements)
 
--- what must be expected of a line that reports these: `nothing` where it reports no line
+-- the expectations that a line with this report needs: `nothing` if it reports no line
 abbrev pub shown_all : List ReportLine → List (List ℕ)
 shown_all [] = codes "nothing" ∷ []
 shown_all (told ∷ more) = map shown (told ∷ more)

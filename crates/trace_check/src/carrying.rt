@@ -1,4 +1,4 @@
-//! Carrying a trace out, and keeping what its lines report.
+//! Carrying a trace out, and keeping the reports of its lines.
 ghost use Rattle.std.specs.Prelude.{◌≡◌, ◌<◌, ◌≤◌, ◌+◌, ◌^◌, ◌∷◌, [], ◌++◌, IfOk, None, OnOk, map};
 ghost use Rattle.trace_check.specs.Runs.{Runs as RunsBy};
 ghost use Rattle.trace_check.specs.View.{told_in};
@@ -34,7 +34,7 @@ pub struct Carried {
     pub found: Option<Disagreement>,
 }
 
-/// Carries the lines of a trace out. `alloc` is where the tables of the trees lie.
+/// Carries the lines of a trace out. `alloc` holds the tables of the trees.
 pub fn carry_out<A: Allocator + Copy>(
     global: Global,
     alloc: A,

@@ -17,8 +17,8 @@ use trace_text::ReportLine;
 /// What a check of a trace comes to.
 #[derive(Drop)]
 pub struct Checked {
-    /// A line for each miss, `NAME:LINE: ..`, one for each comment that is like an expectation and none, and the numbers of
-    /// expectations and of what is wrong at the end.
+    /// A line for each miss, `NAME:LINE: ..`, one for each comment that resembles an expectation but is none, and at
+    /// the end the numbers of expectations and of errors.
     pub text: Vec<u8>,
     pub expected: u64,
     /// Misses, and comments that are like an expectation and none.
@@ -27,9 +27,9 @@ pub struct Checked {
     pub clean: bool,
 }
 
-/// Carries a trace out, and says where its lines don't report what the expectations after them have, and which comments are like
-/// an expectation, as `#=ok`, and none. `name` is its file's,
-/// for the text. `alloc` is where the tables of the trees lie. Err where memory was refused.
+/// Carries a trace out, and lists the lines whose reports differ from the expectations after them, and the comments
+/// that resemble an expectation, as `#=ok`, but are none. `name` is its file's, for the text. `alloc` holds the tables
+/// of the trees. Err if memory was refused.
 pub fn check<A: Allocator + Copy>(
     global: Global,
     alloc: A,
@@ -79,7 +79,7 @@ pub fn check_told(
     check_missed(global, name, lines, told, missed.as_slice())
 }
 
-/// The check of lines, by what those that were carried out report, and by what is missed of them.
+/// The check of lines, from the reports of those that were carried out, and from the misses.
 pub fn check_missed(
     global: Global,
     name: &str,

@@ -26,8 +26,8 @@ pub fn expectation(line: &[u8]) -> Option<&[u8]>
     Some(&line[3..])
 }
 
-/// Whether a line is a comment that is like an expectation, and is none: after `#` and any number of spaces comes `=`. One of
-/// over 256 bytes, or with a byte that no line may have, is a fault of every run, and not told here.
+/// Whether a line is a comment that resembles an expectation but is none: after `#` and any number of spaces comes `=`.
+/// One of over 256 bytes, or with a byte that no line may have, is a fault of every run, and not reported here.
 pub(crate) fn is_mistaken(line: &[u8]) -> bool
     ensures { result ≡ is_mistaken_line line.now }
 {

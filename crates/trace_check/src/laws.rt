@@ -8,13 +8,14 @@ pub fn recorded_is_met()
     ensures bytes { RecordIsMet }
 {}
 
-/// What is told of the lines of a trace is the report of a replay whose oracle finds no disagreement, but for its last line where
-/// that is no fault.
+/// The reports of the lines of a trace are the report of a replay whose oracle finds no disagreement, except for its
+/// last line if that is no fault.
 pub fn told_is_replayed()
     ensures { ToldIsReplayed }
 {}
 
-/// The numbers of a check are those of its expectations, and of its misses with the comments that are like one: they are told in its last line, and say whether a trace is clean.
+/// A check counts its expectations, and its misses together with the comments that resemble one: its last line has both
+/// counts, and they decide whether a trace is clean.
 pub fn check_counts()
     ensures { CheckCounts }
 {}

@@ -1,4 +1,4 @@
-//! Traces that say what they expect: a comment right after a line has what that line must report.
+//! Traces with expectations: a comment right after a line has the report that the line must give.
 #![tactic(auto)]
 
 mod carrying;

@@ -279,7 +279,7 @@ fn add_expected(
     add(found, number, unmet_said(global, text, why)?)
 }
 
-/// A text that was reported where this was expected.
+/// A text that was reported in place of the expected one.
 fn add_other(
     global: Global,
     found: &mut Vec<Miss>,

@@ -27,9 +27,9 @@ use std::alloc::{AllocError, Allocator, Global};
 use trace_reader::lines;
 use trace_text::ReportLine;
 
-/// The trace with its expectations filled in: after each line that reports something, what it reports. Expectations that were
-/// there are left out, all other lines stay as they are, and so do those after a line with a fault. `alloc` is where the tables
-/// of the trees lie. Err where memory was refused.
+/// The trace with its expectations filled in: after each line that reports something, its report. Expectations already
+/// in the trace are left out, all other lines stay as they are, and so do those after a line with a fault. `alloc`
+/// holds the tables of the trees. Err if memory was refused.
 pub fn record<A: Allocator + Copy>(
     global: Global,
     alloc: A,
@@ -139,7 +139,7 @@ pub fn add_recorded(
     add_noted(recorded, global, reported)
 }
 
-/// The expectations of what a line reports, where all of them are expectations.
+/// The expectations for the report of a line, if each note is an expectation.
 fn add_noted(
     recorded: &mut Vec<Vec<u8>>,
     global: Global,
@@ -160,7 +160,7 @@ fn notes(global: Global, reported: &[ReportLine]) -> Result<Vec<Vec<u8>>, AllocE
     comments(global, texts.as_slice())
 }
 
-/// Lines, where all of them are expectations.
+/// Lines, if all of them are expectations.
 fn add_expected(recorded: &mut Vec<Vec<u8>>, lines: Vec<Vec<u8>>) -> Result<(), AllocError>
     ensures { OnOk result
         (AddsLines recorded.old recorded.new
@@ -251,7 +251,7 @@ fn ends_expected(lines: &[Vec<u8>]) -> bool
     }
 }
 
-/// The bytes of lines, each with its end. The last lacks it where `lacking`.
+/// The bytes of lines, each with its end, but the last without if `lacking`.
 fn joined(global: Global, lines: &[Vec<u8>], lacking: bool) -> Result<Vec<u8>, AllocError>
     ensures { IfOk result (λ text. text.items ≡ joined_by lacking (lines_in lines.now)) }
 {

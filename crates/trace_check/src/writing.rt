@@ -116,7 +116,7 @@ fn add_first(
     Ok(())
 }
 
-/// A line for the place of the fault that ended the run, where one did and something is missed.
+/// A line for the place of the fault that ended the run, if one did and there is a miss.
 pub(crate) fn add_fault(
     text: &mut Vec<u8>,
     global: Global,
@@ -141,7 +141,7 @@ pub(crate) fn add_fault(
     add_place(text, global, name, lines, told.len() - 1, fault)
 }
 
-/// The fault that ended the run, where one did.
+/// The fault that ended the run, if one did.
 fn last_fault(told: &[Vec<ReportLine>]) -> Option<Fault>
     ensures some { IfSome result (λ _. 0 < length told.now) }
     ensures value { result ≡ last_fault_of (told_in told.now) }

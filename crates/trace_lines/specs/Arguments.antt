@@ -12,16 +12,16 @@ use Rattle.trace_words.specs.Numbers.{number_of, decimal_of}
 abbrev pub number_at : List (List ℕ) → ℕ → Option ℕ
 number_at words place = option_and_then number_of (slice_get words place)
 
--- the number at a place, and 1 where the line ends before it
+-- the number at a place, and 1 if the line ends before it
 abbrev pub count_word_at : List (List ℕ) → ℕ → Option ℕ
 count_word_at words place =
     elim (slice_get words place) [ None ↦ Some 1 | Some word ↦ number_of word ]
 
--- 1 where the line has a word at the place
+-- 1 if the line has a word at the place, otherwise 0
 abbrev pub one_more : List (List ℕ) → ℕ → ℕ
 one_more words place = if is_some (slice_get words place) then 1 else 0
 
--- the range that the second and third word tell: its first page and how many pages
+-- the range in the second and third word: its first page and its number of pages
 abbrev pub range_of : List (List ℕ) → Option PageRange
 range_of words =
     option_and_then
@@ -45,7 +45,7 @@ in_slots slot = if nat_le slot 63 then Some slot else None
 abbrev pub slot_word_at : List (List ℕ) → ℕ → Option ℕ
 slot_word_at words place = option_and_then in_slots (number_at words place)
 
--- the parts of a word before, between and behind its dots
+-- the parts of a word before, between and after its dots
 abbrev pub dotted : List ℕ → List (List ℕ)
 dotted word = slice_split (λ byte. byte == 0x2e) word
 

@@ -9,7 +9,7 @@ use Rattle.call_table.specs.Rows.{named, row}
 use Rattle.trace_lines.specs.declared.call.Called.{Called}
 use Rattle.trace_lines.specs.Arguments.{number_at, vm_word_at, kind_word_at, rights_word_at, count_word_at, one_more}
 
--- arguments, of which that of a form is the one that stands at a place
+-- arguments with the one of a form replaced by the argument at a place
 abbrev pub argument_at : Form → List (List ℕ) → ℕ → Arguments → Option Arguments
 argument_at Frame words place a = option_map (λ n. record a { frame = n }) (number_at words place)
 argument_at Page words place a = option_map (λ n. record a { page = n }) (number_at words place)
@@ -29,7 +29,7 @@ arguments_from [] words place a = Some a
 arguments_from (form ∷ more) words place a =
     option_and_then (arguments_from more words (place + 1)) (argument_at form words place a)
 
--- how many words a line has for a form at a place: none where a last count is missing
+-- the number of words that a line has for a form at a place: none if a last count is missing
 abbrev pub words_of : Form → List (List ℕ) → ℕ → ℕ
 words_of LastCount words place = one_more words place
 words_of other words place = 1

@@ -78,8 +78,8 @@ may_tell told Memory = true
 may_tell told Device = true
 may_tell told Carve = is_none told.carve
 
--- whether a line may come after these settings where the program allows these lines: the boot after
--- the carve-out
+-- whether a line may come after these settings if the program allows these lines: the boot only
+-- after the carve-out
 abbrev pub may_stand : Allows → Told → Verb → Bool
 may_stand allows told (Setting name) = allows.settings && may_tell told name
 may_stand allows told Boot = allows.boot && is_some told.carve

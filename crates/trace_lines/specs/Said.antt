@@ -1,5 +1,4 @@
--- What a line of a trace says after what was said before it, or the first fault that it has
--- (profile).
+-- The meaning of a line of a trace after the lines before it, or its first fault (profile).
 use Rattle.std.specs.Prelude.{ℕ, not, nat_lt, ◌==◌, List, length, Option, Some, None, Result, Ok, Err, ok_or, option_map, if◌then◌else◌}
 use Rattle.trace_lines.specs.declared.asked.Asked.{Asked}
 use Rattle.trace_lines.specs.declared.fault.LineFault.{LineFault}
@@ -23,7 +22,7 @@ said_by_asked allows told count (Some asked) =
 abbrev pub said_by_words : Allows → Told → List (List ℕ) → Result (Option Line) LineFault
 said_by_words allows told words = said_by_asked allows told (length words) (asked words)
 
--- what a line says where the program allows these lines: nothing, a line, or its first fault
+-- the meaning of a line if the program allows these lines: nothing, a line, or its first fault
 unfoldable pub said : Allows → Told → List ℕ → Result (Option Line) LineFault
 said allows told line =
     if nat_lt 256 (length line) then Err Long

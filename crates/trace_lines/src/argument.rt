@@ -32,7 +32,7 @@ pub fn number_at(words: &Words<'_>, place: usize) -> Option<u64>
     number(words.get(place)?)
 }
 
-/// The number at a place, and 1 where the line ends before it.
+/// The number at a place, and 1 if the line ends before it.
 pub fn count_at(words: &Words<'_>, place: usize) -> Option<u64>
     ensures { result ≡ count_word_at words.now place }
 {
@@ -42,7 +42,7 @@ pub fn count_at(words: &Words<'_>, place: usize) -> Option<u64>
     }
 }
 
-/// 1 where the line has a word at the place, and else 0.
+/// 1 if the line has a word at the place, otherwise 0.
 pub fn one_more(words: &Words<'_>, place: usize) -> usize
     ensures value { result ≡ one_more_by words.now place }
     ensures few { result ≤ 1 }

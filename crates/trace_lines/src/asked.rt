@@ -24,13 +24,13 @@ use crate::place::{SettingName, Verb};
 use call_table::Step;
 use trace_words::{Words, is_name};
 
-/// What a line asks for by its first words, and what all of them say.
+/// The request of a line by its first words, and the line by all of them.
 #[derive(Clone, Copy)]
 pub struct Asked {
     pub verb: Verb,
     /// How many words such a line has.
     pub words: usize,
-    /// None where a word is missing or not of the form that its place asks.
+    /// None if a word is missing or hasn't the form that its place needs.
     pub line: Option<Line>,
 }
 
@@ -39,12 +39,12 @@ pub struct Asked {
 pub struct NamedTree {
     /// How many words its name has.
     pub words: usize,
-    /// None where a slot is missing or not of its form.
+    /// None if a slot is missing or hasn't the form of one.
     pub tree: Option<TreeName>,
 }
 
 impl Asked {
-    /// What a line asks for. None where its first word, its call, or the tree or pool that it names is unknown or
+    /// The request of a line. None if its first word, its call, or the tree or pool that it names is unknown or
     /// missing. A line whose first word begins with a digit is a step line.
     #[tactic(auto, unfolding(crate::specs::Asked::asked))]
     pub fn of(words: &Words<'_>) -> Option<Asked>

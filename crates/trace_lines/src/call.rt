@@ -16,12 +16,12 @@ const FIRST: usize = 2;
 pub struct Called {
     /// The number of its words: its CPU, the call's name, and the arguments.
     pub words: usize,
-    /// The step that the arguments make. None where one is missing or not of the form that its place asks.
+    /// The step that the arguments make. None if one is missing or hasn't the form that its place needs.
     pub step: Option<Step>,
 }
 
 impl Called {
-    /// What the line of the call of this name has. None where no call has the name.
+    /// The call of this name, with the arguments in the line. None if no call has the name.
     #[tactic(auto, unfolding(crate::specs::Calls::called))]
     pub fn of(name: &[u8], words: &Words<'_>) -> Option<Called>
         ensures { result ≡ called_by words.now name.now }
@@ -73,7 +73,7 @@ fn words_for(form: Form, words: &Words<'_>, place: usize) -> usize
     }
 }
 
-/// Others, with the argument of this form that stands at a place. None where the word there isn't of the form.
+/// The arguments with the one of this form read from a place. None if the word there hasn't the form.
 pub fn argument_at(
     form: Form,
     words: &Words<'_>,

@@ -4,7 +4,7 @@ ghost use Rattle.trace_lines.specs.Texts.{text_of_line_fault};
 
 use std::fmt;
 
-/// What is wrong with a line, by its bytes, its place, and its words.
+/// The fault of a line: in its bytes, its place, or its words.
 #[derive(Clone, Copy, PartialEq, Debug)]
 pub enum LineFault {
     /// Over 256 bytes before the line's end.

@@ -13,8 +13,8 @@ use crate::settings::Settings;
 use trace_reader::MOST_BYTES;
 use trace_words::{Words, has_stray_byte};
 
-/// What a line says after the settings that were given, where the program allows these lines: nothing, a line, or its
-/// first fault.
+/// The meaning of a line after the settings so far, if the program allows these lines: nothing, a line, or its first
+/// fault.
 #[tactic(auto, unfolding(crate::specs::Said::said))]
 pub fn said(allows: Allows, settings: &Settings, line: &[u8]) -> Result<Option<Line>, LineFault>
     ensures value { result ≡ said_by allows (told_of settings.now) line.now }

@@ -1,4 +1,4 @@
-//! Lines of a trace: what they say, their faults, and what they report.
+//! Lines of a trace: their meaning, their faults, and their reports.
 #![tactic(auto)]
 
 pub mod argument;

@@ -118,7 +118,7 @@ pub enum Verb {
     Start,
 }
 
-/// Whether a line may come after these settings, where the program allows these lines.
+/// Whether a line may come after these settings, if the program allows these lines.
 pub fn may_stand(allows: Allows, settings: &Settings, verb: Verb) -> bool
     ensures { result ≡ may_stand_by allows (told_of settings.now) verb }
 {

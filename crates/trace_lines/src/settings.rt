@@ -6,7 +6,7 @@ use crate::line::Setting;
 use page_state::{Config, PageRange, Region, RegionKind};
 use std::alloc::{AllocError, Global};
 
-/// What was said before boot. What wasn't said has its default at boot.
+/// The settings in the lines before boot. One that no line sets has its default at boot.
 #[derive(Drop)]
 pub struct Settings {
     pub geometry: Option<u64>,
@@ -17,7 +17,7 @@ pub struct Settings {
 }
 
 impl Settings {
-    /// Nothing said.
+    /// No settings.
     pub fn new(global: Global) -> Settings
         ensures { told_of result ≡ nothing_told }
     {

@@ -12,25 +12,25 @@ use Rattle.trace_outcomes.specs.Races.{Texts, first_of, nothing_told, nothing_wa
 use Rattle.trace_outcomes.specs.Texts.{all_said}
 use Rattle.trace_outcomes.specs.Told.{OnBoot}
 
--- what the steps before `start` are told, and all outcomes of those after it, from the state that
--- those lead to
+-- the replies to the steps before `start`, and all outcomes of those after it, from the state that
+-- those before lead to
 pub record FindsAll (m : Machine) (a : Asking) (o : Outcomes) : Type 0 where
   pub replies : o.replies.items ≡ (told_first m a (nothing_told a.steps)).0
   pub count : length o.replies.items ≡ length (first_of a)
   pub all : AllOutcomes m.layout (told_first m a (nothing_told a.steps)).1
       (turns_raced a (nothing_told a.steps)) (nothing_wanted (raced_of a)) o.found.items
 
--- the lines that tell of it
+-- the lines that report it
 abbrev pub found_said : Asking → Outcomes → List ℕ
 found_said a o = all_said (first_of a) o.replies.items (raced_of a) o.found.items
 
--- orders of so many steps lead to more points than the limit
+-- orders of `made` steps lead to more points than the limit
 abbrev pub HasTooMany : ℕ → Machine → Asking → ℕ → Type 0
 HasTooMany limit m a made =
     HasMorePoints m.layout (told_first m a (nothing_told a.steps)).1
     (turns_raced a (nothing_told a.steps)) (nothing_wanted (raced_of a)) limit made
 
--- what is found of the steps that are made on a machine
+-- the finding for the steps that are made on a machine
 abbrev pub FindsOn : ℕ → Asking → Machine → Found → Type 0
 FindsOn limit a m (founds.All o) = FindsAll m a o
 FindsOn limit a m (founds.TooMany made) = HasTooMany limit m a made
@@ -43,6 +43,6 @@ Finds limit a =
     OnBoot (λ number fault f. f ≡ founds.Fault number fault) (λ f. f ≡ founds.Idle)
     (FindsOn limit a) a
 
--- what is found of each machine at whose state before the steps after `start` a race stands
+-- the finding for each machine whose state before the steps after `start` is the race's
 abbrev pub FindsMade : ℕ → Asking → Texts → Race → Found → Type 0
 FindsMade limit a texts r f = (m : Machine) → HasMade m a texts r → FindsOn limit a m f

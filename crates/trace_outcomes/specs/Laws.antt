@@ -25,10 +25,9 @@ turns_told (a ∷ more) [] = []
 turns_told (a ∷ more) (reply ∷ replies) =
     record { cpu = a.cpu; step = a.step; wants = is_want reply } ∷ turns_told more replies
 
--- Replies of which there is one legal history: these are what the model tells the steps before
--- `start`, made in order. From the state that they lead to, the others are an outcome of the steps
--- behind `start`, in any order of the CPUs, unless one of them tells of a full log or of a part
--- that was taken
+-- If replies have one legal history, the model gives the steps before `start` these replies, made
+-- in order. From the state that they lead to, the others are an outcome of the steps after `start`,
+-- in any order of the CPUs, unless one of them reports a full log or a part that was taken
 abbrev pub HistoriesAreOutcomes : Type 0
 HistoriesAreOutcomes =
     (l : Layout) (start : ℕ) (steps : List Asked) (replies : List Reply)
@@ -42,7 +41,7 @@ HistoriesAreOutcomes =
     × IsOutcome l first.1 (turns_told (drop start steps) (drop start replies))
     (drop start replies)
 
--- So where none is `nomemory`, the steps before `start` have the replies that the outcomes of the
+-- So if none is `nomemory`, the steps before `start` have the replies that the outcomes of the
 -- trace begin with, and the others are among these
 abbrev pub RacesAreTold : Type 0
 RacesAreTold =

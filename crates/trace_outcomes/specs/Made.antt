@@ -12,8 +12,8 @@ use Rattle.trace_outcomes.specs.declared.making.Race.{Race}
 use Rattle.trace_outcomes.specs.declared.telling.Told.{Told}
 use Rattle.trace_outcomes.specs.Races.{Texts, first_of, told_first, turns_raced}
 
--- the steps that are to be made at once are of CPUs that there are, something or nothing is wanted
--- of each, each before them has its reply, and no generation is near the last
+-- the steps that are made at once are of CPUs that exist, the list of wanted texts has an entry for
+-- each, each step before them has its reply, and no generation is near the last
 pub record IsReady (a : Asking) (wanted : List (Option (Vec ℕ Global))) (r : Race) : Type 0 where
   pub cpus : All (λ t. t.cpu < r.state.layout.config.cpus) r.turns.items
   pub count : length wanted ≡ length r.turns.items

@@ -17,7 +17,7 @@ abbrev pub IsReportOf : Result Texts (List ℕ) → Report → Type 0
 IsReportOf told (reports.Texts texts) = told ≡ Ok (texts_in texts.items)
 IsReportOf told (reports.Fault said) = told ≡ Err said.items
 
--- something or nothing of each of so many steps
+-- a report has an entry, a text or none, for each of `count` steps
 abbrev pub IsCounted : ℕ → Report → Type 0
 IsCounted count (reports.Texts texts) = length texts.items ≡ count
 IsCounted count (reports.Fault said) = Unit {0}

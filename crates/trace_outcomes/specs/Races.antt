@@ -21,7 +21,7 @@ texts_in texts = map (option_map (λ v. v.items)) texts
 abbrev pub nothing_told : List Asked → Texts
 nothing_told steps = map (λ a. None) steps
 
--- and so nothing is wanted of their replies
+-- no wanted text for any of these steps
 abbrev pub nothing_wanted : List Asked → List (Option (Vec ℕ Global))
 nothing_wanted steps = map (λ a. None) steps
 

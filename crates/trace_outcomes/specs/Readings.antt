@@ -11,7 +11,7 @@ use Rattle.trace_race.specs.Courses.{Asking, IsSound, course_in, course_of, noth
 use Rattle.trace_outcomes.specs.declared.reading.Read.{Read}
 use Rattle.trace_outcomes.specs.declared.reading.Read.TheVariants as reads
 
--- what was asked for, or the first fault with the number of its line
+-- the requests, or the first fault with the number of its line
 abbrev pub asked_in : Read → Result Asking (ℕ × Fault)
 asked_in (reads.Whole course) = Ok (course_in course)
 asked_in (reads.Fault line fault) = Err (line, fault)

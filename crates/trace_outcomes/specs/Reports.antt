@@ -20,7 +20,7 @@ is_passed line =
     bytes_eq (first_word line) (codes "boot") || bytes_eq (first_word line) (codes "word")
     || bytes_eq (first_word line) (codes "free") || bytes_eq (first_word line) (codes "end")
 
--- the text behind the first space
+-- the text after the first space
 abbrev pub behind_space : List ℕ → List ℕ
 behind_space [] = []
 behind_space (byte ∷ more) = if byte == 0x20 then more else behind_space more
@@ -75,14 +75,15 @@ abbrev pub told_with : List Asked → Texts → List ℕ → Result Texts Report
 told_with steps texts line =
     if is_passed line then Ok texts else told_by steps texts line (step_said line)
 
--- the form wanted of a line that can't be read
+-- the form expected of a line that can't be read
 abbrev pub wanted_of : ReportFault → List ℕ
 wanted_of Form = codes "a line of a race's report"
 wanted_of NoStep = codes "the line and the CPU of a step of the trace"
 wanted_of NoReply = codes "a reply behind line and CPU"
 wanted_of Twice = codes "a step of which no line before this tells"
 
--- the place of a fault, and what was found and wanted there; `name` is the report's file
+-- the place of a fault, with the text found and the form expected there; `name` is the report's
+-- file
 abbrev pub place_said : List ℕ → ℕ → List ℕ
 place_said name number = name ++ (codes ":" ++ decimal number ++ codes ":1: ")
 
@@ -92,7 +93,7 @@ found_said line wanted = codes "found `" ++ line ++ codes "`, wanted " ++ wanted
 abbrev pub fault_said : List ℕ → ℕ → List ℕ → ReportFault → List ℕ
 fault_said name number line fault = place_said name number ++ found_said line (wanted_of fault)
 
--- what lines tell, from a number on; or the place of the first fault
+-- the texts of lines from a number on, or the place of the first fault
 abbrev pub onward : List ℕ → ℕ → List ℕ → Result Texts ReportFault → (Texts → Result Texts (List ℕ))
     → Result Texts (List ℕ)
 onward name number line (Ok texts) more = more texts

@@ -55,7 +55,7 @@ varied_from found place [] = []
 varied_from found place (a ∷ more) =
     nat_lt 1 (length (kinds_at found place)) ∷ varied_from found (place + 1) more
 
--- the reply of a step, where it varies
+-- the reply of a step, if it varies
 unfoldable pub varied_reply : Asked → Bool → List ℕ → List ℕ
 varied_reply a true reply = (decimal a.line ++ codes " ") ++ reply ++ codes "; "
 varied_reply a false reply = []

@@ -61,8 +61,8 @@ pub record IsBoot {T : Type 0} (Tells : Machine → T → Type 0) (a : Asking) (
   pub booted : IsBootOf (memory_of a.told.regions carve) (config_of a.told) machine
   pub tells : Tells machine t
 
--- what is told of a trace whose boot is refused, where nothing boots, and where a machine does; a
--- boot stands behind a carve-out
+-- the answer to a trace whose boot is refused, to one without a boot, and to one that boots a
+-- machine; a boot comes after a carve-out
 abbrev pub OnBoot : {T : Type 0}
     → (ℕ → Fault → T → Type 0)
     → (T → Type 0)
@@ -80,8 +80,8 @@ abbrev pub OnRead : (Asking → Told → Type 0) → Result Asking (ℕ × Fault
 OnRead Tells (Err told) t = TellsFault told.0 told.1 t
 OnRead Tells (Ok a) t = Tells a t
 
--- more than so many points of a layer were met: orders of so many steps, with replies that are
--- wanted, lead to them
+-- a layer has more points than the limit: orders of `made` steps, whose replies have the wanted
+-- texts, lead to them
 pub record TellsTooMany (m : Machine) (a : Asking) (texts : Texts)
     (wanted : List (Option (Vec ℕ Global))) (limit : ℕ) (t : Told) : Type 0 where
   pub made : ℕ

@@ -19,12 +19,12 @@ use trace_race::Course;
 use trace_reader::Progress;
 use trace_text::{Fault, Stop};
 
-/// All that the steps of a trace may be told.
+/// All replies that the steps of a trace may get.
 #[derive(Drop)]
 pub struct Outcomes {
-    /// What the steps before `start` are told, in order.
+    /// The replies to the steps before `start`, in order.
     pub replies: Vec<Reply>,
-    /// What those after it may be told, each once.
+    /// The lists of replies that those after it may get, each once.
     pub found: Vec<Outcome>,
 }
 
@@ -35,14 +35,15 @@ pub enum Found {
     Fault(u64, Fault),
     /// Nothing boots, since the trace has no `boot`.
     Idle,
-    /// Orders of so many steps lead to more points than the limit.
+    /// Orders of this number of steps lead to more points than the limit.
     TooMany(u64),
     All(Outcomes),
 }
 
-/// Finds what the steps that a trace asks for may be told: those before `start` in order, and those after it in any order that keeps
-/// each CPU's own. Where orders of some number of steps lead to more points than `limit`, which are states with the replies so far,
-/// that is the answer. Err where memory was refused. `progress` is told of each point that is left.
+/// Finds the replies that the steps of a trace may get: those before `start` in order, and those after it in any order
+/// that keeps each CPU's own. If orders of some number of steps lead to more points than `limit`, which are states with
+/// the replies so far, that is the answer. Err if memory was refused. `progress` gets a call for each point that is
+/// left.
 pub fn find_outcomes<P: Progress>(
     global: Global,
     course: &Course,

@@ -1,14 +1,15 @@
 //! The report of a race is an outcome of its steps, and its replies are read. Each function does nothing, and its contract is the law.
 ghost use Rattle.trace_outcomes.specs.Laws.{HistoriesAreOutcomes, LinesAreRead, RacesAreTold, RepliesAreRead};
 
-/// Replies of which there is one legal history, as of each race: the model tells the steps before `start` just theirs, and
-/// from there on the others are an outcome of the steps behind `start`, unless one of them tells of a full log.
+/// If replies have one legal history, as those of each race have, the model gives the steps before `start` exactly
+/// these replies, and from there on the others are an outcome of the steps after `start`, unless one of them reports a
+/// full log or a part that was taken.
 pub fn histories_are_outcomes()
     ensures { HistoriesAreOutcomes }
 {}
 
-/// What a race tells, if it tells of no want of memory and behind `start` of no full log, is told of the trace: all outcomes
-/// have its replies.
+/// All outcomes of a trace have the replies of each of its races that reports no lack of memory, and after `start` no
+/// full log.
 pub fn races_are_told()
     ensures { RacesAreTold }
 {}

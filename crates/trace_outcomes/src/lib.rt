@@ -1,5 +1,5 @@
-//! What the steps of a trace that are made at once may be told, in any order of the CPUs' steps: each outcome, with an order that
-//! gives it; and whether the replies of a report are one of these.
+//! All replies that the steps made at once in a trace may get, in any order of the CPUs' steps: each outcome, with an
+//! order that gives it; and whether the replies of a report are one of these.
 #![tactic(auto)]
 
 mod booting;

@@ -28,7 +28,7 @@ pub(crate) struct Race {
     pub turns: Vec<Turn>,
 }
 
-/// No reply to any of so many steps.
+/// No reply to any of these steps.
 pub(crate) fn nothing_told(
     global: Global,
     steps: &[Asked],

@@ -16,7 +16,7 @@ use trace_words::{Words, decimal, is_name};
 pub(crate) enum Report {
     /// The text of the reply to each step, if there is one.
     Texts(Vec<Option<Vec<u8>>>),
-    /// The place of the first fault, and what was found and wanted there.
+    /// The place of the first fault, with the text found and the form expected there.
     Fault(Vec<u8>),
 }
 
@@ -45,7 +45,7 @@ fn is_passed(line: &[u8]) -> bool
         || is_name(first, b"end")
 }
 
-/// What is behind the first space of a line.
+/// The text after the first space of a line; empty if it has none.
 fn behind_space(line: &[u8]) -> &[u8]
     ensures { result.now ≡ behind_space_of line.now }
 {
@@ -183,7 +183,7 @@ fn read_lines(
     Ok(Report::Texts(texts))
 }
 
-/// What is wanted of a line.
+/// The form expected of a line that has this fault.
 fn wanted_of(fault: ReportFault) -> &'static str
     ensures { result.now ≡ wanted_by fault }
 {
@@ -219,7 +219,7 @@ fn place_said(global: Global, name: &str, number: u64) -> Result<Vec<u8>, AllocE
     Ok(said)
 }
 
-/// The word found in a line, and the form wanted there.
+/// The word found in a line, and the form expected there.
 fn add_found(said: &mut Vec<u8>, line: &[u8], wanted: &str) -> Result<(), AllocError>
     ensures { OnOk result (said.new.items ≡ said.old.items ++ found_said line.now wanted.now) }
 {

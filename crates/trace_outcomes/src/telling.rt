@@ -35,7 +35,7 @@ pub struct Told {
     pub text: Vec<u8>,
     /// Clean if all outcomes are given, or an order; Fault if the trace or the report has a fault; Disagreed otherwise.
     pub outcome: Outcome,
-    /// The trace's fault, and the number of its line, where it has one.
+    /// The trace's fault, and the number of its line, if it has one.
     pub fault: Option<(u64, Fault)>,
 }
 
@@ -89,10 +89,10 @@ fn too_many(global: Global, fault: OutcomesFault) -> Result<Told, AllocError>
     }
 }
 
-/// Tells what the steps of a trace may be told: those before `start` in order, and those after it in any order that keeps each
-/// CPU's own. Each list of replies is told once, with an order that gives it. Where orders of some number of steps lead to more
-/// points than `limit`, which are states with the replies so far, that is the whole text. Err where memory was refused. `progress`
-/// is told of each point that is left.
+/// Writes the replies that the steps of a trace may get: those before `start` in order, and those after it in any order
+/// that keeps each CPU's own. Each list of replies comes once, with an order that gives it. If orders of some number of
+/// steps lead to more points than `limit`, which are states with the replies so far, that is the whole text. Err if
+/// memory was refused. `progress` gets a call for each point that is left.
 pub fn tell_outcomes<P: Progress>(
     global: Global,
     trace: &[u8],
@@ -163,9 +163,10 @@ fn all_told(global: Global, course: &Course, outcomes: &Outcomes) -> Result<Told
     Ok(clean(text))
 }
 
-/// Tells an order of a trace's steps after `start` that gives the replies of a report, or that none does, or the first step before
-/// `start` of which the report tells something else than the model. `name` is the report's file, for the place of its first fault.
-/// A step without a reply in it may get any reply but `nomemory`. Too many points, and Err, are as for all outcomes.
+/// Writes an order of a trace's steps after `start` that gives the replies of a report, or that there is none, or the
+/// first step before `start` whose reply in the report isn't the model's. `name` is the report's file, for the place of
+/// its first fault. A step without a reply in it may get any reply but `nomemory`. Too many points, and Err, are as for
+/// all outcomes.
 pub fn tell_order<P: Progress>(
     global: Global,
     trace: &[u8],

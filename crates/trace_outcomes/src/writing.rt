@@ -137,7 +137,7 @@ pub fn kinds_at(global: Global, found: &[Outcome], place: usize) -> Result<Vec<V
     Ok(kinds)
 }
 
-/// The texts behind a first one, each behind ` | `.
+/// The texts after a first one, each after ` | `.
 fn add_behind(text: &mut Vec<u8>, kinds: &[Vec<u8>]) -> Result<(), AllocError>
     ensures { OnOk result (text.new.items ≡ text.old.items ++ behind_bars (map (λ v. v.items) kinds.now)) }
 {
@@ -199,7 +199,7 @@ fn add_steps(
     Ok(varied)
 }
 
-/// The reply of a step, where it varies.
+/// The reply of a step, if it varies.
 #[tactic(auto, unfolding(crate::specs::Texts::varied_reply))]
 fn add_varied(
     text: &mut Vec<u8>,

@@ -75,7 +75,7 @@ follows number (Ok (Some line)) a = said_of number line a
 abbrev pub taken : ℕ → List ℕ → Asking → Result Asking Fault
 taken number bytes a = follows number (said (allowed a) a.told bytes) a
 
--- all lines from a number on: what they ask for, or the first fault with its line
+-- all lines from a number on: the requests that they add up to, or the first fault with its line
 abbrev pub onward : ℕ → Result Asking Fault → (Asking → Result Asking (ℕ × Fault))
     → Result Asking (ℕ × Fault)
 onward number (Ok a) more = more a

@@ -4,7 +4,7 @@ use Rattle.trace_race.specs.declared.fault.RaceFault.{RaceFault}
 use Rattle.trace_race.specs.declared.fault.RaceFault.TheVariants.{Engine, Start}
 use Rattle.trace_text.specs.Failures.{CountsReads, CountsWrites, TellsWrite}
 
--- as for a replay; where a thread couldn't be started neither has failed
+-- as for a replay; if a thread couldn't start, neither has failed
 abbrev pub RaceReads : {X : Type 0} → ℕ → ℕ → Result X RaceFault → Type 0
 RaceReads before after (Ok x) = after ≡ before
 RaceReads {X = X} before after (Err (Engine fault)) = CountsReads {X = X} before after (Err fault)

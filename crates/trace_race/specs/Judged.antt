@@ -27,22 +27,22 @@ pub record IsApart (said spec : Reply) (found : Option Disagreement) : Type 0 wh
   pub same : said ≡ spec → found ≡ None
   pub differ : said ≢ spec → found ≡ Some (ReplyDiffers said spec)
 
--- a call that wanted memory, where all stays: none where the model makes the step and it can take
--- memory, and else the first difference
+-- a call that lacked memory leaves the state: no finding if the model makes the step and it can
+-- take memory, and otherwise the first difference
 pub record IsJudgedWant (l : Layout) (g : Reference) (cpu : ℕ) (step : Step) (said : Reply)
     (found : Option Disagreement) : Type 0 where
   pub none : (found ≡ None) ↔ JudgeAgrees g.contents step said g.contents (foretell l g cpu step)
   pub first : IfSome found (IsFirstJudged g.contents step said g.contents (foretell l g cpu step))
 
--- how one call of a list is judged, on the state before it, and the state after it: a call that
--- wanted memory leaves it
+-- the judgement of one call of a list on the state before it, and the state after it: a call that
+-- lacked memory leaves the state
 pub record Judges (l : Layout) (g : Reference) (cpu : ℕ) (step : Step) (said : Reply)
     (found : Option Disagreement) (h : Reference) : Type 0 where
   pub wants : said ≡ Refused NoMemory → (h ≡ g) × IsJudgedWant l g cpu step said found
   pub other : said ≢ Refused NoMemory
       → (h ≡ (foretell l g cpu step).1) × IsApart said (foretell l g cpu step).0 found
 
--- the finding at one call, in front of those behind it
+-- the finding at one call, followed by those of later calls
 abbrev pub with_found : Option Disagreement → List Disagreement → List Disagreement
 with_found None more = more
 with_found (Some d) more = d ∷ more

@@ -19,8 +19,8 @@ use Rattle.trace_race.specs.Made.{FindsFull, IsCpus, OneHistory, answers_of, is_
 abbrev pub told_by : Call → Step × Reply
 told_by c = (c.step, c.reply)
 
--- a log that has no call isn't full: where a log can store one, a trace's only step isn't answered
--- LogFull, whether it stands before `start` or behind it
+-- a log that has no call isn't full: if a log can store a call, a trace's only step isn't answered
+-- LogFull, before or after `start`
 abbrev pub FirstNotFull : Type 0
 FirstNotFull =
     (key : TheLayout) (start : ℕ) (a : Asked)
@@ -29,9 +29,9 @@ FirstNotFull =
     → OneHistory (layout_of key) start (a ∷ []) (Refused LogFull ∷ [])
     → ⊥
 
--- Where a CPU was answered LogFull behind `start`, its list had, behind its calls from before
--- `start`, just its steps before that were stored, with their replies. These calls begin its calls
--- in the history, and a log that would store the step is full there
+-- If a CPU was answered LogFull after `start`, its list held its calls from before `start`, then
+-- exactly those of its steps before this one that were stored, with their replies. These calls
+-- begin its calls in the history, and a log that would store the step is full there
 abbrev pub FullAfter : Type 0
 FullAfter =
     (key : TheLayout) (cpu : ℕ) (before after : List (Step × Reply)) (step : Step) (at : Reference)

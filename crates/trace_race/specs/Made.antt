@@ -36,7 +36,7 @@ abbrev pub steps_of : ℕ → List Asked → List Step
 steps_of cpu [] = []
 steps_of cpu (a ∷ more) = if a.cpu == cpu then a.step ∷ steps_of cpu more else steps_of cpu more
 
--- and with their replies, where each step of the trace has one
+-- and with their replies, if each step of the trace has one
 abbrev pub answers_of : ℕ → List Asked → List Reply → List (Step × Reply)
 answers_of cpu [] replies = []
 answers_of cpu (a ∷ more) [] = []
@@ -66,7 +66,7 @@ abbrev pub Makes : Known → List (Step × Reply) → Known → Type 0
 Makes v answers w = MakeAll Calls v answers w
 
 -- a log that would store the pass's step is full in the history: its CPU has made as many calls as
--- a log can store, or so many calls used a part that the step uses
+-- a log can store, or that many calls used a part that the step uses
 abbrev pub FindsFull : Layout → List Call → Step → Known → Type 0
 FindsFull l log step v =
     (length (calls_by v.cpu log) ≡ l.config.log)
@@ -98,14 +98,13 @@ asked_with [] replies = []
 asked_with (a ∷ more) [] = []
 asked_with (a ∷ more) (reply ∷ replies) = (a.cpu, a.step, reply) ∷ asked_with more replies
 
--- what a CPU's pass knows before its first call, where it begins with this state of its own
+-- the knowledge of a CPU's pass before its first call, if it begins with this state of its own
 abbrev pub known_with : TheLayout → ℕ → CpuState → Known
 known_with key cpu own = record { layout = key; cpu = cpu; own = own; seen = []; tries = [] }
 
--- A CPU's calls behind others in a history are its steps in the trace's order, with the replies
--- that it was given, but for those that a full log refused. For each of these a log that would
--- store it is full in the history: `makes`. It begins with its own state after those others,
--- `first`
+-- A CPU's calls in a history, after those in `before`, are its steps in the trace's order, with the
+-- replies that it got, except for those that a full log refused. For each of these a log that would
+-- store it is full in the history: `makes`. It begins with its own state after `before`, `first`
 pub record IsCpus (key : TheLayout) (cpu : ℕ) (answers : List (Step × Reply)) (at : Reference)
     (before log : List Call) : Type 0 where
   pub calls : map (λ c. (c.step, c.reply)) (calls_by cpu log) ≡ filter (λ a. is_stored a.1) answers
@@ -117,10 +116,9 @@ pub record IsCpus (key : TheLayout) (cpu : ℕ) (answers : List (Step × Reply))
       (known_with key cpu first) answers last
   pub own : calls_by cpu (before ++ log) ≡ last.own.log.calls
 
--- There is one legal history of the steps with their replies. It begins with a run of the steps
--- before `start`, of which there are so many, in the trace's order, each with its reply. From the
--- state that they lead to, it goes on by calls that are stored, in which each CPU's calls are the
--- CPU's own steps behind `start`
+-- There is one legal history of the steps with their replies. It begins with a run of the first
+-- `start` steps, in the trace's order, each with its reply. From the state that they lead to, it
+-- continues with stored calls, in which each CPU's calls are the CPU's own steps after these
 pub record OneHistory (layout : Layout) (start : ℕ) (steps : List Asked)
     (replies : List Reply) : Type 0 where
   pub key : TheLayout
@@ -151,8 +149,8 @@ pub record HasRun {A : Type 0} (p : Parts A) (steps : List Asked) (replies : Lis
   pub asked : told_of calls ≡ asked_with steps replies
   pub goes : Runs Goes p calls q
 
--- a table begins where steps lead that were made one after another from a boot on: these are a run,
--- and those of them that are stored are in the logs with which the table begins
+-- a table begins in the state that steps lead to that were made one after another from a boot on:
+-- these are a run, and the logs with which the table begins have those of them that are stored
 pub record HasBegun (t : Opened) (steps : List Asked) (replies : List Reply) : Type 0 where
   pub ready : CanBoot (layout_of t.layout)
   pub replied : length replies ≡ length steps
@@ -187,7 +185,7 @@ pub record AreDone (t : Opened) (steps : List Asked) (replies : List Reply)
   pub count : length passes ≡ t.layout.config.cpus
   pub each : (cpu : ℕ) (p : Pass) → slice_get passes cpu ≡ Some p → IsDone t steps replies cpu p
 
--- all these steps were made, and their replies are put behind others
+-- all these steps were made, and their replies are appended to others
 abbrev pub AddsDone : Opened → List Asked → List Reply → List Reply → List Pass → Type 0
 AddsDone t steps old new passes =
     (more : List Reply)
@@ -195,7 +193,7 @@ AddsDone t steps old new passes =
     × (length more ≡ length steps)
     × AreDone t steps more passes
 
--- all steps were made: so many before the table was opened, and those behind them by the passes
+-- all steps were made: the first `start` before the table was opened, and the others by the passes
 pub record AreMade (t : Opened) (start : ℕ) (steps : List Asked) (replies : List Reply)
     (passes : List Pass) : Type 0 where
   pub begun : HasBegun t (take start steps) (take start replies)

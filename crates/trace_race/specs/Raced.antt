@@ -43,7 +43,7 @@ found_lines judged audited steps =
 abbrev pub found_outcome : List Disagreement → Option Disagreement → Outcome
 found_outcome judged audited = outcome_of (length judged + length (audited_lines audited))
 
--- the lines behind the boot line: those of the steps, and the last. No line disagrees
+-- the lines after the boot line: those of the steps, and the last. No line disagrees
 abbrev pub lines_behind : List Asked → List Reply → List ReportLine
 lines_behind steps replies = step_lines steps replies ++ report.End (length steps) 0 ∷ []
 
@@ -63,7 +63,7 @@ pub record IsNoRun (a : Asking) (carve : PageRange) (number : ℕ) (lines : List
 abbrev pub IsIdle : List ReportLine → Outcome → Type 0
 IsIdle lines outcome = (lines ≡ report.End 0 0 ∷ []) × (outcome ≡ outcomes.Clean)
 
--- what is wanted of the machine, of what a trace asks for and of the replies
+-- the requirement on the machine, given the trace's requests and the replies
 module _ (Ran : Machine → Asking → List Reply → Type 0) where
   -- a machine was booted, and the steps were made: each has a reply
   pub record IsRun (a : Asking) (carve : PageRange) (lines : List ReportLine)
@@ -107,14 +107,14 @@ pub record IsBootLine (a : Asking) (lines : List ReportLine) : Type 0 where
   pub booted : IsBootOf (memory_of a.told.regions carve) (config_of a.told) machine
   pub lines_are : lines ≡ report.Response (boot_told machine) ∷ []
 
--- what a race that stops early has begun: its whole report, or the boot line alone, where not all
--- steps were made
+-- the lines of a race that stops early: its whole report, or only the boot line, if not all steps
+-- were made
 abbrev pub IsBegunOf : Result Asking (ℕ × Fault) → List ReportLine → Type 0
 IsBegunOf (Err told) lines = lines ≡ report.Fault told.0 told.1 ∷ []
 IsBegunOf (Ok a) lines =
     ((outcome : Outcome) × IsRaceOf HasOneHistory a lines outcome) ⊎ IsBootLine a lines
 
--- what was written is the report of a race of the trace of these bytes, where they are known
+-- the written text is the report of a race of the trace of these bytes, if they are known
 pub record IsRaced (bytes old new : Option (List ℕ)) (outcome : Outcome) : Type 0 where
   pub lines : List ReportLine
   pub written : Appends old new (text_of_report lines)

@@ -6,7 +6,7 @@ use Rattle.trace_race.specs.declared.reading.Read.{Read}
 use Rattle.trace_race.specs.declared.reading.Read.TheVariants as reads
 use Rattle.trace_race.specs.Courses.{Asking, IsSound, course_in, course_of, nothing_asked}
 
--- what was asked for, or the first fault
+-- the requests, or the first fault
 abbrev pub asked_in : Read → Result Asking (ℕ × Fault)
 asked_in (reads.Whole course) = Ok (course_in course)
 asked_in (reads.Fault line fault) = Err (line, fault)
@@ -15,7 +15,7 @@ abbrev pub IsSoundRead : Read → Type 0
 IsSoundRead (reads.Whole course) = IsSound (course_in course)
 IsSoundRead (reads.Fault line fault) = Unit {0}
 
--- so it is of the lines of these bytes, where they are known
+-- the same for the lines of these bytes, if they are known
 pub record HasRead (bytes : Option (List ℕ)) (r : Read) : Type 0 where
   pub sound : IsSoundRead r
   pub asked : IfSome bytes (λ all. course_of 1 nothing_asked (lines_of all) ≡ asked_in r)

@@ -31,7 +31,7 @@ abbrev pub EndsWith : Outcome → List ReportLine → Option (List ℕ) → Opti
     → Type 0
 EndsWith is lines old new outcome = (outcome ≡ is) × Appends old new (text_of_report lines)
 
--- behind the boot line the whole report of steps that were made, in one legal history
+-- after the boot line comes the whole report of steps that were made, in one legal history
 abbrev pub StepsEnd : Layout → ℕ → List Asked → List Reply → Option (List ℕ) → Option (List ℕ)
     → Outcome → Type 0
 StepsEnd l start steps replies old new outcome =
@@ -65,7 +65,7 @@ TellsRace asked old new outcome =
     × IsRead HasOneHistory asked lines outcome
     × Appends old new (text_of_report lines)
 
--- and a front of what was begun, or nothing
+-- and a front of the lines of a race that stops early, or nothing
 abbrev pub TellsBegun : Result Asking (ℕ × Fault) → Option (List ℕ) → Option (List ℕ) → Type 0
 TellsBegun asked old new =
     (new ≡ old) ⊎ ((lines : List ReportLine) × IsBegunOf asked lines × WritesFront lines old new)
@@ -76,7 +76,7 @@ TellsStop line (stops.Fault fault) old new outcome =
     (outcome ≡ outcomes.Fault) × Appends old new (text_of_report (report.Fault line fault ∷ []))
 TellsStop line stops.NoMemory old new outcome = ⊥
 
--- and a front of it; where memory was refused nothing was written
+-- and a front of it; if memory was refused nothing was written
 abbrev pub BeginsStop : ℕ → Stop → Option (List ℕ) → Option (List ℕ) → Type 0
 BeginsStop line (stops.Fault fault) old new = WritesFront (report.Fault line fault ∷ []) old new
 BeginsStop line stops.NoMemory old new = new ≡ old

@@ -12,7 +12,7 @@ use Rattle.trace_race.specs.declared.workers.Worker.{Worker}
 abbrev pub AreOfTable : Opened → List Pass → Type 0
 AreOfTable t passes = All (IsPassOf t) passes
 
--- a gate has heard of each call, by its number, that a pass's list has more than it had
+-- for each call that the pass's list has gained, a gate has heard its number
 abbrev pub HearsEach : (ℕ → Type 0) → Known → Known → Type 0
 HearsEach Heard v w =
     (number : ℕ) → length v.own.log.calls < number → number ≤ length w.own.log.calls → Heard number

@@ -18,7 +18,7 @@ pub(crate) struct Booted {
     pub state: Ghost,
 }
 
-/// Boots the world of what was told.
+/// Boots the world of the settings.
 pub(crate) fn boot_world(
     global: Global,
     settings: &Settings,

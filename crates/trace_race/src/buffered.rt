@@ -13,15 +13,16 @@ use std::thread::Threads;
 use trace_reader::{Counting, EngineFault, Outcome};
 use trace_text::{Stopped, finish};
 
-/// Why a race stopped before the end of its report, and what the system said of a read or a write that failed.
+/// Why a race stopped before the end of its report, and the system's error for a read or a write that failed.
 #[derive(Debug, Drop)]
 pub struct Halted {
     pub fault: RaceFault,
     pub cause: Option<Error>,
 }
 
-/// Races a trace, and gives the writer back with the whole report written to it. The report goes through a buffer, which is
-/// written out where the race stops early too; where that works, the writer comes back with what was written.
+/// Races a trace, and gives the writer back with the whole report written to it. The report goes through a buffer,
+/// which is written out even if the race stops early; if that works, the writer comes back with the text written so
+/// far.
 pub fn race_buffered<Rt: Threads + Wait + Sync, R: Read + Drop, W: Write + Drop, G: Gate + Sync>(
     rt: &Rt,
     global: Global,

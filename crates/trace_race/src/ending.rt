@@ -21,7 +21,8 @@ use std::alloc::{AllocError, Global};
 use table_tree::Reads;
 use world::{Histories, World};
 
-/// The findings of comparing: where replies aren't the model's, and where the kept state at the end isn't what a walk finds.
+/// The findings of comparing: the replies that aren't the model's, and the difference at the end between the kept state
+/// and a walk.
 #[derive(Drop)]
 pub(crate) struct Compared {
     pub judged: Vec<Disagreement>,

@@ -24,8 +24,8 @@ fn differs(said: Reply, spec: Reply) -> Option<Disagreement>
     }
 }
 
-/// Makes the next call of a list on the state before it: the state after it, and where its reply isn't the model's. A call
-/// that wanted memory leaves the state, and is judged as one that changed nothing.
+/// Makes the next call of a list on the state before it: the state after it, and the finding if its reply isn't the
+/// model's. A call that lacked memory leaves the state, and is judged as one that changed nothing.
 fn judged_next(
     global: Global,
     state: Ghost,
@@ -48,7 +48,7 @@ fn judged_next(
     Ok((after, differs(said, spec)))
 }
 
-/// Whether memory was wanted.
+/// Whether the call lacked memory.
 fn is_want(said: Reply) -> bool
     ensures { IsTrue result ↔ (said ≡ Refused NoMemory) }
 {

@@ -1,4 +1,5 @@
-//! Races: a trace is read whole, the steps before `start` are made in order, and those behind it by a thread for each CPU.
+//! Races: a trace is read whole, the steps before `start` are made in order, and those after it by a thread for each
+//! CPU.
 #![tactic(auto)]
 
 mod booting;

@@ -1,4 +1,4 @@
-//! Making all steps of a trace: those before `start` on a booted world, those behind it on the machine of that world.
+//! Making all steps of a trace: those before `start` on a booted world, those after it on the machine of that world.
 ghost use Rattle.std.specs.Prelude.{◌≡◌, ◌≢◌, ◌+◌, ◌<◌, ◌≤◌, ◌++◌, ℕ, [], List, Some, IfOk, IfSome, OnOk, drop, length, map, slice_get, slice_index, take};
 ghost use Rattle.hypercalls.specs.Stands.{parts_layout};
 ghost use Rattle.page_state.specs.LayoutView.{layout_of};
@@ -167,8 +167,8 @@ fn passes_of(done: Vec<Done>, passes: &mut Vec<CpuPass<Global>>) -> Result<(), A
     Ok(())
 }
 
-/// Makes steps at once, with a pass of each CPU that has made no call: the passes then. None where a thread could not be
-/// started. All lists are taken before the first thread starts.
+/// Makes steps at once, with a pass of each CPU that has made no call: the passes then. None if a thread couldn't
+/// start. It allocates all lists before the first thread starts.
 fn make_on<R: Threads + Wait + Sync, G: Gate + Sync>(
     rt: &R,
     global: Global,
@@ -197,8 +197,8 @@ fn make_on<R: Threads + Wait + Sync, G: Gate + Sync>(
     Ok(Some(ended))
 }
 
-/// Makes all steps on a booted world with `cpus` CPUs: the first in order, those behind them at once. None where a thread
-/// could not be started.
+/// Makes all steps on a booted world with `cpus` CPUs: the first in order, those after them at once. None if a thread
+/// couldn't start.
 pub(crate) fn make<R: Threads + Wait + Sync, G: Gate + Sync>(
     rt: &R,
     global: Global,

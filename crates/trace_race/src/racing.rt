@@ -28,11 +28,11 @@ use std::thread::Threads;
 use trace_reader::{EngineFault, MOST_BYTES, Outcome, Source};
 use trace_text::{ReportLine, Sink, Stop, faulted, tell, tell_end};
 
-/// Reads a whole trace, and carries it out: the steps before `start` in order, those behind it on one thread for each CPU,
-/// and writes its report. A fault of a line, wherever it stands, is the whole report. The gate hears of the calls that are
-/// made at once. There is one legal history of the steps, with the replies that the report tells: first those before `start`,
-/// in the trace's order, and then those behind it. No line disagrees. Err
-/// where the source or the sink failed, once, memory was refused, or a thread couldn't be started.
+/// Reads a whole trace, and carries it out: the steps before `start` in order, those after it on one thread for each
+/// CPU, and writes its report. A fault of any line is the whole report. The gate hears of the calls that are made at
+/// once. There is one legal history of the steps, with the replies in the report: first those before `start`, in the
+/// trace's order, and then those after it. No line disagrees. Err if the source or the sink failed, once, memory was
+/// refused, or a thread couldn't start.
 pub fn race<R: Threads + Wait + Sync, S: Source, K: Sink, G: Gate + Sync>(
     rt: &R,
     global: Global,

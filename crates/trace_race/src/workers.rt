@@ -155,7 +155,7 @@ fn promised<'a>(machine: &Machine<Global>, pass: &CpuPass<Global>, steps: &'a [A
     }
 }
 
-/// Each worker on a thread of its own. None where a thread couldn't be started; those that were started are then waited for.
+/// Each worker on a thread of its own. None if a thread couldn't start; it then waits for those that did.
 pub(crate) fn work_at_once<'a, R: Threads + Wait + Sync, G: Gate + Sync>(
     rt: &R,
     global: Global,

@@ -8,8 +8,8 @@ use Rattle.trace_reader.specs.Reading.{HasNoEnd}
 abbrev pub held : ReadAhead → List ℕ
 held a = slice_range a.bytes.items a.start a.end
 
--- all bytes that lines are still to be made of: those that are held, and then those that the source
--- has, where they are known
+-- all bytes that aren't made into lines yet: the held ones, and then those left in the source, if
+-- they are known
 abbrev pub left : ReadAhead → Option (List ℕ) → Option (List ℕ)
 left a remaining = prepend_known (held a) remaining
 

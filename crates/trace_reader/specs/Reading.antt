@@ -8,8 +8,8 @@ without_empty_last [] = []
 without_empty_last (part ∷ []) = if length part == 0 then [] else part ∷ []
 without_empty_last (part ∷ next ∷ parts) = part ∷ without_empty_last (next ∷ parts)
 
--- the lines of a trace without their ends, the byte 10: the last may lack its end, and nothing
--- behind the last end is no line
+-- the lines of a trace without their ends, the byte 10: the last may lack its end, and an empty
+-- text after the last end is no line
 unfoldable pub lines_of : List ℕ → List (List ℕ)
 lines_of bytes = without_empty_last (slice_split (λ byte. byte == 10) bytes)
 

@@ -1,6 +1,6 @@
-//! Who is told how far long work is.
+//! Progress of long work.
 
-/// Is told of the units of long work that are done. No answer depends on it.
+/// Receives the progress of long work, in units done. No answer depends on it.
 pub trait Progress {
     /// So many units more are done.
     fn advance(&self, by: u64);

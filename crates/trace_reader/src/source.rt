@@ -7,7 +7,7 @@ ghost use Rattle.trace_reader.specs.Devices.{Counts};
 use crate::counting::Counting;
 use std::io::{Error, ErrorKind, Read};
 
-/// The most tries of one read or write, where each of them is interrupted.
+/// The most tries of one read or write, if each of them is interrupted.
 const MOST_TRIES: usize = 1 << 32;
 
 /// A read or a write failed, which the device has counted.
@@ -16,13 +16,13 @@ pub struct Failed;
 
 /// What a trace is read from. It counts its failures.
 pub trait Source {
-    /// The bytes that reads will give from here on, where they are known.
+    /// The bytes that reads will give from here on, if they are known.
     ghost remaining: { Self → Option (List ℕ) };
 
     /// How many reads have failed.
     ghost failures: { Self → ℕ };
 
-    /// Reads bytes into the front of a chunk, and answers how many: none only at the end, or where the chunk has no room.
+    /// Reads bytes into the front of a chunk, and answers how many: none only at the end, or if the chunk has no room.
     fn read(&mut self, chunk: &mut [u8]) -> Result<usize, Failed>
         ensures bound { ReadsAtMost result chunk.new }
         ensures bytes { ReadConsumes (remaining self.old) (remaining self.new) result chunk.new }
@@ -42,7 +42,7 @@ impl<R: Read> Source for Counting<R> {
     }
 }
 
-/// Reads, and again where a read was interrupted.
+/// Reads, and tries again if a read was interrupted.
 fn read_uninterrupted<R: Read>(reader: &mut R, chunk: &mut [u8]) -> Result<usize, Error>
     ensures bound { ReadsAtMost result chunk.new }
     ensures bytes { ReadConsumes (R.remaining reader.old) (R.remaining reader.new) result chunk.new }

@@ -32,8 +32,8 @@ module _ (gives : Gives) where
     pub outcome : Outcome
     pub report : IsReport gives number start front (lines ++ last) outcome
 
-  -- a report that may break off behind each line of the trace is that of the lines before, but for
-  -- its last line
+  -- a report that may break off after each line of the trace is the report of the lines before,
+  -- except for its last line
   abbrev pub BeginningReports : Type 0
   BeginningReports =
       (number : ℕ) (start : Standing) (trace : List (List ℕ)) (lines : List ReportLine)
@@ -65,7 +65,7 @@ module _ (gives : Gives) where
       → IsReport gives 1 at_start trace reported outcome
       → (left : List ℕ) × (asking (steps_asked trace) ≡ replying (replies_told reported) ++ left)
 
-  -- and where it ends without a fault, of all of them
+  -- and if it ends without a fault, of all of them
   abbrev pub AllAnswered : Type 0
   AllAnswered =
       (trace : List (List ℕ)) (reported : List ReportLine) (outcome : Outcome)

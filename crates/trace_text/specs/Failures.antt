@@ -5,7 +5,7 @@ use Rattle.trace_reader.specs.Devices.{one_more}
 use Rattle.trace_reader.specs.declared.outcome.EngineFault.{EngineFault}
 use Rattle.trace_reader.specs.declared.outcome.EngineFault.TheVariants.{Read, Write, NoMemory}
 
--- a sink takes all bytes, or, where it fails, a front of them
+-- a sink takes all bytes, or, if it fails, a front of them
 abbrev pub WritesAll : {X E : Type 0}
     → Option (List ℕ)
     → Option (List ℕ)
@@ -30,7 +30,7 @@ CountsReads before after (Err Read) = after ≡ one_more before
 CountsReads before after (Err Write) = after ≡ before
 CountsReads before after (Err NoMemory) = after ≡ before
 
--- and a failed write just where the sink has
+-- and it counts a failed write if and only if the sink failed
 abbrev pub CountsWrites : {X : Type 0} → ℕ → ℕ → Result X EngineFault → Type 0
 CountsWrites before after (Ok x) = after ≡ before
 CountsWrites before after (Err Read) = after ≡ before

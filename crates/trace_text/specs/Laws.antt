@@ -69,22 +69,22 @@ pub record Leads (m : Machine) (cs : List Call) (t : Reference) : Type 0 where
   pub cpus : All (λ c. c.cpu < m.layout.config.cpus) cs
   pub runs : Runs (Steps m.layout) m.state cs t
 
--- a report is that of a run of the reference step from a machine's state: of the steps that the
--- trace asks for those before its first fault, which are all where the report ends without one, are
--- made, and what its step lines tell are their CPUs and replies
+-- a report is that of a run of the reference step from a machine's state: the run makes the steps
+-- that the trace asks for before its first fault (all of them if the report ends without one), and
+-- the step lines report their CPUs and replies
 pub record TellsRun (m : Machine) (trace : List (List ℕ)) (reported : List ReportLine)
     (outcome : Outcome) : Type 0 where
   pub calls : List Call
   pub last : Reference
   pub leads : Leads m calls last
   pub replies : replies_told reported ≡ map (λ c. (c.cpu, c.reply)) calls
-  -- the steps behind the fault
+  -- the steps after the fault
   pub left : List (ℕ × Step)
   pub steps : steps_asked trace ≡ map (λ c. (c.cpu, c.step)) calls ++ left
   pub all : (outcome ≡ outcomes.Fault → ⊥) → left ≡ []
 
--- a report without a boot: one line, which isn't a step's, and where it is no fault no step was
--- asked for
+-- a report without a boot: one line, which isn't a step's, and if it is no fault, no step was asked
+-- for
 pub record TellsNoBoot (trace : List (List ℕ)) (reported : List ReportLine)
     (outcome : Outcome) : Type 0 where
   pub line : ReportLine
@@ -149,8 +149,8 @@ module _ (gives : Gives) where
       → IsReport gives number old trace reported outcome
       → TellsRun m trace reported outcome
 
-  -- a report in which the lines in front, from a number on, are carried out: their report, the run
-  -- of the reference step that it tells, the machine at its end, and the report of the other lines
+  -- the report of a trace whose lines in `front`, from a number on, are carried out: their report,
+  -- the run of the reference step in it, the machine at its end, and the report of the other lines
   -- from there
   pub record Reaches (number : ℕ) (m : Machine) (front rest : List (List ℕ))
       (reported : List ReportLine) (outcome : Outcome) : Type 0 where

@@ -18,8 +18,8 @@ tables_in (Some w) = world_tables w
 abbrev pub session_tables : {A : Type 0} → Session A → ℕ
 session_tables s = tables_in s.world
 
--- where a step was made, the session's count of reads has grown by the number of words of all
--- tables that it left
+-- if a step was made, the session's count of reads has grown by the number of words of all tables
+-- after it
 abbrev pub Looks : {A : Type 0} → Session A → Session A → Type 0
 Looks old new =
     new.steps ≡ old.steps + 1

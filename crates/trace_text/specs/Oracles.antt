@@ -1,4 +1,4 @@
--- What an oracle is shown of a step, and what it may tell of it.
+-- What an oracle is shown of a step, and which verdicts it may give.
 use Rattle.std.specs.Prelude.{◌≡◌, ℕ, List, [], ◌∷◌, ◌++◌, Option, Some, None}
 use Rattle.call_table.specs.declared.reply.Call.{Call}
 use Rattle.call_table.specs.declared.reply.Reply.{Reply}
@@ -17,7 +17,7 @@ use Rattle.trace_text.specs.declared.report.ReportLine.{ReportLine}
 use Rattle.trace_text.specs.declared.report.ReportLine.TheVariants as report
 use Rattle.trace_text.specs.Worlds.{Machine}
 
--- what an oracle may tell of a call that leads from a machine's state to another
+-- the verdicts that an oracle may give on a call that leads from a machine's state to another
 abbrev pub Gives : Type 1
 Gives = Machine → Call → Reference → Verdict → Type 0
 
@@ -71,6 +71,6 @@ abbrev pub audited_lines : Option Disagreement → List ReportLine
 audited_lines None = []
 audited_lines (Some d) = report.Audited d ∷ []
 
--- the lines of the report that tell a verdict: the judgement's first
+-- the report lines of a verdict: the judgement's first
 abbrev pub verdict_lines : Verdict → List ReportLine
 verdict_lines v = judged_lines v.judged ++ audited_lines v.audited

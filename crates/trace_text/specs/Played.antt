@@ -10,7 +10,7 @@ use Rattle.trace_text.specs.Reports.{Doing}
 use Rattle.trace_text.specs.Session.{Answer}
 use Rattle.trace_text.specs.Texts.{text_of_report}
 
--- what an answer writes, and the outcome where it ends the run
+-- the text that an answer writes, and the outcome if it ends the run
 abbrev pub Writes : ℕ → Answer → Option (List ℕ) → Option (List ℕ) → Option Outcome → Type 0
 Writes number (Err (stops.Fault fault)) old new ended =
     Appends old new (text_of_report (report.Fault number fault ∷ []))

@@ -23,7 +23,7 @@ Ends old lines outcome = (lines ≡ end_line old ∷ []) × (outcome ≡ outcome
 
 -- reports of replays that ask an oracle
 module _ (gives : Gives) where
-  -- what a line does by its place
+  -- what a line does, given its number
   abbrev pub IsPlayed : ℕ → List ℕ → Standing → Answer → Standing → Type 0
   IsPlayed = reports.IsPlayed (RunsLine gives)
 
@@ -35,7 +35,7 @@ module _ (gives : Gives) where
   abbrev pub IsBeginning : ℕ → Standing → List (List ℕ) → List ReportLine → Type 0
   IsBeginning = reports.IsBeginning (RunsLine gives) Ends
 
-  -- what was written is a report of the trace of these bytes
+  -- the written text is a report of the trace of these bytes
   abbrev pub IsReplayed : Option (List ℕ) → Option (List ℕ) → Option (List ℕ) → Outcome → Type 0
   IsReplayed = reports.IsWritten (RunsLine gives) Ends at_start
 

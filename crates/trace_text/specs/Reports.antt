@@ -21,17 +21,19 @@ Begins number (Err stops.NoMemory) follows lines outcome = ⊥
 Begins number (Ok told) follows lines outcome =
     (more : List ReportLine) × (lines ≡ told ++ more) × follows more outcome
 
--- what a line of a trace does, by its number, from one standing to another
+-- the effect of a line of a trace, by its number, from one standing to another
 abbrev pub Doing : Type 0 → Type 1
 Doing S = ℕ → List ℕ → S → Answer → S → Type 0
 
--- what a line does by its place: the first 1,048,576 lines are carried out, the next is a fault
+-- the effect of a line, given its number: the first 1,048,576 lines are carried out, the next is a
+-- fault
 pub record IsPlayed {S : Type 0} (does : Doing S) (number : ℕ) (line : List ℕ) (old : S)
     (answer : Answer) (new : S) : Type 0 where
   pub runs : number ≤ 1048576 → does number line old answer new
   pub past : 1048576 < number → (answer ≡ Err (stops.Fault faults.Lines)) × (new ≡ old)
 
--- reports of a program: what a line does, and how a report ends where a whole trace was carried out
+-- reports of a program: the effect of a line, and the end of a report after a whole trace was
+-- carried out
 module _ {S : Type 0} (does : Doing S) (ends : S → List ReportLine → Outcome → Type 0) where
   -- the report of a trace's lines from a number on: line after line, and then its end
   abbrev pub IsReport : ℕ → S → List (List ℕ) → List ReportLine → Outcome → Type 0
@@ -51,14 +53,14 @@ module _ {S : Type 0} (does : Doing S) (ends : S → List ReportLine → Outcome
       × IsPlayed does number line old answer new
       × Begins number answer (λ more end. IsBeginning (number + 1) new rest more) lines outcome)
 
-  -- what was written is a report, and, where the bytes of the trace are known, that of its lines
+  -- the written text is a report, and, if the bytes of the trace are known, that of its lines
   pub record IsWritten (start : S) (bytes old new : Option (List ℕ))
       (outcome : Outcome) : Type 0 where
     pub lines : List ReportLine
     pub written : Appends old new (text_of_report lines)
     pub report : IfSome bytes (λ all. IsReport 1 start (lines_of all) lines outcome)
 
-  -- what was written is a front of the text of lines, and, where the bytes of the trace are known,
+  -- the written text is a front of the text of lines, and, if the bytes of the trace are known,
   -- these are a beginning of its report
   pub record IsWriteBegun (start : S) (bytes old new : Option (List ℕ)) : Type 0 where
     pub lines : List ReportLine

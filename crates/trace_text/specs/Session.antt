@@ -82,7 +82,7 @@ IsNoLayout layouts.PastLimit memory = IsFirstFault layouts.PastLimit memory
 IsNoLayout layouts.Overlap memory = IsFirstFault layouts.Overlap memory
 IsNoLayout layouts.CarveOutside memory = IsFirstFault layouts.CarveOutside memory
 
--- why a boot ends the run: by the layout's fault, or, where the layout is accepted, by the world's
+-- why a boot ends the run: by the layout's fault, or, if the layout is accepted, by the world's
 abbrev pub IsNoWorld : Stop → Memory → Config → Type 0
 IsNoWorld (stops.Fault (faults.Layout fault)) memory config = IsNoLayout fault memory
 IsNoWorld (stops.Fault (faults.Boot fault)) memory config =
@@ -94,7 +94,7 @@ abbrev pub IsWorldOf : {A : Type 0} → Memory → Config → Result (World A) S
 IsWorldOf memory config answer =
     MatchResult answer (λ w. IsBooted memory config w.parts) (λ stop. IsNoWorld stop memory config)
 
--- the memory, where it makes a layout, or else why no world has it
+-- the memory, if it makes a layout, or else why no world has it
 abbrev pub IsMemoryOf : Memory → Result Memory Stop → Type 0
 IsMemoryOf memory answer =
     MatchResult answer (λ m. (m ≡ memory) × IsAccepted memory)
@@ -150,7 +150,7 @@ Answers (queries.Show tree) m old answer new =
     × (answer ≡ Ok (map report.Response (map responses.Run runs)))
     × (new ≡ old)
 
--- what lines do where an oracle is asked after each step
+-- the effect of lines if an oracle is asked after each step
 module _ (gives : Gives) where
   -- a step of a CPU: a call of it leads by the reference step to the next state; its reply is
   -- reported, and then the oracle's finding

@@ -11,7 +11,7 @@ use Rattle.trace_text.specs.declared.fault.Fault.TheVariants as faults
 use Rattle.trace_text.specs.declared.report.ReportLine.{ReportLine}
 use Rattle.trace_text.specs.declared.report.ReportLine.TheVariants as report
 
--- the name of a fault, with its number where it has one
+-- the name of a fault, with its number if it has one
 abbrev pub text_of_fault : Fault → List ℕ
 text_of_fault faults.Lines = codes "lines"
 text_of_fault (faults.Line fault) = text_of_line_fault fault

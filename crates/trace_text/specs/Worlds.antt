@@ -20,8 +20,8 @@ pub record Machine : Type 0 where
   pub layout : Layout
   pub state : Reference
 
--- the machine that boots on memory and a configuration: its layout has just these and can boot, and
--- its state is the boot state
+-- the machine that boots on memory and a configuration: its layout has exactly these and can boot,
+-- and its state is the boot state
 pub record IsBootOf (memory : Memory) (config : Config) (m : Machine) : Type 0 where
   pub memory_is : m.layout.memory ≡ memory
   pub config_is : m.layout.config ≡ config
@@ -62,7 +62,7 @@ pub record HasWordOn (depth : ℕ) (tree : Tree) (page level : ℕ) : Type 0 whe
   pub bottom : level ≤ 3
   pub stands : 3 < level + depth → IsSome (tree.table (block_above (block_at (3 - level) page)))
 
--- the word on a page's path at a level: that of the level's block which holds the page. None where
+-- the word on a page's path at a level: that of the level's block which holds the page. None if
 -- there is no word
 abbrev pub IsWordOn : ℕ → Tree → ℕ → ℕ → Option ℕ → Type 0
 IsWordOn depth tree page level None = ¬ HasWordOn depth tree page level

@@ -17,8 +17,8 @@ use std::io::{Read, Write};
 use table_tree::Reads;
 use trace_reader::{EngineFault, Outcome, Source};
 
-/// Replays a trace as `replay` does, but for the oracle: no step is judged, and after the last line what is kept is compared
-/// once with what a walk of all words finds. No difference is found. The report is one that `replay` may write.
+/// Replays a trace as `replay` does, but judges no step; after the last line it compares the kept state once with a
+/// walk of all words. It finds no difference. The report is one that `replay` may write.
 pub fn replay_at_end<A: Allocator + Copy, S: Source, K: Sink>(
     global: Global,
     alloc: A,
@@ -40,8 +40,8 @@ pub fn replay_at_end<A: Allocator + Copy, S: Source, K: Sink>(
     outcome
 }
 
-/// The same from a reader to a writer, which is given back with the whole report written to it. The report goes through a
-/// buffer, which is written out where the replay stops early too.
+/// The same from a reader to a writer, which it gives back with the whole report written to it. The report goes through
+/// a buffer, which is written out even if the replay stops early.
 pub fn replay_at_end_buffered<A: Allocator + Copy, R: Read + Drop, W: Write + Drop>(
     global: Global,
     alloc: A,

@@ -14,17 +14,17 @@ use std::alloc::{Allocator, Global};
 use std::io::{BufWriter, Error, Read, Write};
 use trace_reader::{Counting, EngineFault, Outcome};
 
-/// Why a run stopped before the end of its report, and what the system said of a read or a write that failed.
+/// Why a run stopped before the end of its report, and the system's error for a read or a write that failed.
 #[derive(Debug, Drop)]
 pub struct Stopped<W> {
     pub fault: EngineFault,
     pub cause: Option<Error>,
-    /// The writer with what was written, where its buffer could be written out.
+    /// The writer with the text written so far, if its buffer could be written out.
     pub writer: Option<W>,
 }
 
-/// Replays a trace, and gives the writer back with the whole report written to it. The report goes through a buffer, which is
-/// written out where the replay stops early too.
+/// Replays a trace, and gives the writer back with the whole report written to it. The report goes through a buffer,
+/// which is written out even if the replay stops early.
 pub fn replay_buffered<A: Allocator + Copy, R: Read + Drop, W: Write + Drop>(
     global: Global,
     alloc: A,
@@ -45,8 +45,8 @@ pub fn replay_buffered<A: Allocator + Copy, R: Read + Drop, W: Write + Drop>(
     answer
 }
 
-/// Lets a player carry out a trace, and gives the writer back with the whole report written to it. The report goes through a
-/// buffer, which is written out where the run stops early too.
+/// Lets a player carry out a trace, and gives the writer back with the whole report written to it. The report goes
+/// through a buffer, which is written out even if the run stops early.
 pub fn play_buffered<P: Player, R: Read + Drop, W: Write + Drop>(
     global: Global,
     player: &mut P,
@@ -72,9 +72,9 @@ pub fn play_buffered<P: Player, R: Read + Drop, W: Write + Drop>(
     finish(answer, source, sink)
 }
 
-/// What a program answered whose report goes through a buffer, and the writer with the whole report. The buffer is written
-/// out where the program stopped early too. A fault is told as it was answered, and of a buffer that can't be written out
-/// Write.
+/// The answer of a program whose report goes through a buffer, and the writer with the whole report. The buffer is
+/// written out even if the program stopped early. A fault is passed on as it was answered; if the buffer can't be
+/// written out the fault is Write.
 pub fn finish<R: Read + Drop, W: Write + Drop>(
     answer: Result<Outcome, EngineFault>,
     source: Counting<R>,
@@ -108,7 +108,7 @@ pub fn finish<R: Read + Drop, W: Write + Drop>(
     }
 }
 
-/// The writer with what its buffer held. None where that can't be written out.
+/// The writer with the bytes of its buffer. None if they can't be written out.
 fn written_out<W: Write + Drop>(writer: BufWriter<W>) -> Option<W>
     ensures { IfSome result (λ w. Keeps (writer_contents W.contents writer) (W.contents w)) }
 {

@@ -17,7 +17,7 @@ pub fn begun_reports<O: Oracle>()
     ensures bytes { BegunWrites O.gives }
 {}
 
-/// The replies of a report are those of the first step lines of its trace, and of all of them where no fault ends it.
+/// The replies of a report are those of the first step lines of its trace, and of all of them if no fault ends it.
 pub fn steps_answered<O: Oracle>()
     ensures first { FirstAnswered O.gives }
     ensures all { AllAnswered O.gives }

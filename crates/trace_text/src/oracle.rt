@@ -35,7 +35,7 @@ impl Verdict {
     }
 }
 
-/// How many lines report what was found, if anything.
+/// The number of lines that report a finding, if there is one.
 fn count_of(found: Option<Disagreement>) -> u64
     ensures judged { result ≡ length (judged_lines found) }
     ensures audited { result ≡ length (audited_lines found) }
@@ -54,8 +54,8 @@ pub trait Oracle {
     /// What it may find at a call that leads from a machine's state to another.
     ghost gives: { Machine → Call → Reference → Verdict → Type 0 };
 
-    /// Looks at a step of a CPU: what the world keeps before it, the reply, and what the world keeps after it and walking
-    /// every word finds then. The state before is given away: nothing else wants it. Err where memory is refused.
+    /// Looks at a step of a CPU: the state kept before it, the reply, and the state kept after it with a walk of every
+    /// word. It consumes the state before: nothing else needs it. Err if memory is refused.
     fn check(
         &mut self,
         global: Global,
@@ -70,8 +70,8 @@ pub trait Oracle {
         ensures told { IfOk result (TellsShown gives before cpu step reply after.now) };
 }
 
-/// The oracle of `replay`: it judges each step by the model, and audits what is kept by the walk. In a replay it finds no
-/// disagreement; of any other states it finds the first, of each kind, and none exactly where there is none.
+/// The oracle of `replay`: it judges each step by the model, and audits the kept state against the walk. In a replay it
+/// finds no disagreement; of any other states it finds the first of each kind, and none if and only if there is none.
 #[derive(Drop)]
 pub struct GhostOracle;
 

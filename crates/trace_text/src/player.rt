@@ -24,14 +24,14 @@ pub trait Player {
     /// What holds of it before the line of a number.
     ghost ready: { ℕ → Self → Type 0 };
 
-    /// What a line does to it, by its number, and answers.
+    /// The effect of a line, by its number, and its answer.
     ghost does: { ℕ → List ℕ → Self → Answer → Self → Type 0 };
 
-    /// How its report ends behind the last line.
+    /// The end of its report after the last line.
     ghost ends: { Self → List ReportLine → Outcome → Type 0 };
 
-    /// Carries out the line of this number and writes what it reports, and gives the outcome where the line ends the run. Of
-    /// a line of over 256 bytes any 257 serve.
+    /// Carries out the line of this number and writes its report, and gives the outcome if the line ends the run. For a
+    /// line of over 256 bytes any 257 serve.
     fn play<K: Sink>(
         &mut self,
         number: u64,
@@ -57,9 +57,9 @@ pub trait Player {
         ensures counted { TellsWrite (K.failures sink.old) (K.failures sink.new) result };
 }
 
-/// Reads a trace line by line, lets a player carry it out, and writes its report. It reads ahead of the line that is carried
-/// out. Err where the source or the sink failed, once, or memory was refused: what was written until then is a beginning of
-/// the report.
+/// Reads a trace line by line, lets a player carry it out, and writes its report. It reads ahead of the line that it
+/// carries out. Err if the source or the sink failed, once, or memory was refused: the text written until then is a
+/// beginning of the report.
 pub fn play_trace<P: Player, S: Source, K: Sink>(
     global: Global,
     player: &mut P,
@@ -83,8 +83,8 @@ pub fn play_trace<P: Player, S: Source, K: Sink>(
     play_lines(player, source, &mut ahead, &mut line, sink, &mut text)
 }
 
-/// Lets a player carry out the lines of what is left of a trace. `ahead` is what was read ahead of them, `line` and `text` are
-/// room for one line of the trace and of the report.
+/// Lets a player carry out the remaining lines of a trace. `ahead` has the bytes that were read ahead of them, `line`
+/// and `text` are room for one line of the trace and of the report.
 fn play_lines<P: Player, S: Source, K: Sink>(
     player: &mut P,
     source: &mut S,

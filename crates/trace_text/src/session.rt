@@ -1,4 +1,4 @@
-//! What a trace has said so far, and what a line does.
+//! The settings and the world of a trace so far, and the effect of a line.
 ghost use Rattle.std.specs.Prelude.{◌≡◌, ◌+◌, ◌<◌, ◌≤◌, ◌^◌, List, [], Option, Some, None, is_some, option_copied, option_map, IfOk, IfSome, OnOk, OnErr, MatchOption};
 ghost use Rattle.page_state.specs.Regions.{memory_of};
 ghost use Rattle.trace_text.specs.Session.{Answers, Boots, DoesLine, IsMemoryOf, IsWorldOf, MakesStep, OnMachine, RunsLine, Starts, Tells, allowed, at_start};
@@ -54,7 +54,7 @@ pub struct Session<A: Allocator> {
     alloc: A,
     settings: Settings,
     world: Option<World<A>>,
-    /// What the world keeps, where a step was made: the state before the next one.
+    /// The kept state after the last step, if one was made: the state before the next one.
     state: Option<Ghost>,
     /// Whether `start` came.
     started: bool,
@@ -65,7 +65,7 @@ pub struct Session<A: Allocator> {
 }
 
 impl<A: Allocator + Copy> Session<A> {
-    /// Nothing said yet.
+    /// A session before the first line.
     pub fn new(global: Global, alloc: A) -> Session<A>
         ensures start { standing_of result ≡ at_start }
         ensures ready { IsReady result }
@@ -161,7 +161,7 @@ impl<A: Allocator + Copy> Session<A> {
         }
     }
 
-    /// Carries out the line of this number, and answers what it reports. Of a line of over 256 bytes any 257 serve.
+    /// Carries out the line of this number, and answers its report. For a line of over 256 bytes any 257 serve.
     pub fn run<O: Oracle>(
         &mut self,
         oracle: &mut O,
@@ -477,7 +477,7 @@ fn checked<A: Allocator + Copy, O: Oracle>(
     })
 }
 
-/// What the guest in a slot holds. None where it is Empty, and of a slot past the last.
+/// The body of the guest in a slot. None if the slot is Empty, or past the last.
 fn guest_body<A: Allocator>(world: &World<A>, slot: u64) -> Option<&Body<A>>
     ensures { MatchOption result (body_at world.now slot ≡ None)
         (λ body. body_at world.now slot ≡ Some body.now) }

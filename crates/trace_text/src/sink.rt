@@ -11,13 +11,13 @@ const MOST_TRIES: usize = 1 << 32;
 
 /// What a report is written to. It counts its failures.
 pub trait Sink {
-    /// The bytes that were written, where they are known.
+    /// The bytes that were written, if they are known.
     ghost contents: { Self → Option (List ℕ) };
 
     /// How many writes have failed.
     ghost failures: { Self → ℕ };
 
-    /// Writes all bytes, or, where it fails, a front of them.
+    /// Writes all bytes, or, if it fails, a front of them.
     fn write(&mut self, bytes: &[u8]) -> Result<(), Failed>
         ensures bytes { WritesAll (contents self.old) (contents self.new) result bytes.now }
         ensures counted { Counts (failures self.old) (failures self.new) result };
@@ -36,7 +36,7 @@ impl<W: Write> Sink for Counting<W> {
     }
 }
 
-/// Writes all bytes, and again where a write was interrupted.
+/// Writes all bytes, and tries again if a write was interrupted.
 fn write_uninterrupted<W: Write>(writer: &mut W, bytes: &[u8]) -> Result<(), Error>
     ensures { WritesAll (W.contents writer.old) (W.contents writer.new) result bytes.now }
 {

@@ -22,11 +22,11 @@ use std::alloc::{Allocator, Global};
 use trace_lines::Response;
 use trace_reader::{EngineFault, Failed, Outcome, Source};
 
-/// Reads a trace line by line, carries it out, and writes its report. `alloc` is where the tables of the trees lie. A
-/// fault of the trace ends the report, and the report of the lines before it remains. It reads ahead of the line that it
-/// carries out. Each step is judged by the model, and what is kept after it audited by a walk of every word; no
-/// disagreement is found. Err where the source or the sink failed, once, or memory was refused: what was written until
-/// then is a beginning of the report.
+/// Reads a trace line by line, carries it out, and writes its report. `alloc` holds the tables of the trees. A fault of
+/// the trace ends the report, and the report of the lines before it remains. It reads ahead of the line that it carries
+/// out. It judges each step by the model, and audits the state kept after it by a walk of every word; it finds no
+/// disagreement. Err if the source or the sink failed, once, or memory was refused: the text written until then is a
+/// beginning of the report.
 pub fn replay<A: Allocator + Copy, S: Source, K: Sink>(
     global: Global,
     alloc: A,
@@ -115,7 +115,7 @@ impl<'a, A: Allocator + Copy, O: Oracle> Player for Replaying<'a, A, O> {
     }
 }
 
-/// Writes what the line of a number answered, and gives the outcome where that ends the run.
+/// Writes the answer of the line of a number, and gives the outcome if that ends the run.
 pub fn tell_answer<A: Allocator + Copy, K: Sink>(
     session: &Session<A>,
     sink: &mut K,

@@ -17,7 +17,7 @@ abbrev pub is_silent : List ℕ → Bool
 is_silent [] = true
 is_silent (first ∷ rest) = first == 0x23
 
--- the words of a line: the bytes before, between and behind its spaces
+-- the words of a line: the bytes before, between and after its spaces
 abbrev pub words_of : List ℕ → List (List ℕ)
 words_of line = slice_split (λ byte. byte == 0x20) line
 

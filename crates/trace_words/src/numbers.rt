@@ -13,8 +13,8 @@ ghost use Rattle.trace_words.specs.Numbers.{
   value_of as value_of_digits,
 };
 
-/// A number: `0`, decimal digits whose first isn't 0, or `0x` and 1 to 16 digits of `0` to `9`, `a` to `f`.
-/// None where the word is none of these, or its value isn't below 2^64.
+/// A number: `0`, decimal digits whose first isn't 0, or `0x` and 1 to 16 digits of `0` to `9`, `a` to `f`. None if the
+/// word is none of these, or its value isn't below 2^64.
 #[tactic(auto, unfolding(crate::specs::Numbers::number_of))]
 pub fn number(word: &[u8]) -> Option<u64>
     ensures { result ≡ number_of word.now }
@@ -28,7 +28,7 @@ pub fn number(word: &[u8]) -> Option<u64>
     }
 }
 
-/// A number in decimal: `0`, or digits whose first isn't 0. None where the word is neither, or its value isn't below 2^64.
+/// A number in decimal: `0`, or digits whose first isn't 0. None if the word is neither, or its value isn't below 2^64.
 pub fn decimal(word: &[u8]) -> Option<u64>
     ensures { result ≡ decimal_of word.now }
 {
@@ -94,14 +94,14 @@ fn digit(byte: u8) -> u64
     }
 }
 
-/// A value with one more digit at its end. None where it isn't below 2^64.
+/// A value with one more digit at its end. None if it isn't below 2^64.
 fn with_digit(base: u64, value: u64, byte: u8) -> Option<u64>
     ensures { result ≡ in_64_bits (value * base + digit_of byte) }
 {
     value.checked_mul(base)?.checked_add(digit(byte))
 }
 
-/// The value of digits in a base. None where it isn't below 2^64.
+/// The value of digits in a base. None if it isn't below 2^64.
 fn value_of(base: u64, digits: &[u8]) -> Option<u64>
     requires { 1 ≤ base }
     ensures { result ≡ in_64_bits (value_of_digits base digits.now) }

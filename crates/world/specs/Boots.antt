@@ -53,7 +53,7 @@ hyp_change carve =
       entry = leaf RW carve.first.0 Owned;
     }
 
--- why a world doesn't boot: the first test that fails, or, where none does, that memory was refused
+-- why a world doesn't boot: the first test that fails, or, if none does, refused memory
 abbrev pub IsNoBoot : BootFault → Memory → Config → Type 0
 IsNoBoot config_fault m c = IsAcceptedConfig c → ⊥
 IsNoBoot CarveSmall m c = (g : Geometry) × IsConfig c g × (IsCarveEnough (layout_for m c g) → ⊥)

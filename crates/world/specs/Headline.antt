@@ -68,9 +68,8 @@ pub record CallKeeps (l : Layout) (s : Reference) (c : Call) (t : Reference) : T
       → IsHeld s.contents f (hand k)
       → IsHeld t.contents f (hand k) ⊎ ((c.cpu ≡ k) × GivesHandOn c.step)
 
--- the calls of a list of steps with these replies: they go on from a run of the reference step,
--- which comes from the boot state to where the steps begin, and the run then ends where they end.
--- Each call keeps what it must
+-- the calls of a list of steps with these replies: they continue a run of the reference step from
+-- the boot state to the parts before, and end in the parts after. Each call keeps its promises
 pub record RunsOn {A : Type 0} (p : Parts A) (steps : List (ℕ × Step)) (replies : List Reply)
     (q : Parts A) : Type 0 where
   pub before : List Call

@@ -32,7 +32,7 @@ StepsRight A =
     → Runs Goes p cs q
     → IsRight q
 
--- a refusal, want of memory included
+-- a refusal, also for lack of memory
 abbrev pub IsRefusal : Reply → Type 0
 IsRefusal reply = (why : Refusal) × (reply ≡ Refused why)
 
@@ -79,7 +79,7 @@ StepKeepsHand A =
     → IsHeld (state_of p).contents f (hand k)
     → (cpu ≡ k → GivesHandOn step → ⊥) → IsHeld (state_of q).contents f (hand k)
 
--- where a step is made, all was right before it
+-- if a step is made, the state before it was right
 pub record WasRight {A : Type 0} (p : Parts A) : Type 0 where
   pub rows : RowsAgree (parts_layout p) (state_of p).contents
   pub sound : ∥ Sound (parts_layout p) (state_of p).contents ∥₁

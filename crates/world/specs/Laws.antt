@@ -35,7 +35,7 @@ StepsRun A =
     → Runs Goes p cs q
     → EndsRun (parts_layout p) cs q
 
--- a walk of a component's tree finds just what its maplets say, and these are the coarsest list
+-- a walk of a component's tree finds the map of its maplets, and these are the coarsest list
 pub record Agrees {A : Type 0} (c : Component A) : Type 0 where
   pub walk : meaning c.tree ≡ map_of c.maplets.runs
   pub coarsest : IsCoarsest c.maplets.runs

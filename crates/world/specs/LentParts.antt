@@ -25,7 +25,7 @@ use Rattle.hypercalls.specs.Uses.{uses_of}
 abbrev pub OptionLeft : Type 0 → Type 0
 OptionLeft X = Unit {0} ⊎ ((MutBor X × Unit {0}) ⊎ ⊥)
 
--- what it refers to at the call and at the return
+-- the referent of a reference at the call and at the return
 module _ {X : Type 0} where
   abbrev pub given : Option (MutBor X) → Option X
   given o = option_map (λ r. r.now) o
@@ -63,7 +63,7 @@ module _ {A : Type 0} where
   abbrev pub IsLentReached : Layout → Step → Lent A → Type 0
   IsLentReached l step x = ∥ IsReached l (names step) (slot_in x step) x.cpu.id (used_in x) ∥₁
 
-  -- the call that a step stores, by its reply: none where a log is full
+  -- the call that a step stores, by its reply: none if a log is full
   abbrev pub call_stored : Lent A → Step → Reply → Option Call
   call_stored x step reply = if any_full (logs_in x) then None else Some (call_in x step reply)
 

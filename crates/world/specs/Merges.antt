@@ -76,7 +76,7 @@ MergedHistory =
     → IsMerged h all
     → IsHistory o.layout o.kept all
 
--- of two merged lists of the same logs, the one is a run where the other is, to the same end
+-- if two lists merge the same logs, and one is a run, so is the other, to the same end
 abbrev pub MergedRun : Type 0
 MergedRun =
     (l : Layout) (h : Histories) (log all : List Call) (t : Reference)

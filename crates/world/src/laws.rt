@@ -11,17 +11,17 @@ pub fn steps_run<A: Allocator>()
     ensures { StepsRun A }
 {}
 
-/// After any list of steps of any CPUs what the world represents is right: a walk of each tree's words finds just what its
-/// maplets say, and these are the coarsest list of runs of that map; the owner rows are those from scratch; each memory frame
-/// has one owner, each frame at most one borrower, and what is in use is held once; and nobody else maps a guest's frame but
-/// the host, while the guest's entry is SharedOwned.
+/// After any list of steps of any CPUs the represented state is right: a walk of each tree's words finds the map of its
+/// maplets, and these are the coarsest list of runs of that map; the owner rows are those from scratch; each memory
+/// frame has one owner, each frame at most one borrower, and each frame in use is held once; and nobody but the host
+/// also maps a guest's frame, and the host only while the guest's entry is SharedOwned.
 pub fn steps_right<A: Allocator>()
     ensures { StepsRight A }
 {}
 
-/// No step takes a frame from a Live guest: it stays the frame's owner, and its page of it stays, but where the guest itself
-/// shares it with the host or takes it back, on a CPU that has a vCPU of that guest loaded; then the entry's state alone
-/// changes.
+/// No step takes a frame from a Live guest: the guest remains the frame's owner, and its page of it stays mapped,
+/// unless the guest itself shares it with the host or ends the share, on a CPU that has a vCPU of that guest loaded;
+/// then only the entry's state changes.
 pub fn steps_isolate<A: Allocator>()
     ensures { StepsIsolate A }
 {}
@@ -34,10 +34,10 @@ pub fn merged_lists()
     ensures run { MergedRun }
 {}
 
-/// What the headline gives who made the steps: where all are refused, the state has all that it had. One step leaves a Live
-/// guest its frames, and its pages of them but for its share with the host or the end of that; it leaves a guest that isn't Dying
-/// the frames of its pool and its tables, and a CPU its hand, unless that CPU gives it on. Where a step is made, the state before
-/// it was right.
+/// Corollaries of the headline for the caller. If all steps are refused, the state keeps all that it had. One step
+/// leaves a Live guest its frames, and its pages of them except for a share with the host or the end of one; it leaves
+/// a guest that isn't Dying the frames of its pool and its tables, and a CPU its hand, unless that CPU passes it on. If
+/// a step is made, the state before it was right.
 pub fn after_run<A: Allocator>()
     ensures refused { RefusalsLeave A }
     ensures frames { StepKeepsFrames A }

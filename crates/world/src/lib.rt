@@ -33,7 +33,7 @@ pub use raw::RawWorld;
 use std::alloc::{AllocError, Allocator, Global};
 use table_tree::{PathFault, Reads};
 
-/// A booted world, at the end of one legal history. `A` is where the tables of all trees lie.
+/// A booted world, at the end of one legal history. `A` allocates the tables of all trees.
 #[derive(Drop)]
 pub struct World<A: Allocator> {
     alloc: A,
@@ -57,8 +57,8 @@ impl<A: Allocator + Copy> World<A> {
         Ok(World { alloc, parts })
     }
 
-    /// Makes one step of a CPU, and stores it in the CPU's log and those of the parts that it uses, where none is
-    /// full.
+    /// Makes one step of a CPU, and stores it in the logs of the CPU and of the parts that it uses, unless one of these
+    /// is full.
     pub fn step(&mut self, cpu: u64, step: Step) -> Reply
         requires known { cpu < self.old.parts.layout.config.cpus }
         ensures layout { self.new.parts.layout ≡ self.old.parts.layout }
@@ -67,8 +67,8 @@ impl<A: Allocator + Copy> World<A> {
         self.parts.step(self.alloc, cpu, step)
     }
 
-    /// Makes steps, one after another, and gives a reply for each. The memory of the replies is taken first: where it is
-    /// refused no step is made.
+    /// Makes steps, one after another, and gives a reply for each. It takes the memory of the replies first, and makes
+    /// no step if that is refused.
     pub fn run(&mut self, global: Global, steps: &[(u64, Step)]) -> Result<Vec<Reply>, AllocError>
         requires known { All (λ s. s.0 < self.old.parts.layout.config.cpus) steps.now }
         ensures headline { IfOk result (λ replies. Headline self.old.parts steps.now replies.items self.new.parts) }
@@ -120,10 +120,11 @@ impl<A: Allocator> World<A> {
         histories::histories(global, &self.parts)
     }
 
-    /// A list of all calls of the logs, each once, which cut down to the calls of any one log is that log: CPU, step and reply
-    /// of each. The logs may be any. NoOrder is answered only where there is no such list, so never for the logs of one legal
-    /// history; the list is then itself a legal history that leaves the same (`laws::merged_lists`). Each call costs a look
-    /// at the next call of each CPU, at most. Beside the list it takes memory for a number for each log.
+    /// Merges the logs into one list of calls (CPU, step and reply), each once, whose calls of any one log are that log
+    /// in order. The logs may be any. It answers NoOrder only if no such list exists, so never for the logs of one
+    /// legal history; the list is then itself a legal history that leads to the same state (`laws::merged_lists`). For
+    /// each call it looks at most at the next call of each CPU. Besides the list it takes memory for one number per
+    /// log.
     pub fn merge(
         global: Global,
         histories: &Histories,
@@ -175,8 +176,8 @@ impl<A: Allocator> World<A> {
         kept(global, &self.parts)
     }
 
-    /// What walking every word of the world's tables from scratch finds, with what is in no table as it is. It adds to `reads` each
-    /// word that it reads.
+    /// The state that a walk of every word of the world's tables finds from scratch, with all that is in no table as it
+    /// is. It adds the number of words that it reads to `reads`.
     pub fn recompute(&self, global: Global, reads: &mut Reads) -> Result<Ghost, AllocError>
         ensures state { IfOk result
             (λ g. ghost_state g
@@ -225,10 +226,10 @@ impl<A: Allocator> World<A> {
         self.parts.layout.geometry
     }
 
-    /// Sets the word at a path of a tree, and leaves all else: the world is one of any words then, and makes no step any more.
-    /// PathFault is answered where there is no such word, of an Empty guest too, and then the world is as it was. A poke of the
-    /// word that is there keeps the table under it; any other takes it out. `places` is where guests are kept that are
-    /// poked, and a poke takes no memory.
+    /// Sets the word at a path of a tree, and changes nothing else: the result is a world of arbitrary words, which
+    /// makes no more steps. It answers PathFault if there is no such word, also for an Empty guest, and then the world
+    /// is unchanged. A poke of the word that is already there keeps the table below it; any other takes that table out.
+    /// `places` holds the poked guests, so a poke takes no memory.
     pub fn poke(
         self,
         places: Vec<Option<RawGuest<A>>>,

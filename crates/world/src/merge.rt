@@ -92,7 +92,7 @@ fn is_next_in(log: &[Call], place: usize, call: &Call) -> bool
     }
 }
 
-/// Whether a call is next in a log, where it is one of the log's.
+/// Whether a call is next in a log, if the log has it at all.
 fn is_next_where(used: bool, log: &[Call], place: usize, call: &Call) -> bool
     ensures { IsTrue result ↔ (used ≡ true → first_of (drop place log.now) ≡ Some call.now) }
 {
@@ -158,7 +158,7 @@ fn is_next_on_parts(histories: &Histories, places: &Places, call: &Call) -> bool
     is_next_on_guest(histories, places, call)
 }
 
-/// The next call of a CPU, where it is next in all its logs.
+/// The next call of a CPU, if it is next in all its logs.
 fn next_by(histories: &Histories, places: &Places, cpu: usize) -> Option<Call>
     requires placed { IsPlaced histories.now places.now }
     requires inside { cpu < length histories.now.cpus.items }
@@ -192,7 +192,7 @@ fn find_next(histories: &Histories, places: &Places) -> Option<Call>
     None
 }
 
-/// The place after a log's next call, where that was given.
+/// The place in a log after its next call, if that call was taken; otherwise the same place.
 fn place_after(given: bool, log: &[Call], place: usize) -> usize
     ensures { drop result log.now ≡ (if given then rest_of (drop place log.now) else drop place log.now) }
 {

@@ -5,7 +5,7 @@ use Rattle.page_state.specs.declared.layout.Region.{Region}
 use Rattle.page_state.specs.declared.layout.RegionKind.{RegionKind}
 use Rattle.page_state.specs.declared.layout.RegionKind.TheVariants.{Device, Memory}
 
--- a region of so many pages
+-- a region of `count` pages
 abbrev pub region : RegionKind → ℕ → ℕ → Region
 region kind first count =
     record { kind = kind; pages = record { first = record { 0 = first }; count = count } }

@@ -41,7 +41,7 @@ impl Calls {
         }
     }
 
-    /// How many of so many bytes the next call moves.
+    /// The number of bytes that the next call moves, at most `asked`.
     fn next(&mut self, asked: usize) -> Result<usize, ErrorKind>
         ensures { IfOk result (λ count. count ≤ asked) }
     {
@@ -74,7 +74,7 @@ impl Read for Reader {
     }
 }
 
-/// A writer, and what it was given.
+/// A writer, and the bytes that it got.
 #[derive(Drop)]
 struct Writer {
     written: Vec<u8>,
@@ -102,7 +102,7 @@ enum Program {
     Audit,
 }
 
-/// What a run came to. None where a thread couldn't be started.
+/// The result of a run. None if a thread couldn't start.
 fn ran<R: AllocGlobal + Threads + Wait + Sync>(
     rt: &R,
     program: Program,
@@ -127,8 +127,8 @@ fn begins(text: &[u8], front: &[u8]) -> bool {
     matches!(text.get(..front.len()), Some(begun) if begun == front)
 }
 
-/// Runs the trace, and compares what was written and the outcome: all and Clean, or a beginning and this fault. Answers whether
-/// it was all.
+/// Runs the trace, and compares the written text and the outcome: all and Clean, or a beginning and this fault. Answers
+/// whether it was all.
 fn expect_run<R: AllocGlobal + Threads + Wait + Sync + Abort>(
     rt: &R,
     program: Program,

@@ -104,7 +104,7 @@ fn free(rt: &impl Abort, alloc: Global) -> Vec<u64> {
     frames
 }
 
-/// A Shared part whose carve-out is the hypervisor's, and where no frame is shared. No list is sorted.
+/// A Shared part whose carve-out is the hypervisor's, and in which no frame is shared. No list is sorted.
 fn shared(rt: &impl Abort, alloc: Global) -> Shared {
     let host = [kept(CARVE + 0x20, 0x20), kept(CARVE, 0x20)];
     let hyp = [owned(CARVE + 1, 0x3f), owned(CARVE, 1)];
@@ -192,7 +192,7 @@ fn judged(rt: &impl Abort, alloc: Global, reply: Reply, post: &Ghost) -> Option<
     judge(alloc, &pre, 0, SHARE, &reply, post).expect(rt, "memory")
 }
 
-/// What the model foretells of the share.
+/// The model's reply to the share, and the state after it.
 fn foretold(rt: &impl Abort, alloc: Global) -> (Reply, Ghost) {
     let pre = state(rt, alloc);
     assert!(rt; pre.lists().layout.config.cpus == 1);

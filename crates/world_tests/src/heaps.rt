@@ -1,5 +1,5 @@
-//! Worlds whose tables lie in a heap of their own, in which there is room for a number of further tables, or in memory of which
-//! one request is refused by its number.
+//! Worlds whose tables are in a heap of their own, with room for a number of further tables, or in memory that refuses
+//! one request by its number.
 use crate::sample::{config, memory};
 use call_table::{Refusal, Reply, Step, Value};
 use linked_list_allocator::LocalHeap;
@@ -55,7 +55,7 @@ fn take_blocks<'a>(
     }
 }
 
-/// Takes all of a heap but the room of so many tables.
+/// Takes all of a heap but the room of this number of tables.
 fn fill<'a>(
     rt: &impl Abort,
     global: Global,
@@ -87,8 +87,8 @@ fn expect_state<A: Allocator + Copy>(
     assert!(rt; found.is_none());
 }
 
-/// Shares a page where there is room for so many tables, fewer than two, and then for all. What was had of the heap stays as
-/// a spare of its tree.
+/// Shares a page with room for this number of tables, fewer than two, and then for all. A table already taken from the
+/// heap remains a spare of its tree.
 fn expect_refused(rt: &impl Abort, global: Global, tables: usize) {
     let heap = LocalHeap::new(global, 1 << 17).expect(rt, "memory");
     let mut world = booted(rt, global, &heap);

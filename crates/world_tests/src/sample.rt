@@ -21,8 +21,8 @@ pub(crate) fn region(kind: RegionKind, first: u64, count: u64) -> Region
     Region { kind, pages }
 }
 
-/// 16 pages of a device from page 0x9000 on, and 2,048 of memory from 0x40000 on, with a carve-out of `frames` frames at
-/// 0x40600. Refused where the carve-out is empty or ends past the memory.
+/// 16 pages of a device from page 0x9000 on, and 2,048 of memory from 0x40000 on, with a carve-out of `frames` frames
+/// at 0x40600. Refused if the carve-out is empty or ends past the memory.
 pub(crate) fn memory(alloc: Global, frames: u64) -> Result<MemoryMap, LayoutFault>
     ensures regions { IfOk result (λ m. m.regions ≡ sample_regions) }
     ensures carve { IfOk result (λ m. m.carve ≡ record { first = record { 0 = 0x40600 }; count = frames }) }
@@ -49,7 +49,7 @@ pub(crate) fn config(cpus: u64, log: u64) -> Config
     }
 }
 
-/// The boot state of a memory. None where its carve-out has too few frames.
+/// The boot state of a memory. None if its carve-out has too few frames.
 pub(crate) fn started(
     alloc: Global,
     map: MemoryMap,

@@ -54,7 +54,7 @@ pub record HasLooked (old more new : ℕ) : Type 0 where
   pub fits : 1 ≤ more → new ≤ 18446744073709551615
   pub kept : old ≤ 18446744073709551615 → new ≤ 18446744073709551615
 
--- eight slots, behind references
+-- references to eight slots
 abbrev pub EightSlots : Type 0 → Type 0
 EightSlots A =
     Bor (Slot A)

@@ -11,7 +11,8 @@ use Rattle.table_tree.specs.Shape.{HasSmallFrame}
 use Rattle.ghost_oracle.specs.declared.pending.Pending.{Pending}
 use Rattle.ghost_oracle.specs.inner.Walking.{AreRunsTo, GoesOn}
 
--- the next `left` words that would extend the run give their blocks what its entry advances to
+-- each of the next `left` words that would extend the run gives its block the run's entry, advanced
+-- to that block
 pub record ComesNext (depth end left : ℕ) (h : Pending) : Type 0 where
   pub ahead : (k : ℕ)
       → k < left
@@ -25,7 +26,7 @@ pub record IsPending (m : Map) (depth end left : ℕ) (h : Pending) : Type 0 whe
   pub small : HasSmallFrame h.entry
   pub next : IsTrue h.goes_on → ComesNext depth end left h
 
--- the map says of a block what its word gives it
+-- the map gives each page of a block the value that the block's word gives it
 abbrev pub IsGiven : Map → ℕ → ℕ → ℕ → Type 0
 IsGiven m depth first word =
     (p : ℕ)
@@ -52,7 +53,8 @@ abbrev pub IsPut : Pending → ℕ → List Run → List Run → Type 0
 IsPut h end old new =
     GoesOn (λ page. advance h.entry (page - h.first)) h.first end (map_of old) (map_of new)
 
--- the pending run is what any map says of a block, where the word gives the block that
+-- the pending run agrees with any map on a block, if the word gives the block the value that the
+-- map has
 abbrev pub BeginsWith : ℕ → ℕ → ℕ → ℕ → Pending → Type 0
 BeginsWith depth pages end word h =
     (m : Map) (left : ℕ)
@@ -60,8 +62,8 @@ BeginsWith depth pages end word h =
     → IsGiven m depth end word
     → IsPending m depth (end + pages) left h
 
--- a pending run that is what any map says up to a block is so behind the block, where the word
--- gives the block what the map says
+-- if the old run agrees with a map up to a block, and the word gives the block the map's value, the
+-- new run agrees with the map to the end of the block
 abbrev pub TakesWord : ℕ → ℕ → ℕ → ℕ → Pending → Pending → Type 0
 TakesWord depth pages end word old new =
     (m : Map) (left : ℕ)

@@ -22,7 +22,7 @@ pub record AreRunsTo (page : ℕ) (rs : List Run) : Type 0 where
   pub coarsest : IsCoarsest rs
   pub ended : EndBy page rs
 
--- a run behind a list: its pages go to the last run where it continues that one
+-- appends a run to a list, or extends the last run if the new one continues it
 abbrev pub joined_last : List Run → Run → List Run
 joined_last [] r = r ∷ []
 joined_last (n ∷ []) r = joined n (r ∷ [])
@@ -39,7 +39,7 @@ GoesOnBy depth number t old new =
     GoesOn (entry_at depth t) (number * block_pages (depth + 1))
     ((number + 1) * block_pages (depth + 1)) (map_of old) (map_of new)
 
--- a table at a block with `depth` levels below it, where it is found
+-- a table at a block with `depth` levels below it, in the place where the walk finds it
 abbrev pub found_at : {A : Type 0} → ℕ → ℕ → Table A → FoundTable
 found_at depth number t = record { block = (depth + 1, number); frame = frame_of t }
 

@@ -1,4 +1,4 @@
-//! A pass that is dropped: its CPU keeps what it has, and the machine can't be shut down.
+//! A dropped pass: its CPU keeps all that it has, and the machine can't be shut down.
 ghost use Rattle.std.specs.Prelude.{◌≡◌, ◌∷◌, []};
 ghost use Rattle.part_table.specs.Passes.{IsPassOf};
 
@@ -26,7 +26,7 @@ fn list_of(rt: &impl Abort, alloc: Global, pass: CpuPass<Global>) -> Vec<CpuPass
     list
 }
 
-/// Shuts a machine down with one pass, where another was handed out: both come back, and go on.
+/// Shuts a machine down with one pass while another is out: both come back, and go on.
 fn expect_missing<R: Wait + Abort>(
     rt: &R,
     alloc: Global,

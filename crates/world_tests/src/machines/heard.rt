@@ -1,4 +1,4 @@
-//! What a gate hears of a call, by its parts and by what it finds.
+//! The events that a gate hears of a call, by the call's parts and by the state in which it finds them.
 ghost use Rattle.part_table.specs.Passes.{IsPassOf};
 
 use super::gates::FIRST;
@@ -11,7 +11,7 @@ const TAKEN: u64 = 8;
 /// The call is answered: the digit of `answered`.
 const ANSWERED: u64 = 9;
 
-/// Writes down what it hears of one call, a digit each: an exchange by its kind, `TAKEN` and `ANSWERED`. A call of another CPU
+/// Records the events of one call, a digit each: an exchange by its kind, `TAKEN` and `ANSWERED`. A call of another CPU
 /// or another number is a 0.
 #[derive(Drop)]
 pub(super) struct Heard {

@@ -66,7 +66,7 @@ fn make_second<R: Wait + Abort>(rt: &R, machine: &Machine<Global>, pass: &mut Cp
     expect_init(rt, machine, pass, asked, Ok(vm));
 }
 
-/// CPU 0 makes the VM of the first slot, and CPU 1, after what it is refused, that of the second.
+/// CPU 0 makes the VM of the first slot, and CPU 1, after its refusals, that of the second.
 pub(super) fn make_both<R: Wait + Abort>(
     rt: &R,
     machine: &Machine<Global>,

@@ -186,7 +186,7 @@ impl<'a> Gate for Crossed<'a> {
     fn answered(&self, _cpu: u64, _number: u64) {}
 }
 
-/// What was heard of the donation, and what was answered in the middle.
+/// The events heard of the donation, and the replies in the middle of it.
 fn found<'a>(gate: Crossed<'a>) -> (u64, Option<(Reply, Reply)>) {
     let Crossed {
         other,

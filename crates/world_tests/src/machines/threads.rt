@@ -106,7 +106,7 @@ impl Caller {
         }
     }
 
-    /// A call about a guest, mostly the CPU's own.
+    /// A call about a guest, in most cases the CPU's own.
     fn step_of_guest(&mut self) -> Step {
         let other = self.numbers.below(CPUS);
         let is_own = self.numbers.below(4) > 0;
