@@ -25,7 +25,7 @@ pub record AreIn64Bits (l : PlainLayout) (regions : List PlainRegion) : Type 0 w
   pub count : Fits l.carve_count
   pub regions_are : FitRegions regions
 
--- lines lead from settings to others, each by a setting that it says where it comes
+-- lines lead from settings to others, each by a setting that the line says at its place
 abbrev pub SaySettings : List (List ℕ) → Told → Told → Type 0
 SaySettings [] told end = told ≡ end
 SaySettings (line ∷ more) told end =

@@ -17,7 +17,7 @@ use Rattle.c_calls.specs.declared.lines.Unwritten.{Unwritten}
 use Rattle.c_calls.specs.declared.lines.Unwritten.TheVariants as unwritten
 use Rattle.c_calls.specs.Texts.{IsOffered}
 
--- a word and a number behind it, and a word, a page and a count
+-- a word and then a number; and a word, a page and a count
 abbrev pub number_line : List ℕ → ℕ → List ℕ
 number_line word n = word ++ codes " " ++ decimal n
 
@@ -33,7 +33,7 @@ abbrev pub config_lines : ℕ → ℕ → List (List ℕ)
 config_lines bits cpus =
     number_line (codes "geometry") bits ∷ number_line (codes "cpus") cpus ∷ codes "log 1048576" ∷ []
 
--- those behind them: the carve-out, and the boot
+-- the lines after those: the carve-out, and the boot
 abbrev pub end_lines : ℕ → ℕ → List (List ℕ)
 end_lines first count = range_line (codes "carve") first count ∷ codes "boot" ∷ []
 
@@ -53,7 +53,7 @@ text_of_lines (line ∷ more) = line ++ (codes "\n" ++ text_of_lines more)
 abbrev pub text_of_start : PlainLayout → List PlainRegion → List ℕ
 text_of_start l regions = text_of_lines (setting_lines l regions ++ (codes "boot" ∷ []))
 
--- a line says this wherever a step may be: after any settings, and before `start` or behind it
+-- a line says this wherever a step may be: after any settings, and before `start` or after it
 abbrev pub IsReadAs : List ℕ → Line → Type 0
 IsReadAs line says =
     (started : Bool) (told : Told) → said (of_replay started) told line ≡ Ok (Some says)

@@ -1,5 +1,4 @@
--- Steps in numbers: the call's, and those of its arguments in the order of its forms, with 0 behind
--- them.
+-- Steps in numbers: the call's, and those of its arguments in the order of its forms, and then 0.
 use Rattle.std.specs.Prelude.{ℕ, List, [], ◌∷◌}
 use Rattle.call_table.specs.declared.argument.Arguments.{Arguments}
 use Rattle.call_table.specs.declared.argument.Form.{Form}

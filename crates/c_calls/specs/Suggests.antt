@@ -13,8 +13,8 @@ use Rattle.c_calls.specs.declared.suggest.Suggested.{Suggested}
 use Rattle.c_calls.specs.declared.suggest.Unsuggested.{Unsuggested}
 use Rattle.c_calls.specs.declared.suggest.Unsuggested.TheVariants as unsuggested
 
--- a call of the model, which it refuses just where chance says so, on a layout and lists that make
--- a state
+-- a call of the model, which it refuses if and only if chance says so, on a layout and lists that
+-- make a state
 pub record IsSuggestedCall (l : PlainLayout) (regions : List PlainRegion) (p : Lists)
     (random hostile : ℕ) (told : Suggested) : Type 0 where
   pub step : Step

@@ -67,7 +67,7 @@ fn config_text(alloc: Global, bits: u64, cpus: u64) -> Result<String, AllocError
     format!(in alloc; "geometry {bits}\ncpus {cpus}\nlog 1048576\n")
 }
 
-/// Adds the lines behind those of regions.
+/// Adds the lines after those of regions.
 fn add_end(text: &mut String, first: u64, count: u64) -> Result<(), AllocError>
     ensures { OnOk result
         (string_bytes text.new ≡ string_bytes text.old ++ text_of_lines (end_lines first count)) }

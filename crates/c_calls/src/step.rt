@@ -78,7 +78,7 @@ fn bare(call: u64) -> PlainStep
     }
 }
 
-/// A step in numbers, with 0 behind those of its arguments.
+/// A step in numbers: the call's and those of its arguments, and then 0.
 pub fn step_told(step: Step) -> PlainStep
     ensures { result ≡ step_written step }
 {

@@ -42,7 +42,7 @@ pub record IsTold (l : PlainLayout) (regions : List PlainRegion) (before : Lists
 abbrev pub differs : Disagreement → Found
 differs d = Differs d
 
--- a disagreement on a reply that stands for a refusal by a number
+-- a disagreement on a reply that replaces a refusal given by number
 abbrev pub renamed : ℕ → Disagreement → Found
 renamed n (ReplyDiffers said spec) = Refusal n spec
 renamed n d = Differs d
@@ -89,8 +89,8 @@ module _ (w : Freedoms) (l : Layout) (cpus : ℕ) (before : Contents) (cpu : ℕ
     pub taken : AreTaken cpus after
     pub judged : IsJudgedFreely w l before cpu step reply (contents_said after) found
 
-  -- a refusal that the model hasn't stands for one, where any does; else it disagrees, and so does
-  -- a call that stopped the machine
+  -- a refusal by a number that the model doesn't know counts as any refusal if that freedom is
+  -- given; else it disagrees, and so does a call that stopped the machine
   abbrev pub IsFoundOf : Said → Lists → Option Found → Type 0
   IsFoundOf (said.Known reply) after found =
       (o : Option Disagreement) × IsCompared reply after o × (found ≡ option_map differs o)

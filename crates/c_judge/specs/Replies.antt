@@ -1,4 +1,4 @@
--- What the numbers of a reply say, where the model may not have it.
+-- The reply that numbers say, which the model may not have.
 use Rattle.std.specs.Prelude.{◌==◌, ℕ, Option, Some, None, if◌then◌else◌}
 use Rattle.call_table.specs.declared.reply.Reply.{Reply}
 use Rattle.c_words.specs.declared.reply.PlainReply.{PlainReply}

@@ -22,7 +22,7 @@ use ghost_judge::disagreement::Disagreement;
 use ghost_spec::state::Ghost;
 use std::alloc::Global;
 
-/// What is compared: a reply that the model has, and the states.
+/// Compares a reply that the model has, and the states.
 fn compared(
     alloc: Global,
     freedoms: Freedoms,
@@ -72,7 +72,7 @@ fn told(
     }
 }
 
-/// A difference from a reply that stands for a refusal with a number.
+/// A difference from a reply that replaced a refusal with a number.
 fn renamed_to(number: u64, d: Disagreement) -> Found
     ensures { result ≡ renamed number d }
 {
@@ -122,7 +122,8 @@ fn found_from(
     }
 }
 
-/// Judges a call up to the freedoms. Its states' tables and free frames must be well, where they are there, and aren't compared.
+/// Judges a call up to the freedoms. Its states' tables and free frames must be valid, if they are there, and aren't
+/// compared.
 pub(crate) fn found_freely(
     alloc: Global,
     freedoms: Freedoms,

@@ -10,8 +10,8 @@ use crate::wanted::freedoms_of;
 use c_states::{PlainCall, PlainLayout, PlainState};
 use std::alloc::Global;
 
-/// Judges a call by the state before it, its reply and the state after it: none where they agree with the model up to the layout's
-/// freedoms, else the first difference. Without a freedom the states' tables and pools are compared too.
+/// Judges a call by the state before it, its reply and the state after it: None if they agree with the model up to the
+/// layout's freedoms, else the first difference. Without a freedom the states' tables and pools are compared too.
 pub fn judged_by(
     alloc: Global,
     layout: &PlainLayout<'_>,

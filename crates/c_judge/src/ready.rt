@@ -10,7 +10,7 @@ use call_table::Step;
 use ghost_spec::state::{Ghost, has_next_generation};
 use std::alloc::Global;
 
-/// The step and the state before it, where the CPU can make it.
+/// The step and the state before it, if the CPU can make it.
 pub(crate) fn ready(
     alloc: Global,
     layout: &PlainLayout<'_>,

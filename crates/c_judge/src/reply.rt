@@ -8,7 +8,7 @@ use call_table::Reply;
 /// The number of a call that stopped the machine, in the place of a refusal's.
 const STOPPED: u64 = 65536;
 
-/// What is said of a call.
+/// A call's answer, by its numbers.
 #[derive(Clone, Copy, PartialEq)]
 pub(crate) enum Said {
     /// A reply that the model has.
@@ -19,7 +19,7 @@ pub(crate) enum Said {
     Stopped,
 }
 
-/// What the numbers say. None where the call was made, and a number of what it gives is unknown.
+/// The answer that the numbers say. None if the call was made, and a number of its value is unknown.
 pub(crate) fn said_of(reply: PlainReply) -> Option<Said>
     ensures { result ≡ said_of_numbers reply }
 {

@@ -1,4 +1,4 @@
-//! What is found as text.
+//! Findings as text.
 ghost use Rattle.std.specs.Prelude.{◌≡◌, ◌<◌, ◌≤◌, IfOk, OnErr, Some, drop, length, take};
 ghost use Rattle.c_judge.specs.Texts.{text_of_found};
 
@@ -28,7 +28,7 @@ impl fmt::Display for Told {
     }
 }
 
-/// Writes what is found into the front of `text`, if that has room for all of it, and returns its length in bytes.
+/// Writes a finding into the front of `text`, if that has room for all of it, and returns its length in bytes.
 pub fn write_found(alloc: Global, found: Found, text: &mut [u8]) -> Result<usize, AllocError>
     ensures count { IfOk result (λ n. n ≡ length (text_of_found found)) }
     ensures written { IfOk result (λ n. n ≤ length text.old → take n text.new ≡ text_of_found found) }

@@ -7,14 +7,14 @@ use freedoms::Freedoms;
 /// Why freedoms are refused. The first that is true is answered, in the order of the variants.
 #[derive(Clone, Copy, PartialEq)]
 pub enum FreedomsFault {
-    /// A bit that stands for none.
+    /// A bit that is no freedom's.
     Unknown,
     /// A freedom without that of own tables.
     WithoutOwnTables,
 }
 
-/// The freedoms of a number: none at 0, where a call is judged exactly. Bit 0 stands for own tables, 1 for a lazy host, 2 for any kind of
-/// a device's page, and 3 for any name of a refusal.
+/// The freedoms of a number: none at 0, with which a call is judged exactly. Bit 0 is for own tables, 1 for a lazy
+/// host, 2 for any kind of a device's page, and 3 for any name of a refusal.
 pub(crate) fn freedoms_of(number: u64) -> Result<Option<Freedoms>, FreedomsFault>
     ensures taken { IfOk result (IsTakenAs number) }
     ensures fault { IfErr result (IsFreedomsFault number) }

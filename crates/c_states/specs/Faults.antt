@@ -16,7 +16,7 @@ use Rattle.c_states.specs.Known.{is_run, is_table, is_frame, is_slot, is_load, i
 use Rattle.c_states.specs.Lists.{cpu_listed, cpu_said, frames_said, rows_said, runs_said, tables_said}
 use Rattle.c_states.specs.States.{Lists}
 
--- the first member of a list with an unknown number, and where there is none that of the others
+-- the first member of a list with an unknown number, and if there is none that of the others
 abbrev pub unknown_in : {X : Type 0}
     → (X → Bool)
     → List X
@@ -26,7 +26,7 @@ abbrev pub unknown_in : {X : Type 0}
 unknown_in known members list others =
     elim (position (λ x. not (known x)) members) [ None ↦ others | Some at ↦ Some (list, at) ]
 
--- from the loads on, with so many CPUs
+-- from the loads on, with this number of CPUs
 abbrev pub first_unknown_later : ℕ → Lists → Option (PlainList × ℕ)
 first_unknown_later cpus p =
     unknown_in is_load p.loads lists.Loads
@@ -69,13 +69,13 @@ pub record AreRead (cpus : ℕ) (p : Lists) : Type 0 where
   pub rows : AreTakenRows p
   pub once : AreOnce p
 
--- a CPU's hand is small, and what it has loaded and its ticket are of one of the 64 slots
+-- a CPU's hand is small, and its loaded vCPU and its ticket are of one of the 64 slots
 pub record IsLowCpu (k : Cpu) : Type 0 where
   pub hand : IsSmallRange k.hand
   pub loaded : HasLowLoad k.loaded
   pub ticket : HasLowTicket k.ticket
 
--- so is each of so many CPUs, and the pages and frames of all trees and pools are small
+-- so is each of `cpus` CPUs, and the pages and frames of all trees and pools are small
 pub record HaveLowNumbers (cpus : ℕ) (p : Lists) : Type 0 where
   pub runs : (tree : ℕ) → tree < 66 → AreSmall (runs_said p.runs tree)
   pub tables : (tree : ℕ) → tree < 66 → All (λ t. t.frame ≤ 2 ^ 62) (tables_said p.tables tree)

@@ -81,7 +81,7 @@ abbrev pub slot_filled : List PlainLoad → ℕ → PlainSlot → Slot
 slot_filled loads v s = let said = slot_said loads v s in
     record said { loaded = λ vcpu. if nat_lt vcpu 8 then said.loaded vcpu else None }
 
--- all lists, for so many CPUs
+-- all lists, for `count` CPUs
 pub record IsFilled (count : ℕ) (p : Lists) (l : GhostLists) : Type 0 where
   pub shared : IsFilledShared p l.shared
   pub slots : map slot_in l.vms.items

@@ -43,9 +43,9 @@ pub record CanCall (l : PlainLayout) (regions : List PlainRegion) (before : List
   pub taken : AreTaken l.cpus before
   pub generation : HasNextGeneration ((contents_said before).cpu cpu).ticket step
 
--- the call is judged: it could be made, and the state after it is one. Nothing is found just where
--- the reply and the state after it are the model's, or a step that wants memory changed nothing;
--- else the first difference
+-- the call is judged: it could be made, and the lists after it make a state. Nothing is found if
+-- and only if the reply and the state after it are the model's, or a step that needs memory changed
+-- nothing; else the first difference
 pub record IsJudged (l : PlainLayout) (regions : List PlainRegion) (before : Lists)
     (call : PlainCall) (after : Lists) (found : Option Disagreement) : Type 0 where
   pub step : Step
@@ -60,8 +60,7 @@ pub record IsJudged (l : PlainLayout) (regions : List PlainRegion) (before : Lis
       (IsFirstJudged (contents_said before) step reply (contents_said after)
       (told_said l regions before call.cpu step))
 
--- the reply to a step on a state is the model's, with 0 in each field that isn't named for what it
--- gives
+-- the reply to a step on a state is the model's, with 0 in each field that has no part in its value
 pub record IsForetold (l : PlainLayout) (regions : List PlainRegion) (before : Lists) (cpu : ℕ)
     (plain : PlainStep) (reply : PlainReply) : Type 0 where
   pub step : Step
@@ -84,7 +83,7 @@ pub record HasLastGeneration (before : Lists) (cpu : ℕ) (plain : PlainStep) : 
   pub step_is : step_said plain ≡ Some step
   pub last : ¬ HasNextGeneration ((contents_said before).cpu cpu).ticket step
 
--- why a step isn't foretold: the first that is true
+-- why a step isn't predicted: the first reason that is true
 abbrev pub IsUntold : PlainLayout → List PlainRegion → Lists → ℕ → PlainStep → Unjudged → Type 0
 IsUntold l regions before cpu plain unjudged.Step = step_said plain ≡ None
 IsUntold l regions before cpu plain unjudged.Reply = ⊥
@@ -114,7 +113,7 @@ IsUnjudged l regions before call after unjudged.NoMemory = Unit {0}
 IsUnjudged l regions before call after other =
     IsSome (reply_said call.reply) × IsUntold l regions before call.cpu call.step other
 
--- why it isn't, where it could be made
+-- why it isn't, if it could be made
 abbrev pub IsUnjudgedAfter : PlainLayout → List PlainRegion → Lists → Unjudged → Type 0
 IsUnjudgedAfter l regions after (unjudged.After why) = IsUnmade l regions after why
 IsUnjudgedAfter l regions after unjudged.NoMemory = Unit {0}

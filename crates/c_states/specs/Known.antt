@@ -33,11 +33,11 @@ is_load l = nat_lt l.slot 64 && nat_lt l.vcpu 8
 abbrev pub is_guest : PlainGuest → Bool
 is_guest g = nat_lt g.slot 64 && (nat_lt g.phase 3 && nat_lt g.kind 2)
 
--- a ticket, where there is one
+-- a ticket, if there is one, has known numbers
 abbrev pub has_known_ticket : PlainCpu → Bool
 has_known_ticket k = k.has_ticket == 0 || nat_lt k.ticket_kind 2 && nat_lt k.ticket_stage 5
 
--- one of so many CPUs
+-- one of `count` CPUs, with known numbers
 abbrev pub is_cpu : ℕ → PlainCpu → Bool
 is_cpu count k = nat_lt k.cpu count && ((k.has_vcpu == 0 || nat_lt k.vcpu 8) && has_known_ticket k)
 

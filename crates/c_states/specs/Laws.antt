@@ -20,7 +20,7 @@ use Rattle.c_states.specs.Judged.{IsForetold, IsForetoldState, IsJudged, IsUnjud
 use Rattle.c_states.specs.Layouts.{IsLayoutFault, IsTakenLayout}
 use Rattle.c_states.specs.States.{Lists, contents_said}
 
--- memory was wanting, for a layout or a state
+-- memory ran out, for a layout or a state
 abbrev pub MadeLacksMemory : Unmade → Type 0
 MadeLacksMemory (unmade.Layout layouts.NoMemory) = Unit {0}
 MadeLacksMemory (unmade.State faults.NoMemory) = Unit {0}
@@ -33,7 +33,7 @@ LacksMemory (unjudged.After why) = MadeLacksMemory why
 LacksMemory unjudged.NoMemory = Unit {0}
 LacksMemory other = ⊥
 
--- a layout and lists that are taken are refused for want of memory alone
+-- a layout and lists that are taken are refused only if memory runs out
 abbrev pub MadeElse : Type 0
 MadeElse =
     (l : PlainLayout) (regions : List PlainRegion) (p : Lists) (why : Unmade)
@@ -51,7 +51,7 @@ JudgedElse =
     → IsUnjudged l regions before call after why
     → LacksMemory why
 
--- one that is foretold
+-- so is a call that is predicted
 abbrev pub ForetoldElse : Type 0
 ForetoldElse =
     (l : PlainLayout) (regions : List PlainRegion) (before : Lists) (cpu : ℕ) (step : PlainStep)
@@ -92,7 +92,7 @@ ForetoldStateOnce =
     → IsForetoldState l regions before cpu step s b
     → (r ≡ s) × (contents_said a ≡ contents_said b)
 
--- a layout has one fault but want of memory
+-- a layout has at most one fault, aside from memory that runs out
 abbrev pub LayoutFaultOnce : Type 0
 LayoutFaultOnce =
     (l : PlainLayout) (regions : List PlainRegion) (f g : PlainLayoutFault)
@@ -116,7 +116,7 @@ UnmadeOnce =
     → IsUnmade l regions p g
     → MadeLacksMemory f ⊎ (MadeLacksMemory g ⊎ (f ≡ g))
 
--- so has a call that isn't foretold
+-- so has a call that isn't predicted
 abbrev pub UntoldOnce : Type 0
 UntoldOnce =
     (l : PlainLayout) (regions : List PlainRegion) (before : Lists) (cpu : ℕ) (step : PlainStep)
@@ -134,8 +134,8 @@ UnjudgedOnce =
     → IsUnjudged l regions before call after g
     → LacksMemory f ⊎ (LacksMemory g ⊎ (f ≡ g))
 
--- no member of a state that is foretold has an unknown number, or is there twice, where no vCPU
--- past the eighth is loaded
+-- no member of a state that is predicted has an unknown number, or is there twice, if no vCPU past
+-- the eighth is loaded
 abbrev pub ForetoldKnown : Type 0
 ForetoldKnown =
     (l : PlainLayout) (regions : List PlainRegion) (before : Lists) (cpu : ℕ) (step : PlainStep)

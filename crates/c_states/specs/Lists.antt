@@ -22,7 +22,7 @@ use Rattle.c_states.specs.declared.members.PlainGuest.{PlainGuest}
 use Rattle.c_states.specs.declared.members.PlainCpu.{PlainCpu}
 use Rattle.c_states.specs.declared.members.PlainRow.{PlainRow}
 
--- the member of a number, where one is listed, and else this
+-- the member of a number if one is listed, and else `none`
 abbrev pub listed : {X : Type 0} → (X → ℕ) → X → List X → ℕ → X
 listed number none xs n = unwrap_or (find (λ x. number x == n) xs) none
 

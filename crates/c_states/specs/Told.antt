@@ -38,7 +38,7 @@ lists_owned p =
 abbrev pub AreKnown : {X : Type 0} → (X → Bool) → List X → Type 0
 AreKnown known xs = All (λ x. IsTrue (known x)) xs
 
--- each guest is given by the number of its tree, with what it has
+-- each guest's members are listed under the number of its tree
 abbrev pub TellsGuests : {X : Type 0}
     → (ℕ → List X)
     → (GhostGuest → List X)
@@ -60,8 +60,8 @@ AreLoads xs = All (λ l. l.slot < 64) xs
 abbrev pub is_cpu_told : ℕ → PlainCpu → Bool
 is_cpu_told cpus k = nat_lt k.cpu cpus && has_known_ticket k
 
--- given lists have known numbers, but for those of vCPUs, and no slot, guest or CPU is there twice.
--- A vCPU may be past the eighth where its slot has more than 8
+-- the lists given have known numbers, but for those of vCPUs, and no slot, guest or CPU is there
+-- twice. A vCPU may be past the eighth if its slot has more than 8
 pub record AreTold (cpus : ℕ) (p : Lists) : Type 0 where
   pub runs : AreKnown is_run p.runs
   pub tables : AreKnown is_table p.tables

@@ -83,8 +83,9 @@ pub fn made(
     }
 }
 
-/// Judges a call by the state before it, its reply and the state after it: none where both are those that the model says, or
-/// where the call was refused for want of memory, which the model's step may be, and changed nothing. Else the first difference.
+/// Judges a call by the state before it, its reply and the state after it: None if both are as the model says, or if
+/// the call was refused because memory ran out, as the model's step may be, and changed nothing. Else the first
+/// difference.
 pub fn judged(
     alloc: Global,
     layout: &PlainLayout<'_>,

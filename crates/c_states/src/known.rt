@@ -88,7 +88,7 @@ pub(crate) fn first_unknown<T: Known>(members: &[T]) -> Option<usize>
     members.iter().position(|member| !member.is_known())
 }
 
-/// Whether a CPU is one of so many, and all its numbers are known.
+/// Whether a CPU's number is below the count, and all its numbers are known.
 fn is_known_cpu(count: u64, cpu: PlainCpu) -> bool
     ensures { result ≡ is_cpu count cpu }
 {
@@ -97,7 +97,7 @@ fn is_known_cpu(count: u64, cpu: PlainCpu) -> bool
         && (cpu.has_ticket == 0 || cpu.ticket_kind < 2 && cpu.ticket_stage < 5)
 }
 
-/// The index of the first CPU that isn't one of so many, or has a number that isn't known.
+/// The index of the first CPU whose number isn't below the count, or that has an unknown number.
 pub(crate) fn first_unknown_cpu(cpus: &[PlainCpu], count: u64) -> Option<usize>
     ensures { result ≡ position (λ k. not (is_cpu count k)) cpus.now }
 {

@@ -1,4 +1,4 @@
-//! What holds of calls that are judged and foretold.
+//! Laws of calls that are judged and predicted.
 ghost use Rattle.c_states.specs.Laws.{
   ForetoldElse,
   ForetoldKnown,
@@ -15,7 +15,7 @@ ghost use Rattle.c_states.specs.Laws.{
   UntoldOnce,
 };
 
-/// What is taken, judged or foretold is refused for want of memory alone.
+/// Lists that are taken, and calls that are judged or predicted, are refused only if memory runs out.
 pub fn no_refusal()
     ensures made { MadeElse }
     ensures judged { JudgedElse }
@@ -30,7 +30,7 @@ pub fn one_answer()
     ensures state { ForetoldStateOnce }
 {}
 
-/// What is refused, and not for want of memory, has one reason: the first.
+/// A refusal has one reason, the first, unless memory ran out.
 pub fn one_reason()
     ensures layout { LayoutFaultOnce }
     ensures lists { PlainFaultOnce }
@@ -39,7 +39,7 @@ pub fn one_reason()
     ensures judged { UnjudgedOnce }
 {}
 
-/// A state that is foretold has known numbers, and nothing twice, where no vCPU past the eighth is loaded.
+/// A state that is predicted has known numbers, and nothing twice, if no vCPU past the eighth is loaded.
 pub fn foretold_known()
     ensures { ForetoldKnown }
 {}

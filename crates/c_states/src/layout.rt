@@ -101,7 +101,7 @@ fn memory_of(alloc: Global, layout: &PlainLayout<'_>) -> Result<MemoryMap, Plain
     }
 }
 
-/// The layout of these numbers, where its memory is accepted. Each log has room for one call.
+/// The layout of these numbers, if its memory is accepted. Each log has room for one call.
 pub fn layout_of(alloc: Global, layout: &PlainLayout<'_>) -> Result<Layout, PlainLayoutFault>
     ensures layout { IfOk result (λ l. layout_of_code l ≡ layout_said layout.now layout.now.regions.now) }
     ensures config { IfOk result

@@ -1,5 +1,5 @@
-//! States and layouts as lists of plain structs, which C and Rust lay out alike: what they say, the judgement of a call by them,
-//! and the prediction of one.
+//! States and layouts as lists of plain structs, which C and Rust lay out alike: the values that they say, the
+//! judgement of a call by them, and the prediction of one.
 #![tactic(auto)]
 
 mod clash;

@@ -356,7 +356,7 @@ fn listed_cpu(cpus: &[PlainCpu], number: u64) -> PlainCpu
     })
 }
 
-/// The own states of so many CPUs.
+/// The own states of `count` CPUs.
 pub(crate) fn cpus_of(
     alloc: Global,
     cpus: &[PlainCpu],

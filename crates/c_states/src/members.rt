@@ -9,7 +9,7 @@ pub struct PlainRun {
     pub tree: u64,
     /// The first page: an input address divided by 4,096.
     pub page: u64,
-    /// How many pages.
+    /// The number of pages.
     pub count: u64,
     /// An annotation, a leaf or a malformed word. Pages that are in no run are unmapped.
     pub word: PlainWord,
@@ -50,7 +50,7 @@ pub struct PlainSlot {
     pub generation: u64,
     /// 0 plain, 1 protected; 0 for a vacant slot.
     pub kind: u64,
-    /// How many vCPUs the VM has; 0 for a vacant slot.
+    /// The number of vCPUs of the VM; 0 for a vacant slot.
     pub vcpus: u64,
 }
 
@@ -72,7 +72,7 @@ pub struct PlainGuest {
     pub slot: u64,
     /// 0 empty, 1 live, 2 dying.
     pub phase: u64,
-    /// That of its VM; 0 for an empty guest.
+    /// The generation of its VM; 0 for an empty guest.
     pub generation: u64,
     /// 0 plain, 1 protected; 0 for an empty guest.
     pub kind: u64,
@@ -84,20 +84,20 @@ pub struct PlainGuest {
 pub struct PlainCpu {
     /// Its number, below the layout's number of CPUs.
     pub cpu: u64,
-    /// Not 0 where the CPU has a vCPU loaded.
+    /// Not 0 if the CPU has a vCPU loaded.
     pub has_vcpu: u64,
-    /// Where it has: the vCPU's VM, and its number there, 0 to 7.
+    /// If it has: the vCPU's VM, and its number there, 0 to 7.
     pub vcpu_slot: u64,
     pub vcpu_generation: u64,
     pub vcpu: u64,
-    /// Not 0 where the CPU has funded frames in its hand.
+    /// Not 0 if the CPU has funded frames in its hand.
     pub has_hand: u64,
-    /// Where it has: the first, and how many.
+    /// If it has: the first, and how many.
     pub hand_first: u64,
     pub hand_count: u64,
-    /// Not 0 where the CPU is making or ending a VM.
+    /// Not 0 if the CPU is making or ending a VM.
     pub has_ticket: u64,
-    /// Where it is: the VM and its kind, 0 plain and 1 protected.
+    /// If it is: the VM and its kind, 0 plain and 1 protected.
     pub ticket_slot: u64,
     pub ticket_generation: u64,
     pub ticket_kind: u64,
@@ -111,7 +111,7 @@ pub struct PlainCpu {
 pub struct PlainRow {
     /// The first frame.
     pub frame: u64,
-    /// How many frames.
+    /// The number of frames.
     pub count: u64,
     pub owner: PlainOwner,
 }

@@ -207,7 +207,7 @@ fn filled(
     })
 }
 
-/// Both values, where neither was refused.
+/// Both values, if neither was refused.
 pub(crate) fn both<A: Drop, B: Drop>(
     first: Result<A, AllocError>,
     second: Result<B, AllocError>,
@@ -234,8 +234,8 @@ pub enum PlainList {
 /// Why lists make no state. The first that is true is answered, in the order of the variants.
 #[derive(Clone, Copy, PartialEq)]
 pub enum PlainFault {
-    /// The member of that list at this index has a number that stands for nothing: a tree, a pool, a slot, a CPU or a vCPU that
-    /// can't be, or an unknown variant.
+    /// The member of that list at this index has a number with no meaning: of a tree, a pool, a slot, a CPU or a vCPU
+    /// that can't be, or of an unknown variant.
     Unknown(PlainList, usize),
     /// Two runs of owner rows share a frame (Overlap), or a frame or a lent page is too large (TooLarge).
     Rows(GhostFault),
@@ -326,7 +326,7 @@ fn tested(alloc: Global, lists: &GhostLists) -> Result<Ghost, GhostFault>
     Ghost::of(alloc, lists)
 }
 
-/// The member that makes lists have a fault, where it is one of two that can't be there both.
+/// The member that makes lists have a fault, if the fault comes from one of two that can't both be there.
 fn culprit(state: &PlainState<'_>, fault: GhostFault) -> Option<(PlainList, usize)>
     ensures { (cpus : ℕ)
         → IsFirstOfLists cpus (lists_told state.now) fault

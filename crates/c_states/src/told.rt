@@ -280,7 +280,7 @@ fn slots_told(alloc: Global, slots: &[GhostSlot]) -> Result<Vec<PlainSlot>, Allo
     Ok(told)
 }
 
-/// Adds a load, where a CPU has the vCPU loaded.
+/// Adds a load, if a CPU has the vCPU loaded.
 fn tell_load(
     told: &mut Vec<PlainLoad>,
     slot: u64,
@@ -496,8 +496,8 @@ fn rows_told(alloc: Global, runs: &[run_list::Run<Row>]) -> Result<Vec<PlainRow>
     Ok(told)
 }
 
-/// The lists that say a state: all 64 slots and guests and all CPUs, by number, and of each map the coarsest runs. The free frames
-/// of each pool are told as they are kept; read again, they are in order.
+/// The lists that say a state: all 64 slots and guests and all CPUs, by number, and of each map the coarsest runs. The
+/// free frames of each pool are listed as they are kept; read again, they are in order.
 pub fn lists_of(alloc: Global, state: &Ghost) -> Result<PlainLists, AllocError>
     ensures said { IfOk result (λ p. contents_said (lists_owned p) ≡ in_pool_order (contents_in state.now)) }
     ensures told { IfOk result (λ p. AreTold state.now.layout.config.cpus (lists_owned p)) }

@@ -1,4 +1,4 @@
--- What a tree says whose tables lie in pages: a table word leads on to the page of its frame, where
+-- The map of a tree whose tables lie in pages: a table word leads on to the page of its frame, if
 -- there is one. Depths count the levels below.
 use Rattle.std.specs.Prelude.{◌≡◌, ℕ, zero, suc, ◌+◌, ◌*◌, ◌/◌, ◌%◌, ◌^◌, ◌<◌, ◌==◌, nat_lt, List, [], ◌∷◌, ◌++◌, map, get_or, length, find, Option, Some, None, if◌then◌else◌}
 use Rattle.descriptor.specs.declared.Desc.{Desc}
@@ -29,7 +29,7 @@ IsWhole page = length (words_of page) ≡ 512
 abbrev pub page_of : List PlainPage → ℕ → Option PlainPage
 page_of pages frame = find (λ p. p.frame == frame) pages
 
--- the page that a descriptor leads on to: a table's, where its frame has one
+-- the page that a descriptor leads on to: a table's, if its frame has one
 abbrev pub led : List PlainPage → Desc → Option PlainPage
 led pages (Table frame) = page_of pages frame.0
 led pages other = None
@@ -46,7 +46,7 @@ abbrev pub led_at : List PlainPage → ℕ → ℕ → Option PlainPage
 led_at pages zero word = None
 led_at pages (suc depth) word = led pages (desc_of (level_at (suc depth)) word)
 
--- what one gives where a word doesn't lead on, and else by the page
+-- `here` if a word doesn't lead on, and else `below` of the page
 abbrev pub led_case : {R : Type 0} → R → (PlainPage → R) → Option PlainPage → R
 led_case here below led = elim led [ None ↦ here | Some next ↦ below next ]
 
@@ -71,7 +71,7 @@ entry_by pages (suc depth) table page =
     (λ next. entry_by pages depth next page)
     (led_at pages (suc depth) (word_on (suc depth) table page))
 
--- what the words of a list give, each by its number
+-- `f` of each word of a list and its number, one after the other
 abbrev pub along : {X : Type 0} → (ℕ → ℕ → List X) → ℕ → List ℕ → List X
 along f number [] = []
 along f number (word ∷ words) = f number word ++ along f (number + 1) words

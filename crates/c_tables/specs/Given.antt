@@ -13,7 +13,7 @@ use Rattle.c_tables.specs.declared.trees.TreeFault.TheVariants.{Short, PageTwice
 use Rattle.c_tables.specs.ByFrames.{IsWhole, led_case, page_of, tables_by_frames, tree_by_frames}
 use Rattle.c_tables.specs.Reached.{IsAgain, AreOtherFrames}
 
--- the member at an index, where there is one, has a number of an earlier one
+-- the member at an index, if there is one, has a number of an earlier one
 abbrev pub again_with : {X : Type 0} → (X → ℕ) → List X → Option X → Bool
 again_with number earlier None = false
 again_with number earlier (Some x) = list_any (λ e. number e == number x) earlier
@@ -69,7 +69,7 @@ pub record AreGiven (pages : List PlainPage) (roots : List PlainRoot) : Type 0 w
 abbrev pub root_in : List PlainRoot → ℕ → Option PlainRoot
 root_in roots tree = find (λ r. r.tree == tree) roots
 
--- the page of a tree's root, where it has one
+-- the page of a tree's root, if it has one
 abbrev pub root_of : List PlainPage → List PlainRoot → ℕ → Option PlainPage
 root_of pages roots tree = option_and_then (λ r. page_of pages r.frame) (root_in roots tree)
 

@@ -8,7 +8,7 @@ use Rattle.c_tables.specs.declared.trees.TreeFault.{TreeFault}
 use Rattle.c_tables.specs.declared.trees.TreeFault.TheVariants.{NoMemory}
 use Rattle.c_tables.specs.Given.{AreTrees, IsTreeFault}
 
--- those that make trees have no fault but want of memory
+-- pages and roots that make trees have no fault, unless memory runs out
 abbrev pub TreesElse : Type 0
 TreesElse =
     (g : Geometry) (pages : List PlainPage) (roots : List PlainRoot) (trees : ℕ → Tree)

@@ -20,8 +20,8 @@ pub record HasComeTo (page : ℕ) (met : List Reached) (runs : List (Run Target)
   pub kept : IsKept advance_target HasFrameBelow runs
   pub behind : EndBefore (page + 1) runs
 
--- the pages under a table at block `number` have what it gives them now, and the others what they
--- had before
+-- the pages under a table at block `number` have the targets that it gives them, and the others
+-- those that they had before
 abbrev pub IsTableLaid : List PlainPage → ℕ → ℕ → PlainPage → List (Run Target) → List (Run Target)
     → Type 0
 IsTableLaid pages depth number table old new =

@@ -15,7 +15,7 @@ pub(crate) trait Numbered: Copy {
         ensures { result ≡ number_of self };
 }
 
-/// By its frame.
+/// The number of a page is its frame.
 impl Numbered for PlainPage<'_> {
     ghost number_of = { λ page. page.frame };
 
@@ -24,7 +24,7 @@ impl Numbered for PlainPage<'_> {
     }
 }
 
-/// By its tree.
+/// The number of a root is its tree.
 impl Numbered for PlainRoot {
     ghost number_of = { λ root. root.tree };
 

@@ -15,7 +15,7 @@ pub struct Reached {
 /// Why a walk ends early.
 #[derive(Clone, Copy, PartialEq)]
 pub enum Stopped {
-    /// It comes to the frame of a table that it has been to: where it was then, and where it is now.
+    /// The walk comes again to the frame of a table: where it was then, and where it is now.
     Again { first: Reached, second: Reached },
     /// Memory was refused.
     NoMemory,

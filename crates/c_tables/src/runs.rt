@@ -1,4 +1,4 @@
-//! Runs that a walk finds, put behind all others.
+//! Runs that a walk finds, appended to those before.
 ghost use Rattle.std.specs.Prelude.{◌≡◌, ◌+◌, ◌<◌, ◌≤◌, ◌^◌, IfOk, OnOk};
 ghost use Rattle.page_state.specs.Entries.{advance_target};
 ghost use Rattle.page_state.specs.Map.{update};

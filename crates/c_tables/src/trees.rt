@@ -28,7 +28,7 @@ pub enum TreeFault {
     RootTwice(usize),
     /// The frame of the root at this index has no page.
     NoPage(usize),
-    /// A walk comes to the frame of a table that it has been to: where it was then, and where it is now.
+    /// A walk comes again to the frame of a table: where it was then, and where it is now.
     Again { first: Reached, second: Reached },
     /// Memory was refused.
     NoMemory,

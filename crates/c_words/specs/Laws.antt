@@ -1,4 +1,4 @@
--- What is written says what it was written for.
+-- A written value says again the value that it was written for.
 use Rattle.std.specs.Prelude.{◌≡◌, Some}
 use Rattle.descriptor.specs.declared.Desc.{Desc}
 use Rattle.page_state.specs.declared.entry.Entry.{Entry}

@@ -23,7 +23,7 @@ argument_said Vm s a = Some (record a { vm = record { slot = s.first; generation
 argument_said Kind s a = option_map (λ k. record a { kind = k }) (vm_kind_said s.first)
 argument_said Rights s a = option_map (λ r. record a { rights = r }) (rights_said s.first)
 
--- the numbers behind those of such an argument
+-- the numbers after those of such an argument
 abbrev pub numbers_behind : Form → PlainStep → PlainStep
 numbers_behind Vm s = record s { first = s.third; second = s.fourth; third = 0; fourth = 0 }
 numbers_behind other s =

@@ -1,5 +1,5 @@
--- How words, owners and replies are written in numbers: fields that aren't named for what they say
--- are 0.
+-- How words, owners and replies are written in numbers: fields that have no part in the value are
+-- 0.
 use Rattle.std.specs.Prelude.{Option, Some, None}
 use Rattle.descriptor.specs.declared.Desc.{Desc}
 use Rattle.descriptor.specs.declared.Desc.TheVariants as descs

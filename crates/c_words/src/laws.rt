@@ -1,7 +1,7 @@
 //! What holds of words, owner rows and replies.
 ghost use Rattle.c_words.specs.Laws.{DescsSaid, EntriesSaid, RepliesSaid, RowsSaid, TargetsSaid};
 
-/// What is written says what it was written for.
+/// A written value says again the value that it was written for.
 pub fn written_says()
     ensures entries { EntriesSaid }
     ensures targets { TargetsSaid }

@@ -12,11 +12,11 @@ use page_state::{Lent, Row, Usage};
 pub struct PlainOwner {
     /// The owner's number: 0 the host, 1 the hypervisor, 2 + v the guest in slot v.
     pub owner: u64,
-    /// Not 0 where the frame is lent.
+    /// Not 0 if the frame is lent.
     pub is_lent: u64,
-    /// Where it is lent: the borrower's number.
+    /// If it is lent: the borrower's number.
     pub borrower: u64,
-    /// Where it is lent: the borrower's page that maps it.
+    /// If it is lent: the borrower's page that maps it.
     pub borrower_page: u64,
     /// 0 in no use beside the maps, 1 for the shared pool, 2 for a guest's pool, 3 in a CPU's hand.
     pub usage: u64,
@@ -50,7 +50,7 @@ fn usage_of(owner: PlainOwner) -> Option<Usage>
     }
 }
 
-/// The row that the numbers say. None where the usage is unknown.
+/// The row that the numbers say. None if the usage is unknown.
 pub fn row_of(owner: PlainOwner) -> Option<Row>
     ensures { result ≡ row_said owner }
 {
@@ -62,7 +62,7 @@ pub fn row_of(owner: PlainOwner) -> Option<Row>
     })
 }
 
-/// A row of nobody else's, in no use but this.
+/// A use in numbers, with 0 in the fields of the owner and of the loan.
 fn usage_told(usage: Usage) -> PlainOwner
     ensures said { usage_said result ≡ Some usage }
     ensures written { result ≡ usage_written usage }

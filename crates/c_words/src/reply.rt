@@ -9,11 +9,11 @@ use crate::word::{BLANK, PlainWord, entry_of, entry_told};
 use call_table::{Reply, Value, VmId};
 use descriptor::Frame;
 
-/// The answer of a call. Fields that aren't named for what it gives are 0 where they are written, and aren't read.
+/// The answer of a call. Fields that have no part in its value are written as 0, and aren't read.
 #[repr(C)]
 #[derive(Clone, Copy, PartialEq)]
 pub struct PlainReply {
-    /// 0 where the call was made, else the refusal's number without its sign.
+    /// 0 if the call was made, else the refusal's number without its sign.
     pub refusal: u64,
     /// Of a call that was made: 0 no value, 1 a VM, 2 a frame, 3 an entry, 4 an owner row.
     pub gives: u64,
@@ -47,7 +47,7 @@ const DONE: PlainReply = PlainReply {
     },
 };
 
-/// The value that a call gives. None where a number is unknown.
+/// The value that a call gives. None if a number is unknown.
 fn value_of(reply: PlainReply) -> Option<Value>
     ensures { result ≡ value_said reply }
 {
@@ -64,7 +64,7 @@ fn value_of(reply: PlainReply) -> Option<Value>
     }
 }
 
-/// The reply that the numbers say. None where one is unknown.
+/// The reply that the numbers say. None if one is unknown.
 pub fn reply_of(reply: PlainReply) -> Option<Reply>
     ensures { result ≡ reply_said reply }
 {

@@ -18,7 +18,7 @@ pub struct PlainStep {
     pub fourth: u64,
 }
 
-/// The step that the numbers say. None where the call, the rights or the kind of VMs is unknown.
+/// The step that the numbers say. None if the call, the rights or the kind of VMs is unknown.
 #[tactic(auto, unfolding(crate::specs::Steps::step_said))]
 pub fn step_of(step: PlainStep) -> Option<Step>
     ensures { result ≡ step_said step }
@@ -64,7 +64,7 @@ fn argument_of(form: Form, step: PlainStep, arguments: Arguments) -> Option<Argu
     Some(with)
 }
 
-/// The numbers behind those of an argument of this form.
+/// The numbers after those of an argument of this form.
 fn behind(form: Form, step: PlainStep) -> PlainStep
     ensures { result ≡ numbers_behind form step }
 {

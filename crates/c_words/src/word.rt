@@ -7,7 +7,7 @@ use crate::numbers::{kind_number, kind_of, rights_number, rights_of, state_numbe
 use descriptor::{Desc, Frame, Kind, Owner, Prot, State};
 use page_state::{Entry, Target};
 
-/// What a word says. Fields that aren't named for what it says are 0 where they are written, and aren't read.
+/// The meaning of a word. Fields that have no part in it are written as 0, and aren't read.
 #[repr(C)]
 #[derive(Clone, Copy, PartialEq)]
 pub struct PlainWord {
@@ -35,7 +35,7 @@ pub(crate) const BLANK: PlainWord = PlainWord {
     state: 0,
 };
 
-/// The leaf that a word's fields say. None where one of its rights, kind and state is unknown.
+/// The leaf that a word's fields say. None if one of its rights, kind and state is unknown.
 fn leaf_of(word: PlainWord) -> Option<Entry>
     ensures { result ≡ leaf_said word }
 {
@@ -50,7 +50,7 @@ fn leaf_of(word: PlainWord) -> Option<Entry>
     })
 }
 
-/// The entry that a word says. None where it says a table or an unknown number.
+/// The entry that a word says. None if it says a table or an unknown number.
 pub fn entry_of(word: PlainWord) -> Option<Entry>
     ensures { result ≡ entry_said word }
 {
@@ -63,7 +63,7 @@ pub fn entry_of(word: PlainWord) -> Option<Entry>
     }
 }
 
-/// The target that a word says. None also where it says unmapped.
+/// The target that a word says. None also if it says unmapped.
 pub fn target_of(word: PlainWord) -> Option<Target>
     ensures { result ≡ target_said word }
 {
@@ -151,7 +151,7 @@ fn desc_of_entry(entry: Entry) -> Desc
     }
 }
 
-/// The descriptor that a word says. None where a number is unknown.
+/// The descriptor that a word says. None if a number is unknown.
 pub fn desc_of(word: PlainWord) -> Option<Desc>
     ensures { result ≡ desc_said word }
 {

@@ -18,7 +18,7 @@ use Rattle.dump_words.specs.Words.{IsLowGuest, from, guest_of, profile_of_word, 
 abbrev pub texts_in : List (Bor (List ℕ)) → List (List ℕ)
 texts_in words = map (λ word. word.now) words
 
--- what each of some words says, behind what those before them said; None where one says nothing
+-- the values of words, after those of the words before them; None if one says nothing
 abbrev pub read_behind : {X : Type 0}
     → (List ℕ → Option X)
     → List X
@@ -56,7 +56,7 @@ roots_by profiles host hyp guests =
     root_by profiles 0 host ∷ root_by profiles 1 hyp
     ∷ map (λ g. root_by profiles (g.0 + 2) g.1) guests
 
--- what follows where a word was read, and the fault where it wasn't
+-- what follows if a word was read, and the fault if it wasn't
 abbrev pub or_bad : {X Y : Type 0} → Option X → BadWord → (X → Result Y BadWord) → Result Y BadWord
 or_bad None fault next = Err fault
 or_bad (Some x) fault next = next x

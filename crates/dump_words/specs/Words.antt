@@ -11,7 +11,7 @@ use Rattle.image_dump.specs.declared.skip.Skip.{Skip}
 use Rattle.dump_words.specs.declared.profiles.Forms.{Forms}
 use Rattle.dump_words.specs.declared.roots.RootWord.{RootWord}
 
--- what follows from a value, where there is one
+-- what follows from a value, if there is one
 abbrev pub from : {X Y : Type 0} → Option X → (X → Option Y) → Option Y
 from None next = None
 from (Some x) next = next x

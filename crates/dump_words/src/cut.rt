@@ -1,4 +1,4 @@
-//! Where a word is cut.
+//! Cuts a word at a byte.
 ghost use Rattle.std.specs.Prelude.{◌≡◌, ◌<◌, ◌==◌, IfSome, length, position};
 
 /// The first place of a byte.

@@ -45,7 +45,7 @@ fn below(frame: Option<u64>, rest: &[u8]) -> Option<RootWord>
     }
 }
 
-/// The root that a word is. The level is 0 where it isn't said, and there is one page.
+/// The root that a word says. The level is 0 and the page count 1 if the word doesn't say them.
 pub fn root_word(word: &[u8]) -> Option<RootWord>
     ensures is { result ≡ root_of_word word.now }
     ensures low { IfSome result IsLowRoot }

@@ -1,4 +1,4 @@
-//! What is told of bugs, and what is left to a hypervisor.
+//! Bugs and the differences reported for them, and choices that are left to a hypervisor.
 use crate::changes::{with_host, with_hyp, with_row};
 use crate::walks::{ALL, Call, TABLES, read, stepped, told as told_of};
 use call_table::{Refusal, Reply, Value};
@@ -49,7 +49,7 @@ fn row(owner: u64, usage: Usage) -> Row {
     }
 }
 
-/// What is otherwise in the state after the last call, or in its reply.
+/// A difference in the state after the last call, or in its reply.
 #[derive(Clone, Copy)]
 enum Change {
     /// Nothing.
@@ -108,7 +108,7 @@ fn changed(
     }
 }
 
-/// What is told of the last call of a trace, with the change.
+/// The difference reported for the last call of a trace, with the change.
 fn judged(
     rt: &impl Abort,
     alloc: Global,
@@ -129,7 +129,7 @@ fn judged(
     told_of(rt, alloc, freedoms, &state, call, reply, &post)
 }
 
-/// What is told where the last lines are these.
+/// The difference reported for a trace that ends with these lines.
 fn told(rt: &impl Abort, alloc: Global, freedoms: Freedoms, lines: &str, change: Change) -> String {
     let mut text = String::new(alloc);
     text.push_str(BEGIN).expect(rt, "memory");

@@ -115,7 +115,7 @@ fn bare_guest(rt: &impl Abort, alloc: Global, guest: &GhostGuest) -> GhostGuest 
     made
 }
 
-/// The state without tables and free frames, as one tells it that has these of its own.
+/// The state without tables and free frames, as a hypervisor with its own tables and pools gives it.
 pub(crate) fn bare(rt: &impl Abort, alloc: Global, state: &Ghost) -> Ghost {
     let mut guests = Vec::new(alloc);
     for guest in &state.lists().guests {

@@ -1,4 +1,5 @@
-//! Random runs: the model's, told as it has them, by one with tables of its own, and by one whose host is lazy.
+//! Random runs: the model's, given as it has them, by a hypervisor with tables of its own, and by one whose host is
+//! lazy.
 use crate::changes::{bare, lazy};
 use crate::walks::{ALL, Call, TABLES, read, stepped, told};
 use call_table::{Refusal, Reply, Step};
@@ -20,7 +21,7 @@ fn trace(rt: &impl Abort, alloc: Global, seed: u64) -> String {
     generate(alloc, seed, 100, &options, &Silent).expect(rt, "a trace")
 }
 
-/// No difference is told.
+/// Fails if a difference is reported.
 fn agrees(
     rt: &impl Abort,
     alloc: Global,
@@ -49,7 +50,7 @@ fn reads_host(step: Step) -> bool {
     matches!(step, Step::HostAbort { .. } | Step::HostTranslate { .. })
 }
 
-/// A call of the model agrees, however it is told.
+/// A call of the model agrees, in each form in which it is given.
 fn is_told(rt: &impl Abort, alloc: Global, pre: &Ghost, call: Call, reply: Reply, post: &Ghost) {
     agrees(rt, alloc, ALL, pre, call, reply, post);
     let before = bare(rt, alloc, pre);

@@ -77,7 +77,7 @@ pub(crate) fn stepped(rt: &impl Abort, alloc: Global, state: &Ghost, call: Call)
     predict(alloc, state, call.cpu, call.step).expect(rt, "memory")
 }
 
-/// What is told of a call; nothing where it agrees.
+/// The difference reported for a call; empty if it agrees.
 pub(crate) fn told(
     rt: &impl Abort,
     alloc: Global,

@@ -18,7 +18,7 @@ use Rattle.image_dump.specs.declared.line.DumpLine.{DumpLine}
 use Rattle.image_dump.specs.declared.line.DumpLine.TheVariants as line
 use Rattle.image_dump.specs.declared.skip.Skip.{Skip}
 
--- a root, and what was found from it: runs and tables, or why it wasn't walked
+-- a root, and the result of its walk: runs and tables, or why it wasn't walked
 pub record Found : Type 0 where
   pub root : Root
   pub walked : Result (List (Run Said) × List Reached) Unwalked
@@ -59,8 +59,7 @@ pub record Grows (skips : List Skip) (f : Found) (before after : Collected) : Ty
   pub claims_are : after.claims.items ≡ before.claims.items ++ claims_of skips f
   pub tables_are : after.tables.items ≡ before.tables.items ++ tables_of f
 
--- what isn't sound by claims and tables; shared frames are to have borrowers where all words say
--- states
+-- what isn't sound by claims and tables; shared frames need borrowers if all words say states
 abbrev pub findings_by : Bool → List Claim → List Reached → List Finding
 findings_by states claims tables =
     ((clashes_of claims (length claims)

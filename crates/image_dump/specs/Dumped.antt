@@ -40,7 +40,7 @@ unfoldable pub text_of_lines : List DumpLine → List ℕ
 text_of_lines [] = []
 text_of_lines (l ∷ ls) = (text_of_line l ++ 10 ∷ []) ++ text_of_lines ls
 
--- what was found is the tree in the image, with the states that records say, or it isn't walked for
+-- the walk found the tree in the image, with the states that records say, or it isn't walked for
 -- that reason
 abbrev pub IsWalkOf : Option (List ℕ)
     → (ℕ → ℕ → Type 0)
@@ -56,7 +56,7 @@ IsWalkOf known may_fail segments records root (Ok w) =
 IsWalkOf known may_fail segments records root (Err why) =
     IsUnwalked known may_fail segments root why
 
--- what was found from a root, which the report tells as having states where records say them
+-- the result of a walk from a root, which the report gives as having states if records say them
 pub record IsFoundIn (known : Option (List ℕ)) (may_fail : ℕ → ℕ → Type 0)
     (segments : List Segment) (records : Option Records) (root : Root) (f : Found) : Type 0 where
   pub root_is : f.root ≡ told_root (is_some records) root
@@ -71,7 +71,7 @@ abbrev pub faults_in : List Found → ℕ
 faults_in [] = 0
 faults_in (f ∷ fs) = fault_count f.walked + faults_in fs
 
--- what was found from each root, in order
+-- the result of the walk from each root, in order
 abbrev pub AreFoundIn : Option (List ℕ)
     → (ℕ → ℕ → Type 0)
     → List Segment
@@ -85,7 +85,7 @@ AreFoundIn known may_fail segments records (root ∷ roots) (f ∷ fs) =
     × AreFoundIn known may_fail segments records roots fs
 AreFoundIn known may_fail segments records roots trees = ⊥
 
--- a root was added, with a line of its own where it isn't walked
+-- a root was added, with a line of its own if it isn't walked
 pub record IsAdded (known : Option (List ℕ)) (may_fail : ℕ → ℕ → Type 0) (segments : List Segment)
     (records : Option Records) (root : Root) (skips : List Skip) (before after : Collected)
     (faults : ℕ) : Type 0 where
@@ -120,7 +120,7 @@ report_of has_records skips roots trees =
     (flat_map (lines_of skips) trees ++ map (λ finding. line.Finding finding) findings)
     ++ line.End (length roots) (faults_in trees + length findings) ∷ []
 
--- sound where nothing is named
+-- sound if nothing is named
 abbrev pub outcome_of : ℕ → Dumped
 outcome_of faults = if faults == 0 then Sound else Unsound
 

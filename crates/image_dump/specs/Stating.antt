@@ -1,4 +1,4 @@
--- States that records of frames say, where words of a tree say none.
+-- States that records of frames say, for trees whose words say none.
 use Rattle.std.specs.Prelude.{◌≡◌, ◌⊎◌, ℕ, ◌^◌, ◌≤◌, ◌==◌, ◌&&◌, nat_lt, not, Bool, true, false, find, Option, Some, None, if◌then◌else◌, List}
 use Rattle.memory_image.specs.declared.segment.Segment.{Segment}
 use Rattle.run_list.specs.declared.run.Run.{Run}
@@ -11,7 +11,7 @@ use Rattle.image_trees.specs.declared.records.Records.{Records}
 use Rattle.image_trees.specs.declared.root.Root.{Root}
 use Rattle.image_trees.specs.declared.root.Unwalked.{Unwalked}
 
--- records say the states of a tree: of the host's (0) and the hypervisor's (1), where words say
+-- records say the states of a tree: of the host's (0) and the hypervisor's (1), if its words say
 -- none
 abbrev pub is_stated : Bool → Root → Bool
 is_stated has_records root = (has_records && not root.profile.has_states) && nat_lt root.tree 2

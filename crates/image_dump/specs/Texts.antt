@@ -48,7 +48,7 @@ text_of_memory Uncached = codes "uncached"
 text_of_memory FromStage1 = codes "as-stage-1"
 text_of_memory Registers = codes "device"
 
--- the state, where words say one
+-- the state, if words say one
 abbrev pub text_of_state : Option State → List ℕ
 text_of_state (Some Owned) = codes " owned"
 text_of_state (Some SharedOwned) = codes " shared"
@@ -85,7 +85,7 @@ text_of_value (word.Leaf m) =
     codes "frame " ++ text_of_page m.frame.0 ++ codes " " ++ text_of_leaf m
 text_of_value (word.Table frame) = codes "no-table " ++ text_of_page frame.0
 
--- the first page of a run, how many there are, and what they have
+-- the first page of a run, the number of its pages, and their contents
 abbrev pub text_of_run : Run Said → List ℕ
 text_of_run r =
     text_of_page r.pages.first.0 ++ codes " " ++ text_of_page r.pages.count ++ codes " "

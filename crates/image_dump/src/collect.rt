@@ -77,7 +77,7 @@ pub(crate) fn add_tree(
     Ok(())
 }
 
-/// Adds the findings after those of words: whether shared frames have borrowers is asked only where all words say states.
+/// Adds the findings after those of words. Whether shared frames have borrowers is tested only if all words say states.
 pub(crate) fn add_unsound(
     states: bool,
     claims: &[Claim],

@@ -172,7 +172,7 @@ fn collect<I: ImageBytes>(
     Ok(unwalked)
 }
 
-/// How a dump ends in which so many lines name what isn't sound.
+/// The end of a dump in which this number of lines name something unsound.
 fn outcome(findings: u64) -> Dumped
     ensures { result ≡ outcome_of findings }
 {
@@ -183,9 +183,9 @@ fn outcome(findings: u64) -> Dumped
     }
 }
 
-/// Dumps the trees of an image: a line for each tree and each of its runs, then what isn't sound, and an end line. With `vmemmap`,
-/// the hypervisor's page from which on it maps a record for each frame, the states of its tree and the host's are those that the
-/// records say, where words say none.
+/// Dumps the trees of an image: a line for each tree and each of its runs, then what isn't sound, and an end line. With
+/// `vmemmap`, the hypervisor's page from which on it maps a record for each frame, the states of its tree and the
+/// host's are those that the records say, if words say none.
 pub fn dump_trees<I: ImageBytes, W: Write>(
     alloc: Global,
     image: &I,

@@ -62,7 +62,7 @@ pub fn dump_image<I: ImageBytes, W: Write>(
     }
 }
 
-/// The exit status of a dump: 0 where nothing is named, 1 where something is, 2 where there is no report.
+/// The exit status of a dump: 0 if nothing is named, 1 if something is, 2 if there is no report.
 pub fn dump_status(answer: Result<Dumped, NotDumped>) -> u8
     ensures { result ≡ status_of answer }
 {

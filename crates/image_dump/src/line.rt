@@ -12,7 +12,7 @@ use walked_tables::{Reached, Said};
 /// A line of a report.
 #[derive(Clone, Copy)]
 pub enum DumpLine {
-    /// A tree with so many tables; runs of its pages follow.
+    /// A tree and the number of its tables; runs of its pages follow.
     Tree { root: Root, tables: u64 },
     /// A run of pages.
     Run(Run<Said>),
@@ -42,7 +42,7 @@ impl fmt::Display for RootText {
     }
 }
 
-/// Where a table was reached.
+/// The place where a table was reached, as text.
 #[derive(Clone, Copy)]
 struct PlaceText(Reached);
 

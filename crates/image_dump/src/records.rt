@@ -1,4 +1,4 @@
-//! States that records of frames say, where words of a tree say none.
+//! States that records of frames say, for trees whose words say none.
 ghost use Rattle.std.specs.Prelude.{◌≡◌, All, IfErr, IfOk, IfSome};
 ghost use Rattle.std.specs.Option.{ForSome};
 ghost use Rattle.memory_image.specs.CoreFile.{IsPlaced};
@@ -20,14 +20,14 @@ use walked_tables::Said;
 /// A page number from which on no records can be.
 const PAGES: u64 = 1 << 52;
 
-/// Whether records say the states of a tree: the host's, or the hypervisor's, where its words say none.
+/// Whether records say the states of a tree: the host's, or the hypervisor's, if its words say none.
 fn is_told(has_records: bool, root: &Root) -> bool
     ensures { result ≡ is_stated has_records root.now }
 {
     has_records && !root.profile.has_states && root.tree < 2
 }
 
-/// A root as the report has it: its tree says states where records do.
+/// A root as the report has it: its tree has states if records say them.
 pub(crate) fn told_root(has_records: bool, root: Root) -> Root
     ensures { result ≡ root_as_told has_records root }
 {
@@ -43,7 +43,7 @@ pub(crate) fn told_root(has_records: bool, root: Root) -> Root
     }
 }
 
-/// A tree's runs, with the states that records say where its words say none.
+/// A tree's runs, with the states that records say if its words say none.
 pub(crate) fn told_runs<I: ImageBytes>(
     alloc: Global,
     image: &I,
@@ -77,8 +77,8 @@ fn hyp_root(roots: &[Root]) -> Option<Root>
     roots.iter().copied().find(|root| root.tree == 1)
 }
 
-/// Where records are, where the page is given from which on the hypervisor maps them. Its tree is walked for that: without one,
-/// there are none.
+/// The place of the records, if the page is given from which on the hypervisor maps them. That needs a walk of its
+/// tree: without one, there are none.
 pub(crate) fn records_of<I: ImageBytes>(
     alloc: Global,
     image: &I,

@@ -76,7 +76,7 @@ fn report(
     }
 }
 
-/// The lines before the findings, where the host's word of page 5 gives this line and the hypervisor's page 3 that one.
+/// The lines before the findings, if the host's word of page 5 gives this line and the hypervisor's page 3 that one.
 const TREES: &str =
     "tree host root 0x0 level 3 pages 1 tables 1\n0x0 0x3 owner 1\n0x3 0x1 frame 0x3 rwx normal shared\n0x4 0x1 owner 2\n";
 

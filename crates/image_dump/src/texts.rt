@@ -179,7 +179,7 @@ impl fmt::Display for RunText {
     }
 }
 
-/// Who claims a frame, and where.
+/// A claim as text: its tree, and the page of the claim; `by host` if an annotation of the host names the tree.
 #[derive(Clone, Copy)]
 pub(crate) struct ClaimText(pub Claim);
 

@@ -1,4 +1,4 @@
--- What holds where nothing is named.
+-- What holds if no finding is named.
 use Rattle.std.specs.Prelude.{◌≡◌, ℕ, ◌+◌, ◌^◌, ◌<◌, true, List, [], length, slice_get, Some}
 use Rattle.std.specs.List.{filter_map, list_any}
 use Rattle.image_findings.specs.Claims.{borrows, owns, shares}
@@ -14,8 +14,8 @@ pub record HaveFrame (claims : List Claim) (i j : ℕ) (a b : Claim) (frame : �
   pub in_first : has_frame a frame ≡ true
   pub in_second : has_frame b frame ≡ true
 
--- where no clash is named, two claims own a frame only where the host names a tree as the owner and
--- the tree maps it
+-- if no clash is named, two claims own a frame only if the host names a tree as the owner and the
+-- tree maps it
 abbrev pub HaveOneOwner : Type 0
 HaveOneOwner =
     (claims : List Claim) (i j : ℕ) (a b : Claim) (frame : ℕ)
@@ -35,7 +35,7 @@ HaveOneBorrower =
     → borrows b ≡ true
     → ⊥
 
--- where no share is named, each frame that a claim shares has a borrower
+-- if no share is named, each frame that a claim shares has a borrower
 abbrev pub AreBorrowed : Type 0
 AreBorrowed =
     (claims : List Claim) (i k : ℕ) (a : Claim)

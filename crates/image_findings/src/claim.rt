@@ -20,7 +20,7 @@ pub struct Claim {
     pub frame: u64,
     /// How many frames there are.
     pub count: u64,
-    /// The state, where words say one.
+    /// The state, if words say one.
     pub state: Option<State>,
     /// Whether an annotation of the host names the tree as the owner.
     pub named: bool,
@@ -49,8 +49,8 @@ impl Claim {
     }
 }
 
-/// What a run claims: a leaf for its tree, an annotation of the host for the owner that it names. The annotation of a guest by
-/// its handle claims nothing, since which tree has the handle isn't known.
+/// The claim of a run: a leaf claims for its tree, an annotation of the host for the owner that it names. The
+/// annotation of a guest by its handle claims nothing, since which tree has the handle isn't known.
 fn claimed(tree: u64, run: &Run<Said>) -> Option<Claim>
     ensures { result ≡ claim_of tree run.now }
 {
@@ -88,7 +88,7 @@ fn claimed(tree: u64, run: &Run<Said>) -> Option<Claim>
     }
 }
 
-/// Adds a claim, where there is one.
+/// Adds a claim, if there is one.
 fn add(claims: &mut Vec<Claim>, next: Option<Claim>) -> Result<(), AllocError>
     ensures { OnOk result (claims.new.items ≡ claims.old.items ++ option_to_list next) }
 {

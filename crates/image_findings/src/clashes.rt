@@ -7,7 +7,7 @@ use crate::claim::Claim;
 use crate::finding::{Finding, add};
 use std::alloc::AllocError;
 
-/// The first frame of both, where they have one.
+/// The first frame of both, if they have one.
 pub(crate) fn common(first: &Claim, second: &Claim) -> Option<u64>
     ensures { result ≡ common_frame first.now second.now }
 {

@@ -50,7 +50,7 @@ pub enum Finding {
     },
 }
 
-/// Adds a finding, where there is one.
+/// Adds a finding, if there is one.
 pub(crate) fn add(found: &mut Vec<Finding>, next: Option<Finding>) -> Result<(), AllocError>
     ensures { OnOk result (found.new.items ≡ found.old.items ++ option_to_list next) }
 {

@@ -1,13 +1,13 @@
 //! Laws of findings. Each function does nothing, and its contract is the law.
 ghost use Rattle.image_findings.specs.Laws.{AreBorrowed, HaveOneBorrower, HaveOneOwner};
 
-/// Where no clash is named, a frame has one owner and one borrower at most.
+/// If no clash is named, a frame has one owner and one borrower at most.
 pub fn one_each()
     ensures owner { HaveOneOwner }
     ensures borrower { HaveOneBorrower }
 {}
 
-/// Where no share is named, each frame that is shared has a borrower.
+/// If no share is named, each frame that is shared has a borrower.
 pub fn all_borrowed()
     ensures { AreBorrowed }
 {}

@@ -1,4 +1,4 @@
-//! Two runs of a tree, and what they claim with those of another.
+//! Two runs of a tree, and the findings from their claims and another tree's.
 use crate::{Claim, Finding, add_clashes, add_mapped, add_met_twice, add_unborrowed};
 use descriptor::State;
 use std::test::Fail;

@@ -9,7 +9,7 @@ use std::alloc::AllocError;
 use table_words::Decoded;
 use walked_tables::Said;
 
-/// What is wrong with the words of a run.
+/// The finding on the words of a run, if there is one.
 fn found_in(tree: u64, run: &Run<Said>) -> Option<Finding>
     ensures { result ≡ bad_word tree run.now }
 {

@@ -1,6 +1,5 @@
--- What a tree says whose tables lie in memory: a table word leads on to the page of its frame,
--- where there is one. Depths count
--- the levels below.
+-- The map of a tree whose tables lie in memory: a table word leads on to the page of its frame, if
+-- there is one. Depths count the levels below.
 use Rattle.std.specs.Prelude.{ℕ, zero, suc, ◌+◌, ◌/◌, nat_lt, List, get_or, Option, Some, None, if◌then◌else◌}
 use Rattle.page_state.specs.Geometries.{block_pages}
 use Rattle.table_words.specs.declared.profile.Profile.{Profile}
@@ -11,12 +10,12 @@ use Rattle.walked_tables.specs.ByFrames.{index_at, level_at, word_gives}
 use Rattle.walked_tables.specs.declared.said.Said.{Said}
 use Rattle.image_trees.specs.declared.root.Root.{Root}
 
--- what one gives where a word doesn't lead on, and else by the words of the page
+-- `here` if a word doesn't lead on, and else `below` of the words of the page
 abbrev pub below_case : {R : Type 0} → R → (List ℕ → R) → Option (List ℕ) → R
 below_case here below None = here
 below_case here below (Some words) = below words
 
--- the words of the page that a word leads on to: a table's, where its frame has one
+-- the words of the page that a word leads on to: a table's, if its frame has one
 abbrev pub leads : (ℕ → Option (List ℕ)) → Decoded → Option (List ℕ)
 leads read (Table frame) = read frame.0
 leads read other = None

@@ -1,4 +1,4 @@
--- Pages that were read, by a file's bytes where they are known.
+-- Pages that were read, by a file's bytes if they are known.
 use Rattle.std.specs.Prelude.{ℕ, Bool, List, map, Option}
 use Rattle.std.specs.Option.{ForSome}
 use Rattle.memory_image.specs.Pages.{page_words}

@@ -26,7 +26,7 @@ HasWords page = length page.words.items ≡ 512
 abbrev pub Given : (ℕ → Option (List ℕ)) → ℕ × List ℕ → Type 0
 Given read page = read page.0 ≡ Some page.1
 
--- the page of a frame, where there is one
+-- the page of a frame, if there is one
 abbrev pub page_at : (ℕ → Option (List ℕ)) → ℕ → Option (ℕ × List ℕ)
 page_at read frame = option_map (λ words. (frame, words)) (read frame)
 

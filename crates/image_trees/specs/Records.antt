@@ -38,7 +38,7 @@ abbrev pub mapped_frame : Option Said → Option ℕ
 mapped_frame None = None
 mapped_frame (Some said) = frame_of said.0
 
--- what a page of the image gives, where a frame is mapped
+-- the words of a frame's page in the image, if a frame is given
 abbrev pub read_frame : (ℕ → Option (List ℕ)) → Option ℕ → Option (List ℕ)
 read_frame read None = None
 read_frame read (Some frame) = read frame

@@ -27,7 +27,7 @@ pub record IsTreeIn (read : ℕ → Option (List ℕ)) (root : Root) (runs : Lis
       ≡ tables_by_frames root.profile pages root.tree root.depth (take root.count pages)
   pub apart : AllPairs AreOtherFrames tables
 
--- the same by a file's bytes, where they are known
+-- the same by a file's bytes, if they are known
 abbrev pub IsTreeOf : Option (List ℕ)
     → List Segment
     → Root

@@ -98,7 +98,7 @@ pub(crate) fn read_root<I: ImageBytes>(
     Ok(kept)
 }
 
-/// Adds the page of the table that a run names, where the image has it.
+/// Adds the page of the table that a run names, if the image has it.
 fn add_named<I: ImageBytes>(
     alloc: Global,
     image: &I,

@@ -27,8 +27,8 @@ use std::alloc::{AllocError, Global};
 use table_words::{Decoded, Mapping};
 use walked_tables::Said;
 
-/// Where records of frames are: what the hypervisor's own pages have, and the page of its own from which on it maps them, eight
-/// bytes for each frame (Linux 7.3: `__hyp_vmemmap`).
+/// The place of the records of frames: the runs of the hypervisor's own tree, and its page from which on it maps the
+/// records, eight bytes for each frame (Linux 7.3: `__hyp_vmemmap`).
 #[derive(Drop)]
 pub struct Records {
     pub hyp: Vec<Run<Said>>,
@@ -169,7 +169,7 @@ fn with_state<I: ImageBytes>(
     }
 }
 
-/// Adds a page behind all others.
+/// Appends a page to the runs.
 fn add_page(runs: &mut Vec<Run<Said>>, page: u64, value: Said) -> Result<(), AllocError>
     requires page { page + 1 ≤ 2 ^ 63 }
     requires reach { CanGoOn value 1 }

@@ -36,7 +36,7 @@ pub struct Tree {
 pub enum Unwalked {
     /// The image doesn't have all of this page of the root.
     Rootless { frame: u64 },
-    /// A table is reached twice: where it was first, and where it was then.
+    /// A table is reached twice: where it was first, and where it is now.
     Again { first: Reached, second: Reached },
     /// There are 2^20 tables or more.
     TooManyTables,

@@ -109,7 +109,7 @@ pub(crate) enum Change {
     Outside,
     /// A table is gone that is needed.
     Lacking,
-    /// A table is there where a word would do.
+    /// A table is there though one word would do.
     Needless,
 }
 

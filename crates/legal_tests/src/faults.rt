@@ -51,7 +51,7 @@ fn told_of(rt: &impl Abort, alloc: Global, change: Change) -> String {
     told(rt, alloc, &state)
 }
 
-/// Fails where such a state isn't legal, whatever tables its trees need.
+/// Fails if such a state isn't legal, whatever tables its trees need.
 fn expect_legal_but_for_trees(rt: &impl Abort, alloc: Global, change: Change) {
     let state = life_with(rt, alloc, change);
     assert!(rt; is_legal_but_for_trees(rt, alloc, &state));

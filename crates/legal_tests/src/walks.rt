@@ -24,7 +24,7 @@ fn booted(rt: &impl Abort, alloc: Global, settings: &Settings) -> Ghost {
     made.expect(rt, "enough frames")
 }
 
-/// What is wrong with a state, written out.
+/// The fault of a state, written out.
 pub(crate) fn told(rt: &impl Abort, alloc: Global, state: &Ghost) -> String {
     let lists = state.lists();
     assert!(rt; have_first_blocks(lists));
@@ -43,7 +43,7 @@ pub(crate) fn is_legal_but_for_trees(rt: &impl Abort, alloc: Global, state: &Gho
         .is_none()
 }
 
-/// Fails where a state isn't legal.
+/// Fails if a state isn't legal.
 fn expect_legal(rt: &impl Abort, alloc: Global, state: &Ghost) {
     let text = told(rt, alloc, state);
     assert_eq!(rt; text.as_str(), "");
@@ -57,7 +57,7 @@ fn stepped(rt: &impl Abort, alloc: Global, before: Ghost, cpu: u64, step: Step) 
     predict_last(alloc, before, cpu, step).expect(rt, "memory")
 }
 
-/// The state after a line, where it boots or is a step, and whether that was made.
+/// The state after a line that boots or is a step, and whether that was made.
 fn after(
     rt: &impl Abort,
     alloc: Global,

@@ -82,12 +82,12 @@ abbrev pub unless : List Segment → Segment → Option Fault → Result (List S
 unless before s None = Ok (before ++ s ∷ [])
 unless before s (Some f) = Err f
 
--- the segments with that of a program header, where it has one
+-- the segments with that of a program header, if it has one
 abbrev pub joined_by : (count : ℕ) → List Segment → ℕ → Option Segment → Result (List Segment) Fault
 joined_by count before place None = Ok before
 joined_by count before place (Some s) = unless before s (fault_of count before place s)
 
--- what follows where nothing was wrong
+-- what follows if nothing was wrong
 abbrev pub and_then : {X Y : Type 0} → Result X Fault → (X → Result Y Fault) → Result Y Fault
 and_then (Ok x) next = next x
 and_then (Err f) next = Err f

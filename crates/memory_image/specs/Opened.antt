@@ -1,4 +1,4 @@
--- What is answered of an image whose bytes may be known.
+-- The answers for an image whose bytes may be known.
 use Rattle.std.specs.Prelude.{◌≡◌, ℕ, List, Option, Result, Ok, Err}
 use Rattle.std.specs.Option.{ForSome}
 use Rattle.std.specs.Global.{Global}

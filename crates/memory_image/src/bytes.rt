@@ -12,10 +12,10 @@ pub struct Unread;
 
 /// What an image is read from, at any place.
 pub trait ImageBytes {
-    /// All its bytes, where the type says which they are.
+    /// All its bytes, if the type says which they are.
     ghost bytes: { Self → Option (List ℕ) };
 
-    /// A read of so many bytes from a place on may fail.
+    /// A read of this many bytes from a place on may fail.
     ghost may_fail: { Self → ℕ → ℕ → Type 0 };
 
     /// How many bytes there are.

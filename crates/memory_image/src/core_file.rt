@@ -31,7 +31,7 @@ fn shares_with(before: &[Segment], segment: &Segment) -> bool
     before.iter().any(|s| share_address(s, segment))
 }
 
-/// What is wrong with the segment of the program header at `place`, after those before it, in a file of `count` bytes.
+/// The fault of the segment of the program header at `place`, after those before it, in a file of `count` bytes.
 fn fault_in(count: u64, before: &[Segment], place: u64, segment: &Segment) -> Option<Fault>
     requires { place + 56 ≤ count }
     ensures is { result ≡ fault_of count before.now place segment.now }
@@ -66,7 +66,7 @@ fn add(found: &mut Vec<Segment>, segment: Segment) -> Result<(), AllocError>
     Ok(())
 }
 
-/// Adds the segment of the program header at `place`, where it has one, in a file of `count` bytes.
+/// Adds the segment of the program header at `place`, if it has one, in a file of `count` bytes.
 fn join(count: u64, found: &mut Vec<Segment>, place: u64, header: &[u8]) -> Result<(), Refused>
     requires header { length header.now ≡ 56 }
     requires place { place + 56 ≤ count }

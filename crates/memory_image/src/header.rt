@@ -71,7 +71,7 @@ fn wrong(why: Why, at: u64) -> Result<Table, Fault>
     Err(Fault { at, why })
 }
 
-/// The program headers that a file of `count` bytes has by its first 64.
+/// The place of the program headers in a file of `count` bytes, by its first 64.
 pub(crate) fn table_in(count: u64, head: &[u8]) -> Result<Table, Fault>
     requires { length head.now ≡ 64 }
     ensures is { result ≡ table_of count head.now }

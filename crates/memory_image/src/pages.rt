@@ -61,7 +61,7 @@ fn words_of_page(alloc: Global, page: &[u8]) -> Result<Vec<u64>, AllocError>
     Ok(words)
 }
 
-/// The words of a frame's page. None where no segment has all of it. The buffer is used for its bytes.
+/// The words of a frame's page. None if no segment has all of it. The buffer is used for its bytes.
 pub fn read_page<I: ImageBytes>(
     alloc: Global,
     image: &I,

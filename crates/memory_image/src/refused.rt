@@ -5,7 +5,7 @@ use crate::bytes::Unread;
 use std::alloc::AllocError;
 use thiserror::Error;
 
-/// What is wrong at a place of the file.
+/// A fault at a place of the file.
 #[derive(Clone, Copy, PartialEq, Eq, Debug, Error)]
 pub enum Why {
     /// The bytes of QEMU's kdump-compressed form.
@@ -46,7 +46,7 @@ pub enum Why {
     PastLimit,
 }
 
-/// What is wrong, and the place in the file that says so.
+/// A fault, and the place in the file that shows it.
 #[derive(Clone, Copy, PartialEq, Eq, Debug)]
 pub struct Fault {
     pub at: u64,

@@ -42,8 +42,8 @@ trees_said g pages roots n = if nat_lt n 66 then tree_of g pages roots n else no
 abbrev pub found_said : Layout → Contents → Geometry → List PlainPage → List PlainRoot → Contents
 found_said l kept g pages roots = found l kept (trees_said g pages roots)
 
--- a state is checked: no table is reached twice, and nothing is told just where all agrees and the
--- state is legal; else the first difference, or why it isn't
+-- a state is checked: no table is reached twice, and no finding is given if and only if all agrees
+-- and the state is legal; else the first difference, or why it isn't legal
 pub record IsCheckedIn (l : Layout) (kept : Contents) (g : Geometry) (pages : List PlainPage)
     (roots : List PlainRoot) (told : Option Finding) : Type 0 where
   pub given : AreGiven pages roots
@@ -64,7 +64,7 @@ pub record IsChecked (l : PlainLayout) (regions : List PlainRegion) (kept : List
   pub checked : IsCheckedIn (layout_said l regions) (contents_said kept)
       (geometry_said l) pages roots told
 
--- why it isn't, where the state is well
+-- why it isn't checked, if the kept state is valid
 abbrev pub IsUncheckedFrom : Geometry → List PlainPage → List PlainRoot → Unchecked → Type 0
 IsUncheckedFrom g pages roots (Kept why) = ⊥
 IsUncheckedFrom g pages roots (Trees fault) = IsTreeFault g pages roots fault
@@ -78,7 +78,7 @@ IsUnchecked l regions kept pages roots (Trees fault) =
     IsTakenLayout l regions × AreTaken l.cpus kept × IsTreeFault (geometry_said l) pages roots fault
 IsUnchecked l regions kept pages roots NoMemory = Unit {0}
 
--- the index of the block, so many heights up, that a block lies in
+-- the index of the block that is this many heights up and has the block in it
 abbrev pub parent : ℕ → ℕ → ℕ
 parent zero index = index
 parent (suc n) index = parent n index / 512
@@ -87,7 +87,7 @@ parent (suc n) index = parent n index / 512
 abbrev pub is_in_block : Block → Block → Bool
 is_in_block upper lower = nat_lt lower.0 upper.0 && parent (upper.0 - lower.0) lower.1 == upper.1
 
--- a table that is reached again: below itself, at another height, or at this height once more
+-- a table that is reached again: below itself, at another height, or at this height a second time
 abbrev pub fault_again : Reached → Reached → ℕ
 fault_again first second =
     if first.tree == second.tree && is_in_block first.table.block second.table.block then 20
@@ -112,7 +112,7 @@ refused_by_audit (Kept why) = refused_by_made why
 refused_by_audit (Trees fault) = refused_by_trees fault
 refused_by_audit NoMemory = of_fault 0
 
--- of the layout -8, of the kept state -9, of pages and roots -13, and of want of memory -12
+-- of the layout -8, of the kept state -9, of pages and roots -13, and -12 if memory ran out
 abbrev pub status_by_audit : Unchecked → ℤ
 status_by_audit (Kept why) = status_by_made (negsuc 8) why
 status_by_audit (Trees fault) = status_by_trees fault

@@ -20,7 +20,7 @@ refused_by_boot unbooted.Cpus = of_fault 25
 refused_by_boot unbooted.CarveSmall = of_fault 26
 refused_by_boot unbooted.NoMemory = of_fault 0
 
--- the status of a layout that doesn't boot (-8), and of want of memory (-12)
+-- the status of a layout that doesn't boot (-8), and -12 if memory ran out
 abbrev pub status_by_boot : Unbooted → ℤ
 status_by_boot (unbooted.Layout fault) = status_by_made (negsuc 7) (unmade.Layout fault)
 status_by_boot unbooted.Cpus = negsuc 7

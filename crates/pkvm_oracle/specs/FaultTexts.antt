@@ -1,4 +1,4 @@
--- What the faults of layouts, states and tables are called, by their numbers.
+-- The texts of the faults of layouts, states and tables, by their numbers.
 use Rattle.std.specs.Prelude.{◌≡◌, ◌⊎◌, ◌<◌, ◌==◌, ℕ, ℤ, pos, negsuc, List, [], codes, drop, length, take, if◌then◌else◌}
 
 -- faults of pages of tables and of roots, and of walks

@@ -67,7 +67,7 @@ module _ (layout : PlainLayout) (regions : List PlainRegion) (before : Lists) (c
       ⊎ (Differs old new count refused status
       ⊎ (HasNoRoom old new count refused status ⊎ IsRefused old new count refused status))
 
--- the judgement of a call, by what its layout and the states before and after it list
+-- the judgement of a call, by the lists of its layout and of the states before and after it
 abbrev pub IsCallJudged : PlainLayout → PlainState → PlainCall → PlainState → List ℕ → List ℕ → ℕ
     → PlainRefused → ℤ → Type 0
 IsCallJudged layout before call after =

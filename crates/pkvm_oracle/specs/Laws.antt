@@ -13,13 +13,13 @@ use Rattle.pkvm_oracle.specs.declared.audited.Unchecked.{Unchecked}
 use Rattle.pkvm_oracle.specs.declared.audited.Unchecked.TheVariants.{Kept, Trees, NoMemory}
 use Rattle.pkvm_oracle.specs.Audited.{IsChecked, IsUnchecked}
 
--- memory was wanting
+-- memory ran out
 abbrev pub LacksMemory : Unchecked → Type 0
 LacksMemory (Kept why) = MadeLacksMemory why
 LacksMemory (Trees fault) = fault ≡ trees.NoMemory
 LacksMemory NoMemory = Unit {0}
 
--- an audit that is made is refused for want of memory alone
+-- an audit that is made is refused only if memory runs out
 abbrev pub CheckedElse : Type 0
 CheckedElse =
     (l : PlainLayout) (regions : List PlainRegion) (kept : Lists) (pages : List PlainPage)

@@ -24,8 +24,8 @@ use Rattle.pkvm_oracle.specs.Refusals.{of_fault, refused_by_made, status_by_made
 abbrev pub asks_for_trees : ℕ → Option Bool
 asks_for_trees n = if n == 0 then Some true else if n == 1 then Some false else None
 
--- contents are tested: nothing is told just where they are legal; else it is so of lists that say
--- them, and what comes before it isn't
+-- contents are tested: no fault is given if and only if they are legal; else lists that say them
+-- have the fault, and none of a kind before it
 pub record IsTestedIn (trees : Bool) (l : Layout) (s : Contents)
     (told : Option Illegal) : Type 0 where
   pub none : (told ≡ None) ↔ IsLegalBy trees l s
@@ -44,7 +44,7 @@ pub record IsTested (l : PlainLayout) (regions : List PlainRegion) (p : Lists) (
   pub taken : AreTaken l.cpus p
   pub tested : IsTestedIn trees (layout_said l regions) (contents_said p) told
 
--- why it isn't, where the flags and the state are well
+-- why it isn't tested, if the flags and the state are valid
 abbrev pub IsUntestedFrom : Untested → Type 0
 IsUntestedFrom NoMemory = Unit {0}
 IsUntestedFrom other = ⊥
@@ -59,8 +59,8 @@ abbrev pub refused_by_test : Untested → PlainRefused
 refused_by_test (State why) = refused_by_made why
 refused_by_test other = of_fault 0
 
--- the status where there is no test: -3 for flags, -8 and -9 for a layout and a state, -12 for want
--- of memory
+-- the status if there is no test: -3 for flags, -8 and -9 for a layout and a state, -12 if memory
+-- ran out
 abbrev pub status_by_test : Untested → ℤ
 status_by_test Flags = negsuc 2
 status_by_test (State why) = status_by_made (negsuc 8) why

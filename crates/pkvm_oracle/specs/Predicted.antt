@@ -61,7 +61,7 @@ fits s r =
     && (nat_le s.slots r.slots && nat_le s.loads r.loads
     && (nat_le s.guests r.guests && nat_le s.cpus r.cpus))
 
--- the members are the front, and all behind them stays
+-- the members are the front, and all after them stays
 pub record IsPut {X : Type 0} (members old new : List X) : Type 0 where
   pub front : take (length members) new ≡ members
   pub behind : drop (length members) new ≡ drop (length members) old
@@ -137,7 +137,7 @@ module _ (layout : PlainLayout) (regions : List PlainRegion) (before : Lists) (c
       ⊎ (HasNoRoom old new old_room new_room sizes refused status
       ⊎ HasNoState old new old_room new_room sizes refused status)
 
--- the prediction of a call, by what its layout and the state before it list
+-- the prediction of a call, by the lists of its layout and of the state before it
 abbrev pub IsCallPredicted : PlainLayout → PlainState → ℕ → PlainStep → PlainReply → PlainReply
     → PlainRoom → PlainRoom → PlainSizes → PlainRefused → ℤ → Type 0
 IsCallPredicted layout before cpu step =

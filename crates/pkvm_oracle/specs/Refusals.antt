@@ -29,7 +29,7 @@ number_of_list lists.Guests = 6
 number_of_list lists.Cpus = 7
 number_of_list lists.Rows = 8
 
--- of a layout; 0 for want of memory
+-- of a layout; 0 if memory ran out
 abbrev pub fault_of_layout : PlainLayoutFault → ℕ
 fault_of_layout memories.Geometry = 1
 fault_of_layout (memories.Memory layouts.TooMany) = 2
@@ -85,7 +85,7 @@ refused_by (unjudged.Before why) = refused_by_made why
 refused_by (unjudged.After why) = refused_by_made why
 refused_by other = of_fault 0
 
--- the status of a layout (-8), of the state, and of want of memory (-12)
+-- the status of a layout (-8), of the state, and -12 if memory ran out
 abbrev pub status_by_made : ℤ → Unmade → ℤ
 status_by_made state (unmade.Layout memories.NoMemory) = negsuc 11
 status_by_made state (unmade.Layout (memories.Memory layouts.NoMemory)) = negsuc 11
@@ -93,7 +93,7 @@ status_by_made state (unmade.Layout other) = negsuc 7
 status_by_made state (unmade.State faults.NoMemory) = negsuc 11
 status_by_made state (unmade.State other) = state
 
--- the status where there is no judgement: -5 to -11, and -12 for want of memory
+-- the status if there is no judgement: -5 to -11, and -12 if memory ran out
 abbrev pub status_by : Unjudged → ℤ
 status_by unjudged.Step = negsuc 4
 status_by unjudged.Reply = negsuc 5
@@ -103,7 +103,7 @@ status_by unjudged.Generation = negsuc 10
 status_by (unjudged.After why) = status_by_made (negsuc 9) why
 status_by unjudged.NoMemory = negsuc 11
 
--- the same where the freedoms are tested first
+-- the same, if the freedoms are tested first
 abbrev pub refused_by_found : Unfound → PlainRefused
 refused_by_found (unfound.Freedoms fault) = of_fault (fault_of_freedoms fault)
 refused_by_found (unfound.Call why) = refused_by why

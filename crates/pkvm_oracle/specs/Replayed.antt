@@ -11,7 +11,7 @@ status_of Clean = pos 0
 status_of Disagreed = pos 1
 status_of Fault = pos 2
 
--- what was written is the report of the trace, and the status its outcome's
+-- the bytes written are the report of the trace, and the status is its outcome's
 pub record Replays (trace old new : List ℕ) (written : ℕ) (status : ℤ) : Type 0 where
   pub outcome : Outcome
   pub status_is : status ≡ status_of outcome
@@ -29,7 +29,7 @@ pub record HasNoRoom (trace old new : List ℕ) (written : ℕ) (status : ℤ) :
   pub less : length old < written
   pub front : new ≡ take (length old) all
 
--- memory was refused: what was written is a front of a beginning of it
+-- memory was refused: the bytes written are a front of a beginning of the report
 pub record BreaksOff (trace old new : List ℕ) (written : ℕ) (status : ℤ) : Type 0 where
   pub all : List ℕ
   pub status_is : status ≡ negsuc 11

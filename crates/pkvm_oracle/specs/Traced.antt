@@ -13,7 +13,7 @@ use Rattle.pkvm_oracle.specs.declared.judged.PlainRefused.{PlainRefused}
 use Rattle.pkvm_oracle.specs.Booted.{refused_by_boot, status_by_boot}
 use Rattle.pkvm_oracle.specs.Refusals.{of_fault}
 
--- the status of text of a length in a room: 0, or -2 where it has no room
+-- the status of text of a length in a room: 0, or -2 if the room is too small
 abbrev pub status_in : ℕ → ℕ → ℤ
 status_in count room = if nat_le count room then pos 0 else negsuc 1
 

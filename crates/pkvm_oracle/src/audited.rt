@@ -24,8 +24,8 @@ enum Unchecked {
     NoMemory,
 }
 
-/// Compares a kept state with the trees that are found by walking pages from roots: none where all agrees and is legal, and else the
-/// first difference, or why it isn't legal.
+/// Compares a kept state with the trees that are found by walking pages from roots: None if all agrees and is legal,
+/// and else the first difference, or why it isn't legal.
 fn checked(
     alloc: Global,
     layout: &PlainLayout<'_>,
@@ -72,7 +72,7 @@ fn checked_with(
     }
 }
 
-/// The index of the block, so many heights up, that a block lies in.
+/// The index of the block that is this number of heights up and has the block in it.
 fn parent(levels: u64, index: u64) -> u64
     ensures { result ≡ parent_of levels index }
 {
@@ -154,7 +154,7 @@ fn trees_status(fault: TreeFault) -> i32
     }
 }
 
-/// What is refused where there is no audit.
+/// The refusal of an audit that isn't made.
 fn unchecked_refused(why: Unchecked) -> PlainRefused
     ensures { result ≡ refused_by_audit why }
 {
@@ -176,11 +176,11 @@ fn unchecked_status(why: Unchecked) -> i32
     }
 }
 
-/// Compares a kept state with the trees that are found by walking pages of tables from their roots: 0 where the maps, the tables
-/// and the owner rows agree, and the state is legal; else 1, and the first `text_len` bytes of `text` tell the first difference, or,
-/// where there is none, why the maps aren't sound, or, where they are, what else isn't legal. Below 0 nothing is written to `text`: -2
-/// it has fewer than `text_len` bytes, which the difference needs; -8, -9 and -13 something is refused, and `refused` says what; -12
-/// memory was.
+/// Compares a kept state with the trees that are found by walking pages of tables from their roots: 0 if the maps, the
+/// tables and the owner rows agree, and the state is legal; else 1, and the first `text_len` bytes of `text` say the
+/// first difference, or, if there is none, why the maps aren't sound, or, if they are, what else isn't legal. Below 0
+/// nothing is written to `text`: -2 it has fewer than `text_len` bytes, which the difference needs; -8, -9 and -13
+/// something is refused, and `refused` says what; -12 memory was.
 #[unsafe(no_mangle)]
 pub extern "C" fn pkvm_audit(
     alloc: Global,

@@ -32,9 +32,9 @@ pub(crate) fn unbooted_status(why: Unbooted) -> i32
     }
 }
 
-/// The state at boot: 0, the fronts of the rooms, as far as `sizes` says, have it, and all behind them stays. -2 where a list has no
-/// room: `sizes` says what is needed. Else `sizes` is 0 throughout: -8 the layout is refused or doesn't boot, and `refused` says why;
-/// -12 memory was. Below 0 all rooms stay.
+/// The state at boot: 0, the fronts of the rooms, as far as `sizes` says, have it, and all after them stays. -2 if a
+/// list has no room: `sizes` says what is needed. Else `sizes` is 0 throughout: -8 the layout is refused or doesn't
+/// boot, and `refused` says why; -12 memory was. Below 0 all rooms stay.
 #[unsafe(no_mangle)]
 pub extern "C" fn pkvm_boot(
     alloc: Global,

@@ -134,7 +134,7 @@ pub(crate) fn unmade_refused(why: Unmade) -> PlainRefused
     }
 }
 
-/// The status of a layout or a state that is refused: this, where it is the state.
+/// The status of a layout or a state that is refused: `state` if it is the state.
 pub(crate) fn unmade_status(why: Unmade, state: i32) -> i32
     ensures { result ≡ status_by_made state why }
 {
@@ -161,7 +161,7 @@ pub(crate) fn unjudged_status(why: Unjudged) -> i32
     }
 }
 
-/// What is refused of a call that isn't judged.
+/// The refusal of a call that isn't judged.
 pub(crate) fn unjudged_refused(why: Unjudged) -> PlainRefused
     ensures { result ≡ refused_by why }
 {
@@ -185,7 +185,7 @@ fn freedoms_number(fault: FreedomsFault) -> u64
     }
 }
 
-/// The status where there is no judgement.
+/// The status if there is no judgement.
 fn unfound_status(why: Unfound) -> i32
     ensures { result ≡ status_by_found why }
 {
@@ -195,7 +195,7 @@ fn unfound_status(why: Unfound) -> i32
     }
 }
 
-/// What is refused where there is no judgement.
+/// The refusal if there is no judgement.
 fn unfound_refused(why: Unfound) -> PlainRefused
     ensures { result ≡ refused_by_found why }
 {
@@ -205,10 +205,11 @@ fn unfound_refused(why: Unfound) -> PlainRefused
     }
 }
 
-/// Judges a call by the state before it, its reply and the state after it, up to the layout's freedoms: 0 where both are those that the
-/// model says, or the call was refused for want of memory and changed nothing; 1 where they aren't, and the first `text_len` bytes of `text` tell
-/// the first difference. Below 0 nothing is written to `text`: -2 it has fewer than `text_len` bytes, which the difference needs;
-/// -5 to -11 something is refused, and `refused` says what; -12 memory was.
+/// Judges a call by the state before it, its reply and the state after it, up to the layout's freedoms: 0 if both are
+/// as the model says, or the call was refused because memory ran out and changed nothing; 1 if they aren't, and the
+/// first `text_len` bytes of `text` say the first difference. Below 0 nothing is written to `text`: -2 it has fewer
+/// than `text_len` bytes, which the difference needs; -5 to -11 something is refused, and `refused` says what; -12
+/// memory was.
 #[unsafe(no_mangle)]
 pub extern "C" fn pkvm_judge(
     alloc: Global,

@@ -1,8 +1,8 @@
 //! What holds of audits.
 ghost use Rattle.pkvm_oracle.specs.Laws.{CheckedElse, CheckedOnce, UncheckedOnce};
 
-/// An audit that is made is refused for want of memory alone, and has one answer, but for which block of a tree or which places
-/// it tells. One that isn't, and not for want of memory, has one reason: the first.
+/// An audit that is made is refused only if memory runs out, and has one answer, but for which block of a tree or which
+/// places it names. One that isn't made has one reason, the first, unless memory ran out.
 pub fn one_answer()
     ensures checked_else { CheckedElse }
     ensures checked { CheckedOnce }

@@ -28,7 +28,7 @@ enum Untested {
     NoMemory,
 }
 
-/// Whether flags ask that each tree is the coarsest of its map. Of unknown flags nothing is said.
+/// Whether flags ask that each tree is the coarsest of its map. None if the flags are unknown.
 fn trees_asked(flags: u64) -> Option<bool>
     ensures { result ≡ asks_for_trees flags }
 {
@@ -66,7 +66,7 @@ fn tested_with(alloc: Global, trees: bool, state: &Ghost) -> Result<Option<Illeg
     }
 }
 
-/// Tests a state: none where it is legal, in the form that the flags ask for, and else the first kind of fault.
+/// Tests a state: None if it is legal, in the form that the flags ask for, and else the first kind of fault.
 fn tested(
     alloc: Global,
     layout: &PlainLayout<'_>,
@@ -89,7 +89,7 @@ fn tested(
     }
 }
 
-/// What is refused where a state isn't tested.
+/// The refusal of a state that isn't tested.
 fn untested_refused(why: Untested) -> PlainRefused
     ensures { result ≡ refused_by_test why }
 {
@@ -110,10 +110,11 @@ fn untested_status(why: Untested) -> i32
     }
 }
 
-/// Tests whether a state is legal, that is, whether it is one that the model's invariant of runs allows: 0 where it is; else 1, and
-/// the first `text_len` bytes of `text` tell the first fault, by name and place. With 1 as `flags` whether each tree is the coarsest
-/// of its map isn't asked. Below 0 nothing is written to `text`: -2 it has fewer than `text_len` bytes, which the fault needs; -3 the
-/// flags are unknown; -8 and -9 something is refused, and `refused` says what; -12 memory was.
+/// Tests whether a state is legal, that is, whether it is one that the model's invariant of runs allows: 0 if it is;
+/// else 1, and the first `text_len` bytes of `text` say the first fault, by name and place. With 1 as `flags` whether
+/// each tree is the coarsest of its map isn't asked. Below 0 nothing is written to `text`: -2 it has fewer than
+/// `text_len` bytes, which the fault needs; -3 the flags are unknown; -8 and -9 something is refused, and `refused`
+/// says what; -12 memory was.
 #[unsafe(no_mangle)]
 pub extern "C" fn pkvm_check(
     alloc: Global,

@@ -17,8 +17,8 @@ mod texts;
 mod traced;
 mod words;
 
-/// The version of these functions and structs, 3.0.0: the first 32 bits change where a program that uses them has to, the next 16 where
-/// something is added, and the last 16 else.
+/// The version of these functions and structs, 3.0.0: the first 32 bits change if a program that uses them has to, the
+/// next 16 if something is added, and the last 16 else.
 pub const VERSION: u64 = 0x300000000;
 
 /// 1, since the toolchain builds only what is proved. An unproved build is made of these sources with 0 here.

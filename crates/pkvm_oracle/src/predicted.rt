@@ -25,7 +25,7 @@ pub struct PlainRoom<'a> {
     pub rows: &'a mut [PlainRow],
 }
 
-/// How many members the lists of a state have.
+/// The number of members of each list of a state.
 #[repr(C)]
 #[derive(Clone, Copy, PartialEq)]
 pub struct PlainSizes {
@@ -124,10 +124,10 @@ pub(crate) fn put_all(lists: &PlainLists, room: &mut PlainRoom<'_>)
     put(lists.rows.as_slice(), room.rows);
 }
 
-/// The reply that the model gives to a call of a CPU on a state, and the state after it: 0, `reply` has the first, the fronts of
-/// the rooms, as far as `sizes` says, have the second, and all behind them stays. -2 where a list has no room: `sizes` says what
-/// is needed. Else `sizes` is 0 throughout: -5, -7 to -9, -11 something is refused, and `refused` says what; -12 memory was.
-/// Below 0 `reply` and all rooms stay.
+/// The reply that the model gives to a call of a CPU on a state, and the state after it: 0, `reply` has the first, the
+/// fronts of the rooms, as far as `sizes` says, have the second, and all after them stays. -2 if a list has no room:
+/// `sizes` says what is needed. Else `sizes` is 0 throughout: -5, -7 to -9, -11 something is refused, and `refused`
+/// says what; -12 memory was. Below 0 `reply` and all rooms stay.
 #[unsafe(no_mangle)]
 pub extern "C" fn pkvm_predict(
     alloc: Global,

@@ -30,9 +30,10 @@ fn outcome_status(outcome: Outcome) -> i32
     }
 }
 
-/// Replays a whole trace, each step judged and audited, and writes its report into the front of `report`: 0 nothing disagreed, 1
-/// something did, 2 the trace has a fault, and `written` tells how many bytes it has. -2 where that is more than there is room
-/// for: the room has its front. -12 where memory was refused: `written` bytes of a beginning were written.
+/// Replays a whole trace, each step judged and audited, and writes its report into the front of `report`: 0 nothing
+/// disagreed, 1 something did, 2 the trace has a fault, and `written` is the number of its bytes. -2 if that is more
+/// than there is room for: the room has its front. -12 if memory was refused: `written` bytes of a beginning were
+/// written.
 #[unsafe(no_mangle)]
 pub extern "C" fn pkvm_replay(
     alloc: Global,

@@ -3,7 +3,7 @@
 /// There is no such level.
 pub(crate) const NO_LEVEL: i32 = -1;
 
-/// What is written needs more room than there is.
+/// The text or the lists need more room than there is.
 pub(crate) const NO_ROOM: i32 = -2;
 
 /// A number is unknown.

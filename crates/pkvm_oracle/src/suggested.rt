@@ -9,7 +9,7 @@ use c_calls::{Suggested, Unsuggested, suggested_call};
 use c_states::{PlainCall, PlainLayout, PlainState};
 use std::alloc::Global;
 
-/// What is refused where no call is suggested.
+/// The refusal if no call is suggested.
 fn unsuggested_refused(why: Unsuggested) -> PlainRefused
     ensures { result ≡ refused_by_suggestion why }
 {

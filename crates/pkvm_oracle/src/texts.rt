@@ -42,7 +42,7 @@ fn list_fault_text(fault: u64) -> &'static str
     }
 }
 
-/// The text of a fault, by its number; empty where no fault has it.
+/// The text of a fault, by its number; empty if no fault has it.
 fn fault_text(fault: u64) -> &'static str
     ensures { result.now ≡ text_of_fault fault }
 {

@@ -5,7 +5,7 @@ use crate::statuses::{BAD_NUMBER, NO_LEVEL, NO_WORD};
 use c_words::{PlainWord, desc_of, desc_told, level_of};
 use descriptor::{decode, encode};
 
-/// What a word of a table of a level says. 0, or -1 where there is no such level, and then `out` stays.
+/// Decodes a word of a table of a level into `out`. 0, or -1 if there is no such level, and then `out` stays.
 #[unsafe(no_mangle)]
 pub extern "C" fn pkvm_decode(level: u64, word: u64, out: &mut PlainWord) -> i32
     ensures { IsDecoded level word out.old out.new result }
@@ -17,8 +17,8 @@ pub extern "C" fn pkvm_decode(level: u64, word: u64, out: &mut PlainWord) -> i32
     0
 }
 
-/// The one word that says this in a table of a level. 0; or -1 where there is no such level, -3 where a number of it is invalid,
-/// -4 where no word says it there; and then `out` stays.
+/// The one word that says this in a table of a level. 0; or -1 if there is no such level, -3 if a number of it is
+/// invalid, -4 if no word says it there; and then `out` stays.
 #[unsafe(no_mangle)]
 pub extern "C" fn pkvm_encode(level: u64, says: &PlainWord, out: &mut u64) -> i32
     ensures { IsEncoded level says.now out.old out.new result }

@@ -11,7 +11,7 @@ use Rattle.report_json.specs.declared.forms.Form.{Form}
 use Rattle.report_json.specs.declared.forms.Kind.{Kind}
 use Rattle.report_json.specs.declared.forms.Kind.TheVariants.{Number, Hexadecimal, Word, OneOf, Text}
 
--- the bytes before the first place of a text, and those behind it; all bytes where it is empty
+-- the bytes before the first place of a text, and those after it; all bytes if it is empty
 abbrev pub cut : List ℕ → List ℕ → Option (List ℕ × List ℕ)
 cut [] bytes = Some (bytes, [])
 cut (byte ∷ stop) bytes =
@@ -60,7 +60,7 @@ filled (field ∷ fields) text set =
     (data_of field.kind parts.0))
     (cut field.stop.now text)
 
--- the object of a line of a form: its `type`, and the fields behind the form's start
+-- the object of a line of a form: its `type`, and the fields after the form's start
 abbrev pub form_object : Form → List ℕ → Option Data
 form_object form line =
     if starts_with nat_eq line form.start.now

@@ -11,7 +11,7 @@ line_of [] texts = []
 line_of (field ∷ fields) [] = []
 line_of (field ∷ fields) (text ∷ texts) = text ++ (field.stop.now ++ line_of fields texts)
 
--- members, and for each field behind them the value of its text
+-- members, and for each field after them the value of its text
 abbrev pub AreValues : List Field → List (List ℕ) → Members → Members → Type 0
 AreValues [] [] set all = all ≡ set
 AreValues [] (text ∷ texts) set all = ⊥

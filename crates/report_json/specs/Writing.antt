@@ -1,4 +1,4 @@
--- What is written of a report's bytes.
+-- The lines that are written for a report's bytes.
 use Rattle.std.specs.Prelude.{◌≡◌, ℕ, ◌+◌, List, [], ◌++◌, length, take, Option, Some, None, codes}
 use Rattle.std.specs.Io.KnownBytes.{Appends}
 use Rattle.memchr.specs.Find.{IsFirstByte, is_byte}
@@ -19,8 +19,8 @@ pub record AreHeld (bytes held left : List ℕ) (count : ℕ) (old new : Option 
   pub behind : left ≡ held ++ bytes
   pub silent : new ≡ old
 
--- bytes up to the end of a line, at this place, are taken: with what was held they are the line
--- that is told, and nothing is held
+-- bytes up to the end of a line, at this place, are taken: with the bytes held they are the line
+-- that is written, and nothing is held
 pub record AreTold (forms : List Form) (place : ℕ) (bytes held left : List ℕ) (count : ℕ)
     (old new : Option (List ℕ)) : Type 0 where
   pub through : count ≡ place + 1
@@ -34,7 +34,7 @@ TakesTo forms None bytes held left count old new = AreHeld bytes held left count
 TakesTo forms (Some place) bytes held left count old new =
     AreTold forms place bytes held left count old new
 
--- the writer took so many of the bytes, where `contents` is what the writer behind it has
+-- the writer took `count` of the bytes; `contents` gives the bytes of the writer that it writes to
 abbrev pub Takes : {W : Type 0}
     → (W → Option (List ℕ))
     → List ℕ

@@ -4,7 +4,7 @@ ghost use Rattle.report_json.specs.Forms.{cut as cut_at};
 
 use memchr::memmem;
 
-/// The bytes before the first place of `stop`, and those behind it. All bytes where it is empty, None where it has no place.
+/// The bytes before the first place of `stop`, and those after it. All bytes if it is empty, None if it has no place.
 #[tactic(auto, using(crate::proofs::Parts::cut_all, crate::proofs::Parts::cut_by))]
 pub fn cut<'a>(bytes: &'a [u8], stop: &[u8]) -> Option<(&'a [u8], &'a [u8])>
     ensures { option_map (λ parts. (parts.0.now, parts.1.now)) result ≡ cut_at stop.now bytes.now }

@@ -1,6 +1,6 @@
 //! The form of a line.
 
-/// What the text of a field is.
+/// The kind of a field's text.
 #[derive(Clone, Copy)]
 pub enum Kind {
     /// A decimal number below 2^53, which each reader of JSON keeps exactly. It becomes a number, all else a string.
@@ -15,14 +15,14 @@ pub enum Kind {
     Text,
 }
 
-/// A field of a line: its text goes on up to the first place of `stop`, or to the line's end where that is empty.
+/// A field of a line: its text goes on up to the first place of `stop`, or to the line's end if that is empty.
 pub struct Field {
     pub name: &'static str,
     pub kind: Kind,
     pub stop: &'static str,
 }
 
-/// The form of a line: `start`, and then the fields, each with its `stop` behind it.
+/// The form of a line: `start`, and then the fields, each with its `stop` after it.
 pub struct Form {
     /// The object's member `type`.
     pub kind: &'static str,

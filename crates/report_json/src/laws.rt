@@ -5,7 +5,8 @@ ghost use Rattle.report_json.specs.Forms.{form_object};
 ghost use Rattle.report_json.specs.Made.{IsMade};
 ghost use Rattle.report_json.specs.declared.forms.Form.{Form};
 
-/// The object of a line of a form has the values of texts that, each with its stop, behind the form's start are the line.
+/// The object of a line has the values of its fields' texts: the line is the form's start and then these texts, each
+/// with its stop.
 pub fn rebuilt()
     ensures { (form : Form) (line : List ℕ) (found : Data)
         → form_object form line ≡ Some found

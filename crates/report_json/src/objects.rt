@@ -47,7 +47,7 @@ fn bytes_object(global: Global, line: &[u8]) -> Result<Value, AllocError>
     Ok(Value::Object(members))
 }
 
-/// The object of a line of a form. None where the line hasn't the form.
+/// The object of a line of a form. None if the line hasn't the form.
 fn form_object(global: Global, form: &Form, line: &[u8]) -> Result<Option<Value>, AllocError>
     ensures { IfOk result (λ value. option_map view value ≡ form_object_of form.now line.now) }
 {
@@ -68,7 +68,7 @@ fn form_object(global: Global, form: &Form, line: &[u8]) -> Result<Option<Value>
     }
 }
 
-/// These members and one for each field of a text. None where the text hasn't just these fields.
+/// These members and one for each field of a text. None unless the text has these fields and no others.
 fn filled(
     global: Global,
     fields: &[Field],

@@ -13,7 +13,7 @@ macro_rules! form {
     };
 }
 
-/// What a step can be told.
+/// The replies that a step can get.
 const REPLIES: &[&str] = &[
     "ok",
     "perm",
@@ -26,7 +26,7 @@ const REPLIES: &[&str] = &[
     "contended",
 ];
 
-/// What has a page or a frame.
+/// The names of those that have a page or a frame.
 const PAGED: &[&str] = &["host", "hyp", "owner"];
 
 /// What has a place of its own in the explanation of a step.
@@ -302,7 +302,7 @@ pub const CHECKS: &[Form] = &[
     form!("text", "", ["text", Text, ""]),
 ];
 
-/// The lines of `explain`: the trace's own, and behind each four spaces and what is told of it.
+/// The lines of `explain`: the trace's own, and after each its explanation, indented by four spaces.
 pub const EXPLANATIONS: &[Form] = &[
     form!(
         "boot",

@@ -14,7 +14,7 @@ use trace_words::{decimal, number};
 /// The least number that a reader of JSON may not keep exactly.
 const INEXACT: u64 = 1 << 53;
 
-/// The value of a field of this kind. None where the text isn't of the kind.
+/// The value of a field of this kind. None if the text isn't of the kind.
 pub fn value_of(global: Global, kind: Kind, text: &[u8]) -> Result<Option<Value>, AllocError>
     ensures { IfOk result (λ value. option_map view value ≡ data_of kind text.now) }
 {

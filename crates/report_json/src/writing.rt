@@ -1,4 +1,4 @@
-//! A writer that tells lines as JSON.
+//! A writer that turns lines into JSON.
 ghost use Rattle.std.specs.Prelude.{◌≡◌, ◌≤◌, [], ◌++◌, IfOk, OnOk, length};
 ghost use Rattle.report_json.specs.Writing.{IsTold, Takes};
 

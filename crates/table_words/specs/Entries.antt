@@ -17,7 +17,7 @@ use Rattle.table_words.specs.declared.word.Memory.TheVariants.{Uncached, FromSta
 use Rattle.table_words.specs.declared.word.Decoded.{Decoded}
 use Rattle.table_words.specs.declared.word.Decoded.TheVariants.{Malformed, Annotated, Poisoned, Locked, Cleared, Leaf, Table}
 
--- What the model knows of what a word says, and what it doesn't.
+-- The part of a word's meaning that the model has, and the part that it hasn't.
 
 -- the model's rights: it knows no leaf that can't be read, and lets all execute or none
 abbrev pub prot_of : Access → Execute → Option Prot

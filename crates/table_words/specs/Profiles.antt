@@ -7,7 +7,7 @@ use Rattle.table_words.specs.declared.profile.AccessForm.TheVariants.{Readable, 
 use Rattle.table_words.specs.declared.profile.ExecuteForm.TheVariants.{OneBit, UxnPxn, XnPair}
 use Rattle.table_words.specs.declared.profile.InvalidForm.TheVariants.{OwnerByte, OwnerOrLock, Lock, Donation, Poison, ClearedLeaf}
 
--- Whose words are written how. What each form means is in Said.
+-- The forms of words of each hypervisor and table. Said gives the meaning of each form.
 --
 -- Linux' words are those of 6.12.117 and 7.3.4, 4 KiB pages: kvm_pgtable.h, hyp/pgtable.c,
 -- nvhe/mem_protect.c, nvhe/mm.c and nvhe/memory.h. hyp_set_prot_attr makes the leaves of stage 1,

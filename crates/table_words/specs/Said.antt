@@ -34,14 +34,14 @@ use Rattle.table_words.specs.declared.word.Decoded.TheVariants.{Malformed, Unmap
 --   5:2     memory (MemoryForm)
 --   7:6     access (AccessForm)
 --   9:8     SH: 11 inner shareable; with LPA2 bits 51:50 of the address
---   10      AF, the access flag: 1, or 0 where leaves age
+--   10      AF, the access flag: 1, or 0 if leaves age
 --   11      0 (nG in stage 1, FnXS in stage 2; not used)
 --   47:12   the address, of a multiple of the block's pages; with LPA2 49:12
 --   49:48   0 without LPA2
 --   50      GP, guarded, in stage 1; 0 elsewhere
 --   52:51   0 (DBM, Contiguous; not used)
 --   54:53   who may execute (ExecuteForm)
---   56:55   the state of the pages, or 0 where words say none
+--   56:55   the state of the pages, or 0 if words say none
 --   63:57   0
 --
 -- A table descriptor (above level 3) has 11 in bits 1:0, the address of the table, zeros elsewhere.
@@ -66,7 +66,7 @@ memory_of Forced n =
     else if n == 5 then Some Uncached
     else if n == 1 then Some Registers
     else None
--- MemAttr without FWB (MT_S2_AS_S1): the weakest attributes, so that stage 1's stand
+-- MemAttr without FWB (MT_S2_AS_S1): the weakest attributes, so that stage 1's take effect
 memory_of Passed n = if n == 15 then Some FromStage1 else None
 -- MemAttr with FWB (MT_S2_FWB_AS_S1)
 memory_of PassedForced n = if n == 7 then Some FromStage1 else None
@@ -109,7 +109,7 @@ execute_of XnPair n =
     else if n == 3 then Some PrivilegedAlone
     else None
 
--- the state in bits 56:55, where words say one (PKVM_PAGE_STATE_PROT_MASK); else these bits are 0
+-- the state in bits 56:55, if words say one (PKVM_PAGE_STATE_PROT_MASK); else these bits are 0
 abbrev pub state_of : Bool → ℕ → Option (Option State)
 state_of true n =
     if n == 0 then Some (Some Owned)
@@ -118,11 +118,11 @@ state_of true n =
     else None
 state_of false n = if n == 0 then Some None else None
 
--- whether the access flag, bit 10, is clear, where it may be (KVM_PTE_LEAF_ATTR_LO_S2_AF)
+-- whether the access flag, bit 10, is clear, if it may be (KVM_PTE_LEAF_ATTR_LO_S2_AF)
 abbrev pub aged_of : (ages : Bool) → ℕ → Option Bool
 aged_of ages n = if n == 1 then Some false else if ages then Some true else None
 
--- whether the leaf is guarded, by bit 50, where it may be (KVM_PTE_LEAF_ATTR_HI_S1_GP)
+-- whether the leaf is guarded, by bit 50, if it may be (KVM_PTE_LEAF_ATTR_HI_S1_GP)
 abbrev pub guarded_of : (guards : Bool) → ℕ → Option Bool
 guarded_of guards n = if n == 0 then Some false else if guards then Some true else None
 
@@ -226,7 +226,7 @@ Says profile level word (Cleared mapping) = IsCleared profile level word mapping
 Says profile level word (Leaf mapping) = IsLeaf profile level word mapping
 Says profile level word (Table frame) = IsTable profile.lpa2 level word frame.0
 
--- what the word is decoded to: what it says, Malformed where it says nothing
+-- the decoded word: its meaning, and Malformed if it has none
 abbrev pub IsSaid : Profile → Level → ℕ → Decoded → Type 0
 IsSaid profile level word Malformed = (decoded : Decoded) → Says profile level word decoded → ⊥
 IsSaid profile level word decoded = Says profile level word decoded

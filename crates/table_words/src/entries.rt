@@ -1,4 +1,4 @@
-//! What the model knows of what a word says, and what it doesn't.
+//! The part of a word's meaning that the model has, and the part that it hasn't.
 ghost use Rattle.std.specs.Prelude.{◌≡◌};
 ghost use Rattle.table_words.specs.Entries.{prot_of, kind_of, entry_of, beyond_of, nothing_beyond};
 
@@ -30,8 +30,8 @@ fn kind_in(memory: Memory) -> Kind
     }
 }
 
-/// The model's descriptor of what a word says, with `state` where words say none. None for a guest's annotation, which
-/// the model says by a slot, and for a leaf that can't be read.
+/// The model's descriptor for a decoded word, with `state` if words say none. None for a guest's annotation, which the
+/// model says by a slot, and for a leaf that can't be read.
 pub fn entry(decoded: &Decoded, state: State) -> Option<Desc>
     ensures { result ≡ entry_of decoded.now state }
 {

@@ -1,7 +1,7 @@
 //! Words of page tables by whoever wrote them: the model, or a Linux release.
 //!
-//! A `Profile` says how the parts of a word are written; `decode` says what a word of a level means by it. `entry` is
-//! what of this the model knows, `beyond_model` what it doesn't.
+//! A `Profile` says how the parts of a word are written; `decode` gives the meaning of a word of a level by it. `entry`
+//! is the part of this meaning that the model has, `beyond_model` the part that it hasn't.
 #![tactic(auto)]
 
 mod decoding;

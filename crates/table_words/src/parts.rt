@@ -1,4 +1,4 @@
-//! The parts of a leaf, by their bits.
+//! The parts of a leaf, read from their bits.
 ghost use Rattle.std.specs.Prelude.{◌≡◌, ℕ, ◌+◌, ◌*◌, ◌%◌, ◌^◌, ◌<◌, ◌==◌, IsTrue};
 ghost use Rattle.descriptor.specs.Word.{field, page_bit, has_leaves, is_upper, level_pages};
 ghost use Rattle.table_words.specs.Said.{memory_of, access_of, execute_of, state_of, aged_of, guarded_of, frame_of};

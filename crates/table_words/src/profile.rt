@@ -102,7 +102,7 @@ pub fn model() -> Profile
     }
 }
 
-/// The words of Linux' hypervisor's own stage 1 table: `hvhe` where EL2 runs with HCR_EL2.E2H set.
+/// The words of Linux' hypervisor's own stage 1 table: `hvhe` if EL2 runs with HCR_EL2.E2H set.
 pub fn linux_hypervisor(release: Release, hvhe: bool, lpa2: bool) -> Profile
     ensures { result ≡ hypervisor_profile release hvhe lpa2 }
 {

@@ -1,4 +1,4 @@
-//! Words of Linux with what they mean. Where nothing else is said, a word is what the release's own functions make
+//! Words of Linux with their meanings. If nothing else is said, a word is what the release's own functions make
 //! (hyp_set_prot_attr, stage2_set_prot_attr, kvm_init_valid_leaf_pte, kvm_init_table_pte), compiled as a program.
 use crate::{
     Access, Decoded, Execute, Guest, Mapping, Memory, Profile, Release, beyond_model, decode,

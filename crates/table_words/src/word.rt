@@ -47,7 +47,7 @@ pub struct Mapping {
     pub access: Access,
     pub execute: Execute,
     pub memory: Memory,
-    /// The state of the pages, where words of the profile say one.
+    /// The state of the pages, if words of the profile say one.
     pub state: Option<State>,
     /// Whether branches must land on landing pads (BTI).
     pub guarded: bool,
@@ -55,7 +55,7 @@ pub struct Mapping {
     pub aged: bool,
 }
 
-/// A guest by its handle, and a page of its own by number.
+/// A guest by its handle, and a page of the guest by number.
 #[derive(Clone, Copy, PartialEq, Eq)]
 pub struct Guest {
     pub handle: u64,
@@ -65,7 +65,7 @@ pub struct Guest {
 /// What a word says.
 #[derive(Clone, Copy, PartialEq, Eq)]
 pub enum Decoded {
-    /// A word that says nothing else by its profile.
+    /// A word that has no other meaning by its profile.
     Malformed,
     /// The word 0: nothing is mapped.
     Unmapped,

@@ -4,7 +4,7 @@ ghost use Rattle.std.specs.Prelude.{Some};
 use trace_reader::Failed;
 use trace_text::Sink;
 
-/// Bytes that were written, in memory. A write fails only where memory is refused, and changes nothing then.
+/// Bytes that were written, in memory. A write fails only if memory is refused, and changes nothing then.
 #[derive(Drop)]
 pub struct Collected {
     pub bytes: Vec<u8>,

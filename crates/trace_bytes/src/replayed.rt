@@ -9,15 +9,15 @@ use std::alloc::Global;
 use trace_reader::{EngineFault, Outcome};
 use trace_text::replay;
 
-/// What came of a replay.
+/// The result of a replay: its report and its outcome.
 #[derive(Drop)]
 pub struct Replayed {
     pub outcome: Result<Outcome, EngineFault>,
-    /// The report, or, where memory was refused, a beginning of it.
+    /// The report, or a beginning of it if memory was refused.
     pub report: Vec<u8>,
 }
 
-/// Replays a trace, each step judged and audited. Err only where memory is refused.
+/// Replays a trace, each step judged and audited. Err only if memory is refused.
 pub fn replay_bytes(alloc: Global, trace: &[u8]) -> Replayed
     ensures whole { IfOk result.outcome
         (IsReplayed agreed (Some trace.now) (Some []) (Some result.report.items)) }

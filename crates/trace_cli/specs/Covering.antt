@@ -13,8 +13,8 @@ is_faulty Clean = false
 is_faulty Disagreed = false
 is_faulty Fault = true
 
--- 2 where a trace has a fault; 1 where rows that can come never came, and these are asked for; and
--- else 0
+-- 2 if a trace has a fault; 1 if the report is of missing rows and some row that can come never
+-- came; and else 0
 abbrev pub status_of_cover : Bool → Bool → ℕ → ℕ
 status_of_cover missing faulty count =
     if faulty then 2 else (if missing && not (count == 0) then 1 else 0)
@@ -41,7 +41,7 @@ IsToldStatus missing faulty seen status =
 
 -- by what opening a path may come to
 module _ {F E : Type 0} (bytes : F → Option (List ℕ)) (opens : List ℕ → Result F E → Type 0) where
-  -- of a file at a path: 2 where it can't be opened
+  -- of a file at a path: 2 if it can't be opened
   abbrev pub AddsFile : List ℕ → List Seen → List Seen → Result Outcome ℕ → Type 0
   AddsFile path before after result =
       (opened : Result F E)

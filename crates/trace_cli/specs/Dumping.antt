@@ -40,6 +40,6 @@ module _ {I E : Type 0} (known : I → Option (List ℕ)) (may_fail : I → ℕ 
         (form_by asked.base) roots asked.vmemmap skips answer
     pub told : status ≡ status_of answer
 
-  -- and where words are wrong, the image can't be opened, or memory was refused before, it is 2
+  -- and if words are wrong, the image can't be opened, or memory was refused before, it is 2
   abbrev pub HasDumpStatus : DumpAsked → ℕ → Type 0
   HasDumpStatus asked status = IsDumpStatus asked status ⊎ (status ≡ 2)

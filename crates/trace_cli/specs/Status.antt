@@ -42,7 +42,7 @@ use Rattle.trace_cli.specs.declared.tasks.Opened.{Opened}
 use Rattle.trace_cli.specs.declared.tasks.Task.{Task}
 use Rattle.trace_cli.specs.declared.tasks.Task.TheVariants as tasks
 
--- the report of a replay of these bytes, where they are known, has this outcome
+-- the report of a replay of these bytes, if they are known, has this outcome
 abbrev pub HasReplayReport : Option (List ℕ) → Outcome → Type 0
 HasReplayReport bytes outcome =
     IfSome bytes
@@ -118,7 +118,8 @@ abbrev pub HasDrawn : Bool → Option (List ℕ) → Outcome → Type 0
 HasDrawn true bytes outcome = IfSome bytes (λ all. EndsAsTold all outcome)
 HasDrawn false bytes outcome = IfSome bytes (λ all. EndsAsDrawn all outcome)
 
--- what a task has made of these bytes has this outcome. What is recorded is in no clause here
+-- the report that a task makes of these bytes has this outcome. No clause here speaks of what is
+-- recorded
 abbrev pub HasReport : Task → List ℕ → Option (List ℕ) → Outcome → Type 0
 HasReport (tasks.Replay heap looks output) path bytes outcome = HasReplayReport bytes outcome
 HasReport (tasks.Race output) path bytes outcome = HasRaceReport bytes outcome
@@ -157,7 +158,7 @@ pub record HasOrderAnswer (name : List ℕ) (limit : ℕ) (bytes report : Option
   pub order : IfOk answer (HasOrder name limit bytes report)
   pub told : status ≡ status_told answer
 
--- the status of a task, by what came of opening its file: 2 where that was refused
+-- the status of a task, by the result of opening its file: 2 if that was refused
 abbrev pub IsStatusOf : {F E : Type 0}
     → (F → Option (List ℕ))
     → Task
@@ -171,15 +172,15 @@ IsStatusOf bytes task path opened status =
 abbrev pub HasStatus : {F : Type 0} → (F → Option (List ℕ)) → Opened F → ℕ → Type 0
 HasStatus bytes opened status = IsStatusOf bytes opened.task opened.path.now opened.file status
 
--- the status where nothing is asked for: 2 for refused words and help, 1 for want of memory. The
--- version is written, or not
+-- the status if the words ask for nothing: 2 for refused words and help, 1 if memory was refused.
+-- The version is written, or not
 abbrev pub IsRefused : UsageFault → ℕ → Type 0
 IsRefused (Usage error) status =
     ((kind_of error ≡ DisplayVersion) × (status ≤ 1))
     ⊎ ((kind_of error ≢ DisplayVersion) × (status ≡ 2))
 IsRefused NoMemory status = status ≡ 1
 
--- the status where no trace is made: 2 for options of which none can be made
+-- the status if no trace is made: 2 for options that make no trace
 abbrev pub status_of_fault : GenerateFault → ℕ
 status_of_fault generating.Steps = 2
 status_of_fault generating.Cpus = 2
@@ -189,16 +190,16 @@ status_of_fault generating.Pages = 2
 status_of_fault generating.NoBoot = 2
 status_of_fault generating.NoMemory = 1
 
--- the status of a write: 0 where nothing failed
+-- the status of a write: 0 if nothing failed
 abbrev pub status_written : {X E : Type 0} → Result X E → ℕ
 status_written (Ok x) = 0
 status_written (Err error) = 1
 
--- the status is 0 where the whole text was written behind what was there, and else 1
+-- the status is 0 if the whole text was appended to the output, and else 1
 abbrev pub IsPut : List ℕ → Option (List ℕ) → Option (List ℕ) → ℕ → Type 0
 IsPut text old new status = ((status ≡ 0) × Appends old new text) ⊎ (status ≡ 1)
 
--- a text that was made is put so, and where none was the status says why
+-- a text that was made is written so, and if none was made the status says why
 abbrev pub IsAnswerPut : {X : Type 0}
     → (X → List ℕ)
     → Result X GenerateFault
@@ -223,7 +224,7 @@ module _ {F E : Type 0} (bytes : F → Option (List ℕ)) (opens : List ℕ → 
   HasFileStatus task path status =
       (opened : Result F E) × opens path opened × IsStatusOf bytes task path opened status
 
-  -- of a trace and a report, the trace opened first; 2 where one of them can't be
+  -- of a trace and a report, the trace opened first; 2 if one of them can't be
   abbrev pub HasReportStatus : List ℕ → ℕ → F → ℕ → Type 0
   HasReportStatus report limit file status =
       (opened : Result F E)

@@ -51,7 +51,7 @@ fn is_faulty(outcome: Outcome) -> bool
     }
 }
 
-/// Adds the steps of the trace at a path. Err, with the exit status, where the file can't be opened or read.
+/// Adds the steps of the trace at a path. Err, with the exit status, if the file can't be opened or read.
 fn added<R: AllocGlobal + Eprint, F: io::Read + Drop, O: Opens<F>>(
     rt: &R,
     files: &O,
@@ -67,7 +67,7 @@ fn added<R: AllocGlobal + Eprint, F: io::Read + Drop, O: Opens<F>>(
     }
 }
 
-/// Adds the steps of an opened file's trace. Err, with the exit status, where it can't be read.
+/// Adds the steps of an opened file's trace. Err, with the exit status, if it can't be read.
 fn added_of<R: AllocGlobal + Eprint, F: io::Read + Drop>(
     rt: &R,
     path: &str,
@@ -99,14 +99,14 @@ fn counted<R: AllocGlobal + Eprint, F: io::Read + Drop>(
     let Ok(outcome) = add_steps(rt.alloc(), rt.alloc(), path, trace.as_slice(), seen, text) else {
         return Err(no_memory());
     };
-    // The text tells the place of a fault itself.
+    // The text has the place of a fault itself.
     if !is_faulty(outcome) {
         tell_beside(rt, path, trace.as_slice(), None, false)?;
     }
     Ok(outcome)
 }
 
-/// Writes what steps have tried behind the faults of their traces, and gives the exit status.
+/// Writes the coverage of steps after the faults of their traces, and gives the exit status.
 fn told<R: AllocGlobal + Print + Eprint>(
     rt: &R,
     seen: &[Seen],

@@ -76,7 +76,7 @@ pub fn dumped<
     }
 }
 
-/// Tells which words ask for no dump, and gives the exit status.
+/// Writes to standard error which words ask for no dump, and gives the exit status.
 fn not_given<R: Eprint>(rt: &R, fault: NotGiven) -> u8
     ensures { result ≡ 2 }
 {
@@ -128,7 +128,7 @@ fn written<R: AllocGlobal + Print, I: ImageBytes, P: Progress>(
     }
 }
 
-/// Tells on standard error why there is no report, where there is none.
+/// Writes to standard error why there is no report, if there is none.
 fn told<R: Eprint>(rt: &R, path: &str, answer: Result<Dumped, NotDumped>) {
     let _ = match answer {
         Ok(_) => Ok(()),

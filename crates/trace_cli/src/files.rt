@@ -1,4 +1,4 @@
-//! Where the files of traces come from.
+//! Opens the files of traces.
 ghost use Rattle.std.specs.Prelude.{⊤};
 
 use crate::progress::{Shown, Watched};
@@ -8,12 +8,12 @@ use std::io::{self, Input};
 use std::rt::Files;
 use std::time::Clock;
 
-/// What opens the files of traces by their paths.
+/// Opens the files of traces by their paths.
 pub trait Opens<F> {
     ghost use Rattle.std.specs.Prelude.{ℕ, List, Result};
     ghost use Rattle.std.specs.declared.io.Error.{Error};
 
-    /// What opening a path may come to.
+    /// The possible results of opening a path.
     ghost opens: { Self → List ℕ → Result F Error → Type 0 };
 
     /// Opens the file at a path. `is_long` says that the run of its trace may take a while.
@@ -21,12 +21,12 @@ pub trait Opens<F> {
         ensures { opens self.now path.now result };
 }
 
-/// What opens images of memory by their paths.
+/// Opens images of memory by their paths.
 pub trait OpensImage<I> {
     ghost use Rattle.std.specs.Prelude.{ℕ, List, Result};
     ghost use Rattle.std.specs.declared.io.Error.{Error};
 
-    /// What opening a path may come to.
+    /// The possible results of opening a path.
     ghost opens_image: { Self → List ℕ → Result I Error → Type 0 };
 
     /// Opens the image at a path.
@@ -34,9 +34,9 @@ pub trait OpensImage<I> {
         ensures { opens_image self.now path.now result };
 }
 
-/// What shows how far long work is.
+/// Shows the progress of long work.
 pub trait ShowsWork<P> {
-    /// What counts so many `units` of work from here on. `is_shown` says whether the user asked for anything to be shown.
+    /// Counts work in these `units` from here on. `is_shown` says whether the user asked for progress.
     fn progress(&self, units: &'static str, is_shown: bool) -> P;
 }
 
@@ -44,7 +44,7 @@ pub trait ShowsWork<P> {
 #[derive(Drop)]
 pub struct HostFiles<'a, R> {
     pub rt: &'a R,
-    /// Whether long work shows how far it is.
+    /// Whether the progress of long work is shown.
     pub shows: bool,
 }
 

@@ -48,7 +48,7 @@ fn put<R: Eprint, W: Write>(rt: &R, writer: &mut W, text: &[u8]) -> u8
     told(rt, outcome)
 }
 
-/// Tells a write that failed, and gives the exit status.
+/// Writes to standard error that a write failed, if it did, and gives the exit status.
 fn told<R: Eprint>(rt: &R, outcome: io::Result<()>) -> u8
     ensures { result ≡ status_written outcome }
 {

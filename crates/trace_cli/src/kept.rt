@@ -1,10 +1,10 @@
-//! What a run reads and the end of what it writes, kept for the text beside its report.
+//! The bytes that a run reads and the end of those that it writes, kept for the text beside its report.
 ghost use Rattle.std.specs.Prelude.{◌≡◌};
 
 use std::alloc::{AllocError, Global};
 use std::io::{self, ErrorKind, Read, Write};
 
-/// A trace's reader that keeps what was read.
+/// A trace's reader that keeps the bytes read.
 #[derive(Drop)]
 pub struct KeptReader<'a, F> {
     file: F,
@@ -34,10 +34,10 @@ impl<'a, F: Read> Read for KeptReader<'a, F> {
     }
 }
 
-/// How many bytes of a report's end are kept: more than the line of a fault has.
+/// The number of bytes of a report's end that are kept: more than the line of a fault has.
 const MOST_KEPT: usize = 64;
 
-/// A report's writer that keeps the end of what was written.
+/// A report's writer that keeps the end of the bytes written.
 #[derive(Drop)]
 pub struct KeptWriter<W> {
     file: W,

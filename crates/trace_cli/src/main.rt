@@ -1,13 +1,13 @@
 //! Runs traces of hypercalls on a model of protected KVM's page ownership.
 //!
-//! `trace_cli replay FILE [--heap BYTES]` carries the lines of FILE out in order and writes the report to standard output.
-//! The tables of the trees lie in a heap of BYTES (4,096 to 1,073,741,824), or in the machine's memory. `trace_cli race FILE`
-//! makes the steps after `start` on one thread for each CPU, and `trace_cli outcomes FILE` finds all that they may be told;
-//! `trace_cli audit FILE` sets words and audits once.
-//! `trace_cli check FILE..` compares what lines report with what comments after them expect, `cover FILE..` counts what traces
-//! have tried, `explain FILE` shows what each step looked at, `generate SEED STEPS` makes a trace, and `draw FILE` a picture of who
-//! owns what; `dump IMAGE` tells who owns what in an image of memory. With `--json` a report's lines are JSON. The lines of a
-//! trace, its reports and each fault are explained in docs/TRACES.md, the JSON in docs/JSON.md.
+//! `trace_cli replay FILE [--heap BYTES]` carries the lines of FILE out in order and writes the report to standard
+//! output. The tables of the trees lie in a heap of BYTES (4,096 to 1,073,741,824), or in the machine's memory.
+//! `trace_cli race FILE` makes the steps after `start` on one thread for each CPU, and `trace_cli outcomes FILE` finds
+//! all replies that they may get; `trace_cli audit FILE` sets words and audits once. `trace_cli check FILE..` compares
+//! what lines report with what comments after them expect, `cover FILE..` counts what traces have tried, `explain FILE`
+//! shows what each step looked at, `generate SEED STEPS` makes a trace, and `draw FILE` a picture of who owns what;
+//! `dump IMAGE` reports who owns what in an image of memory. With `--json` a report's lines are JSON. docs/TRACES.md
+//! explains the lines of a trace, its reports and each fault, and docs/JSON.md the JSON.
 //!
 //! The exit status:
 //!
@@ -17,8 +17,8 @@
 //! - 2: FILE can't be opened, `cover` met a fault, the words are refused, or help was asked for. The reason, or help, is on standard
 //!   error, but a fault of a trace in the report.
 //!
-//! What the words ask for is read in `trace_command`; each library crate of a subcommand does it. Here files are opened, and
-//! what is in no report is written to standard error.
+//! `trace_command` parses the command line, and each subcommand has a library crate that does its work. This crate
+//! opens files, and writes to standard error all that is in no report.
 #![tactic(auto)]
 
 ghost use Rattle.std.specs.Prelude.{IfOk, map};
@@ -86,7 +86,7 @@ fn done_by_words<
     }
 }
 
-/// Does what was asked, and gives the exit status.
+/// Does what the command line asks, and gives the exit status.
 fn done<
     R: AllocGlobal + Print + Eprint + Threads + Wait + Sync,
     F: io::Read + Drop,
@@ -200,7 +200,7 @@ fn done_with<
     status_of(rt, Opened { task, path, file }, &progress)
 }
 
-/// Tells whether some order gives the replies of the report at a path, and gives the exit status.
+/// Writes whether some order of steps gives the replies of the report at a path, and returns the exit status.
 fn done_with_both<
     R: AllocGlobal + Print + Eprint,
     F: io::Read + Drop,

@@ -11,9 +11,9 @@ use trace_reader::Progress;
 #[derive(Drop)]
 pub struct Shown<'a, R: Clock + Eprint> {
     rt: &'a R,
-    /// What is counted.
+    /// The name of the units counted.
     units: &'static str,
-    /// When it was shown last. None where it isn't shown.
+    /// When it was shown last. None if it isn't shown.
     last: Cell<Option<Instant>>,
     /// Whether something is shown.
     is_shown: Cell<bool>,
@@ -35,7 +35,7 @@ impl<'a, R: Clock + Eprint> Shown<'a, R> {
 }
 
 impl<'a, R: Clock + Eprint> Progress for Shown<'a, R> {
-    /// Shows how many units are done, where a second has passed.
+    /// Adds to the units done, and shows their number if a second has passed.
     fn advance(&self, by: u64) {
         let count = self.count.get().saturating_add(by);
         self.count.set(count);

@@ -1,4 +1,4 @@
-//! What is done with a file of a trace, once it is opened; the exit status.
+//! The tasks on an opened file of a trace, and their exit status.
 ghost use Rattle.std.specs.Prelude.{◌≡◌, IfOk};
 ghost use Rattle.trace_cli.specs.Status.{HasOrderAnswer, HasReport, HasStatus, status_told};
 
@@ -12,7 +12,7 @@ use trace_command::{Looks, Output};
 use trace_race::Halted;
 use trace_reader::{Outcome, Progress, exit_status};
 
-/// What is done with the file of a trace.
+/// A task on the file of a trace.
 #[derive(Clone, Copy, PartialEq)]
 pub enum Task {
     Replay {
@@ -92,7 +92,7 @@ pub fn status_of<
     }
 }
 
-/// Tells that a file can't be opened, and gives the exit status.
+/// Writes to standard error that a file can't be opened, and gives the exit status.
 pub fn unopened<R: Eprint>(rt: &R, path: &str, error: io::Error) -> u8
     ensures { result ≡ 2 }
 {
@@ -100,7 +100,7 @@ pub fn unopened<R: Eprint>(rt: &R, path: &str, error: io::Error) -> u8
     REFUSED
 }
 
-/// Tells whether some order of a trace's steps gives the replies of a report, and gives the exit status.
+/// Writes whether some order of a trace's steps gives the replies of a report, and returns the exit status.
 pub fn order_status<R: AllocGlobal + Print + Eprint, F: io::Read + Drop, P: Progress>(
     rt: &R,
     path: &str,
@@ -117,7 +117,7 @@ pub fn order_status<R: AllocGlobal + Print + Eprint, F: io::Read + Drop, P: Prog
     told(rt, path, answer)
 }
 
-/// Tells on standard error why there is no whole report, if there is none, and gives the exit status.
+/// Writes to standard error why there is no whole report, if there is none, and gives the exit status.
 fn told<R: Eprint>(rt: &R, path: &str, answer: Result<Outcome, Halted>) -> u8
     ensures { result ≡ status_told answer }
 {
@@ -131,7 +131,7 @@ fn told<R: Eprint>(rt: &R, path: &str, answer: Result<Outcome, Halted>) -> u8
     exit_status(Ok(outcome))
 }
 
-/// Does the task with an opened file, writes the report to standard output, whose bytes no contract knows, and what is said
+/// Does the task with an opened file, writes the report to standard output, whose bytes no contract knows, and the text
 /// beside it to standard error.
 fn answered<
     R: AllocGlobal + Print + Eprint + Threads + Wait + Sync,

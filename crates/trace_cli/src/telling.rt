@@ -1,4 +1,4 @@
-//! What is in no report, and is written to standard error.
+//! Text that is in no report, and goes to standard error.
 ghost use Rattle.std.specs.Prelude.{◌≡◌};
 ghost use Rattle.trace_cli.specs.Status.{IsRefused, place_in};
 
@@ -10,13 +10,13 @@ use trace_race::{Halted, RaceFault};
 use trace_reader::EngineFault;
 use trace_text::Fault;
 
-/// The status where the words are refused or a file can't be opened.
+/// The status if the words are refused or a file can't be opened.
 pub const REFUSED: u8 = 2;
 
 /// The status of a fault that is in no report.
 pub const FAILED: u8 = 1;
 
-/// Tells why the words were refused, and gives the exit status. The version goes to standard output.
+/// Writes to standard error why the words were refused, and gives the exit status. The version goes to standard output.
 pub fn refused<R: Print + Eprint>(rt: &R, fault: UsageFault) -> u8
     ensures { IsRefused fault result }
 {
@@ -38,7 +38,7 @@ pub fn refused<R: Print + Eprint>(rt: &R, fault: UsageFault) -> u8
     }
 }
 
-/// Tells why no whole report was written.
+/// Writes to standard error why there is no whole report.
 pub fn tell<R: Eprint>(rt: &R, path: &str, halted: &Halted) {
     let _ = match halted.fault {
         RaceFault::Start => eprintln!(rt; "./run: {path}: a thread could not be started"),
@@ -52,7 +52,7 @@ pub fn tell<R: Eprint>(rt: &R, path: &str, halted: &Halted) {
     };
 }
 
-/// What a fault is blamed on.
+/// The file that a fault is blamed on: standard output for a write, else the trace's.
 fn place_of<'a>(fault: EngineFault, path: &'a str) -> &'a str
     ensures { result.now ≡ place_in fault path.entry.now }
 {
@@ -62,8 +62,8 @@ fn place_of<'a>(fault: EngineFault, path: &'a str) -> &'a str
     }
 }
 
-/// Writes to standard error what is said beside the report of a trace, if anything: where its fault is, or why it makes no step,
-/// or no race. Err where memory was refused.
+/// Writes to standard error the text beside the report of a trace, if there is any: where its fault is, or why it makes
+/// no step, or no race. Err if memory was refused.
 pub fn tell_beside<R: AllocGlobal + Eprint>(
     rt: &R,
     path: &str,
@@ -80,7 +80,7 @@ pub fn tell_beside<R: AllocGlobal + Eprint>(
     Ok(())
 }
 
-/// That memory was refused.
+/// The end of a run whose memory was refused.
 pub fn no_memory() -> Halted {
     Halted {
         fault: RaceFault::Engine(EngineFault::NoMemory),

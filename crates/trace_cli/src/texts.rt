@@ -37,7 +37,7 @@ pub fn outcomes_told<R: AllocGlobal + Print + Eprint, F: io::Read + Drop, P: Pro
     Ok(told.outcome)
 }
 
-/// Tells whether some order of the steps after `start` gives the replies of a report.
+/// Writes whether some order of the steps after `start` gives the replies of a report.
 pub fn order_told<R: AllocGlobal + Print + Eprint, F: io::Read + Drop, P: Progress>(
     rt: &R,
     path: &str,
@@ -132,7 +132,7 @@ pub fn explained<R: AllocGlobal + Print + Eprint, F: io::Read + Drop>(
         return Err(no_memory());
     };
     show(rt, output, EXPLANATIONS, explained.text.as_slice())?;
-    // The text tells the place of a fault itself.
+    // The text has the place of a fault itself.
     if explained.outcome == Outcome::Clean {
         tell_beside(rt, path, trace.as_slice(), None, false)?;
     }
@@ -226,7 +226,7 @@ pub fn write<R: Print>(rt: &R, text: &[u8]) -> Result<(), Halted> {
     written(io::writer(rt).write_all(text))
 }
 
-/// What came of a write to standard output.
+/// The result of a write to standard output.
 fn written(answer: io::Result<()>) -> Result<(), Halted> {
     match answer {
         Ok(()) => Ok(()),

@@ -46,7 +46,7 @@ pub data Asking : Type 0 where
   -- the files, whether only what never came is written, and whether nothing is
   Covering : List Text → Bool → Bool → Asking
   Recording : Text → Asking
-  -- the line that is shown, where it is one
+  -- the line that is shown, if it is only one
   Explaining : Text → Option ℕ → Output → Asking
   -- the seed, the steps, the CPUs, the pages, the geometry, and the calls in a hundred that are to
   -- be refused
@@ -97,20 +97,20 @@ heap_size word =
     then Some (digits_value 10 word)
     else None
 
--- the heap that is asked for: none without a word, else one of the size that it says. No answer
--- where it says none
+-- the heap that is asked for: none without a word, else one of the size that it says. No answer if
+-- it says none
 abbrev pub heap_told : Option Text → Option (Option ℕ)
 heap_told None = Some None
 heap_told (Some word) = option_map (λ size. Some size) (heap_size word)
 
--- when the oracle looks: after each step, where no word says it
+-- when the oracle looks: after each step, if no word says it
 abbrev pub looks_told : Option Text → Option Looks
 looks_told None = Some Each
 looks_told (Some word) =
     if bytes_eq word (codes "each") then Some Each
     else (if bytes_eq word (codes "end") then Some End else None)
 
--- a number as a trace writes it; where no word says it, it is that one
+-- a number as a trace writes it; `otherwise` if no word says it
 abbrev pub number_told : ℕ → Option Text → Option ℕ
 number_told otherwise None = Some otherwise
 number_told otherwise (Some word) = number_of word
@@ -121,7 +121,7 @@ number_within least most word =
     option_and_then (λ n. if nat_le least n && nat_le n most then Some n else None) (number_of word)
 
 -- the points of a step that the search for outcomes may come to, from 1 to 4,294,967,296: 100,000
--- where no word says it
+-- if no word says it
 abbrev pub limit_told : Option Text → Option ℕ
 limit_told None = Some 100000
 limit_told (Some word) = number_within 1 4294967296 word
@@ -140,7 +140,7 @@ number_given (Some word) = option_map (λ number. Some number) (number_of word)
 abbrev pub is_set : Text → List Row → Bool
 is_set id rows = option_map_or (λ word. bytes_eq word (codes "true")) (first_of id rows) false
 
--- how the report is written: not at all under `--quiet`, also where `--json` is given
+-- how the report is written: not at all under `--quiet`, also if `--json` is given
 abbrev pub output_in : List Row → Output
 output_in rows =
     if is_set (codes "quiet") rows then Nothing
@@ -227,7 +227,7 @@ abbrev pub drawing : List Row → Option Asking
 drawing rows =
     option_map (λ file. Drawing file (is_set (codes "text") rows)) (first_of (codes "FILE") rows)
 
--- all words that are given as this; none where nothing is
+-- all words that are given for an id; none if there are none
 abbrev pub words_given : Text → List Row → List Text
 words_given id rows = unwrap_or (all_of id rows) []
 
@@ -270,12 +270,12 @@ asked_in (name, rows) =
     else (if bytes_eq name (codes "dump") then dumping rows
     else None)))))))))
 
--- what words ask for, where clap finds no fault in them
+-- what words ask for, if clap finds no fault in them
 abbrev pub asked_by : List Text → Option Asking
 asked_by words = option_and_then asked_in (subcommand_of program words)
 
--- what was read: what the words ask for; a fault that clap finds in them, or that it finds none and
--- they ask for nothing, since a value isn't of its form; or that memory was refused
+-- the result of a parse: what the words ask for; a fault that clap finds in them, or that it finds
+-- none and they ask for nothing, since a value isn't of its form; or that memory was refused
 abbrev pub IsRead : List Text → Result Invocation UsageFault → Type 0
 IsRead words (Ok invocation) =
     (fault_of program words ≡ []) × (asked_by words ≡ Some (asking_of invocation))
@@ -393,13 +393,13 @@ abbrev pub StandsFor : Error → UsageFault → Type 0
 StandsFor error (Usage shown) = (shown ≡ error) × (kind_of error ≢ OutOfMemory)
 StandsFor error NoMemory = kind_of error ≡ OutOfMemory
 
--- a value that was read is the one that was found, and a refusal comes where none was
+-- the value that was read is the one found, and a refusal means that none was found
 abbrev pub IsReadAs : {X Y : Type 0} → Option Y → (X → Y) → Result X Unread → Type 0
 IsReadAs found of (Ok value) = found ≡ Some (of value)
 IsReadAs found of (Err (unread.Word wanted)) = found ≡ None
 IsReadAs found of (Err unread.NoMemory) = ⊥
 
--- and where memory may be refused
+-- the same, except that memory may be refused
 abbrev pub IsReadUnlessMemory : {X Y : Type 0} → Option Y → (X → Y) → Result X Unread → Type 0
 IsReadUnlessMemory found of (Ok value) = found ≡ Some (of value)
 IsReadUnlessMemory found of (Err (unread.Word wanted)) = found ≡ None

@@ -4,7 +4,7 @@ use Rattle.clap.specs.Lexer.{usize_max}
 use Rattle.clap.specs.declared.builder.action.ArgAction.TheVariants.{Append, Set, SetTrue}
 use Rattle.clap.specs.Words.{App, Rule, Text, new_app, new_rule, with_rule, with_subcommand}
 
--- a value that must be given, by its place
+-- a required positional value
 abbrev pub needed : Text → Rule
 needed id = record (new_rule id) { required = true; action = Some Set }
 

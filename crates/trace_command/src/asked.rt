@@ -35,7 +35,7 @@ use clap::ArgMatches;
 use std::alloc::{AllocError, Global};
 use trace_words::number;
 
-/// The CPUs of a trace that is made, where no word says it.
+/// The CPUs of a generated trace, if no word says it.
 const CPUS: u64 = 4;
 
 /// Its pages of memory.
@@ -47,7 +47,7 @@ const GEOMETRY: u64 = 39;
 /// Of a hundred of its calls, those that are to be refused.
 const HOSTILE: u64 = 0;
 
-/// The most points of a step that the search for outcomes comes to, where no word says it.
+/// The most points of a step that the search for outcomes comes to, if no word says it.
 const POINTS: u64 = 100_000;
 
 /// The greatest number of them that can be asked for.
@@ -87,7 +87,7 @@ impl From<AllocError> for Unread {
     }
 }
 
-/// What is asked for.
+/// What the command line asks for.
 pub(crate) fn asked<'a>(global: Global, matches: &ArgMatches<'a>) -> Result<Invocation<'a>, Unread>
     ensures { HasAsked (option_and_then asked_in (subcommand_rows_of matches.now)) result }
 {
@@ -97,7 +97,7 @@ pub(crate) fn asked<'a>(global: Global, matches: &ArgMatches<'a>) -> Result<Invo
     }
 }
 
-/// What a subcommand is asked for.
+/// The task of a subcommand, by its words.
 fn asked_of<'a>(
     global: Global,
     name: &str,
@@ -145,7 +145,7 @@ fn value<'a>(inner: &ArgMatches<'a>, id: &str) -> Option<&'a str>
     inner.get_str(id)
 }
 
-/// The path that is given as FILE.
+/// The value of FILE, a path.
 fn file<'a>(inner: &ArgMatches<'a>) -> Result<&'a str, Unread>
     ensures { IsReadAs (first_of (codes "FILE") (rows_of (found_of inner.now))) (λ path. path.now) result }
 {
@@ -155,7 +155,7 @@ fn file<'a>(inner: &ArgMatches<'a>) -> Result<&'a str, Unread>
     }
 }
 
-/// The heap that is given as `--heap`.
+/// The heap size given by `--heap`, None without it.
 fn heap(inner: &ArgMatches<'_>) -> Result<Option<usize>, Unread>
     ensures { IsReadAs (heap_told (first_of (codes "heap") (rows_of (found_of inner.now))))
         (λ size. size) result }
@@ -169,7 +169,7 @@ fn heap(inner: &ArgMatches<'_>) -> Result<Option<usize>, Unread>
     }
 }
 
-/// What is given as `--oracle`.
+/// The value of `--oracle`.
 fn looks(inner: &ArgMatches<'_>) -> Result<Looks, Unread>
     ensures { IsReadAs (looks_told (first_of (codes "oracle") (rows_of (found_of inner.now))))
         (λ looks. looks) result }
@@ -209,7 +209,7 @@ fn output(inner: &ArgMatches<'_>) -> Output
     Output::Report
 }
 
-/// A number that must be given.
+/// The number given for a required value.
 fn number_of(inner: &ArgMatches<'_>, id: &str) -> Result<u64, Unread>
     ensures { IsReadAs (option_and_then number_said (first_of id.now (rows_of (found_of inner.now))))
         (λ value. value) result }
@@ -223,7 +223,7 @@ fn number_of(inner: &ArgMatches<'_>, id: &str) -> Result<u64, Unread>
     }
 }
 
-/// A number that may be given.
+/// The number given as an option, or `otherwise` without it.
 fn number_or(inner: &ArgMatches<'_>, id: &str, otherwise: u64) -> Result<u64, Unread>
     ensures { IsReadAs (number_told otherwise (first_of id.now (rows_of (found_of inner.now))))
         (λ value. value) result }
@@ -251,7 +251,7 @@ fn limit(inner: &ArgMatches<'_>) -> Result<u64, Unread>
     }
 }
 
-/// The line that is given as `--line`.
+/// The line number given by `--line`, None without it.
 fn line(inner: &ArgMatches<'_>) -> Result<Option<u64>, Unread>
     ensures { IsReadAs (line_told (first_of (codes "line") (rows_of (found_of inner.now))))
         (λ line. line) result }
@@ -265,7 +265,7 @@ fn line(inner: &ArgMatches<'_>) -> Result<Option<u64>, Unread>
     }
 }
 
-/// The number that is given as an option, where it is given.
+/// The number given as an option, None without the option.
 fn given_number(inner: &ArgMatches<'_>, id: &str, wanted: Wanted) -> Result<Option<u64>, Unread>
     ensures { IsReadAs (number_given (first_of id.now (rows_of (found_of inner.now))))
         (λ number. number) result }
@@ -289,7 +289,7 @@ fn word<'a>(inner: &ArgMatches<'a>, id: &str) -> Result<&'a str, Unread>
     }
 }
 
-/// All words that are given as this; none where nothing is.
+/// All words that are given for an id; none if there are none.
 fn words<'a>(global: Global, inner: &ArgMatches<'a>, id: &str) -> Result<Vec<&'a str>, AllocError>
     ensures { IfOk result
         (λ words. map (λ word. word.now) words.items
@@ -303,7 +303,7 @@ fn words<'a>(global: Global, inner: &ArgMatches<'a>, id: &str) -> Result<Vec<&'a
     Ok(words)
 }
 
-/// All that is given as FILE.
+/// All values of FILE, which are paths.
 fn files<'a>(global: Global, inner: &ArgMatches<'a>) -> Result<Vec<&'a str>, Unread>
     ensures { IsReadUnlessMemory (all_of (codes "FILE") (rows_of (found_of inner.now)))
         (λ files. map (λ path. path.now) files.items) result }

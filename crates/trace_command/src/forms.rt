@@ -29,17 +29,17 @@ use clap::error::ErrorKind;
 use clap::{Arg, ArgAction, Command, Error};
 use std::alloc::{AllocError, Global};
 
-/// What `--version` shows.
+/// The text that `--version` shows.
 const VERSION: &str = "3.0.0 (rattle-kit-13f)";
 
-/// What usage texts call the program.
+/// The name of the program in usage texts.
 const PROGRAM: &str = "./run";
 
-/// What help shows after the words.
+/// The text that help shows after the words.
 const HELP: &str =
     "Examples:\n  ./run replay examples/first_share.trace\n  ./run replay examples/first_share.trace --heap 262144\n  ./run race examples/raced/one_vcpu.trace\n  ./run outcomes examples/raced/one_vcpu.trace\n  ./run audit examples/audited/broken_word.trace\n  ./run check examples/expected_replies.trace\n  ./run cover examples/first_share.trace examples/refusals.trace\n  ./run explain examples/first_share.trace\n  ./run generate 1 1000 --cpus 4 --hostile 10\n  ./run draw examples/protected_vm.trace\n\nFILE is a path, or - for standard input.\n\nExit status:\n  0  the report ends without a fault or a disagreement; what a trace expects is met, or nothing is missing\n  1  the report has a fault or a disagreement, an expectation is missed, something never came, or reading, writing, memory or the start of a thread failed\n  2  FILE can't be opened, or has a fault that cover meets, the words are refused, or help was asked for\n\nThe lines of a trace, its report and each fault are explained in docs/TRACES.md, the objects of --json in docs/JSON.md.";
 
-/// A value that must be given, by its place.
+/// A required positional value.
 fn needed<'a>(global: Global, id: &'a str, help: &'a str) -> Arg<'a>
     ensures rule { rule_of result ≡ needed_rule id.now }
     ensures local { result.global ≡ false }
@@ -50,7 +50,7 @@ fn needed<'a>(global: Global, id: &'a str, help: &'a str) -> Arg<'a>
         .help(help)
 }
 
-/// Values that must be given, one or more.
+/// Required positional values, one or more.
 fn files_arg<'a>(global: Global) -> Arg<'a>
     ensures rule { rule_of result ≡ files_rule }
     ensures local { result.global ≡ false }
@@ -74,7 +74,7 @@ fn option<'a>(global: Global, id: &'a str, name: &'a str, help: &'a str) -> Arg<
         .help(help)
 }
 
-/// `--ID NAME` that must be given.
+/// `--ID NAME`, which is required.
 fn needed_option<'a>(global: Global, id: &'a str, name: &'a str, help: &'a str) -> Arg<'a>
     ensures rule { rule_of result ≡ needed_option_rule id.now }
     ensures local { result.global ≡ false }
@@ -87,7 +87,7 @@ fn needed_option<'a>(global: Global, id: &'a str, name: &'a str, help: &'a str) 
         .help(help)
 }
 
-/// `--ID NAME`, as often as it is given.
+/// `--ID NAME`, which may be given more than once.
 fn options<'a>(global: Global, id: &'a str, name: &'a str, help: &'a str) -> Arg<'a>
     ensures rule { rule_of result ≡ options_rule id.now }
     ensures local { result.global ≡ false }

@@ -8,7 +8,8 @@ const LEAST: usize = 4096;
 /// The most bytes of a heap.
 const MOST: usize = 1_073_741_824;
 
-/// The size that a word says in decimal digits, of which the first isn't 0. None where it says no such size, or one out of bounds.
+/// The size that a word says in decimal digits, of which the first isn't 0. None if it says no such size, or one out of
+/// bounds.
 pub fn heap_size(word: &str) -> Option<usize>
     ensures { result ≡ size_in word.now }
 {

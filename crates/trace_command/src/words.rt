@@ -25,7 +25,7 @@ pub enum Output {
     Report,
     /// As JSON, an object for each line.
     Json,
-    /// Not at all: the exit status tells.
+    /// No output: the exit status is the answer.
     Nothing,
 }
 
@@ -53,7 +53,7 @@ pub enum Invocation<'a> {
     /// Find all that the steps after `start` may reply, in any order of the CPUs.
     Outcomes {
         file: &'a str,
-        /// Of a step, how many points the search may come to.
+        /// The most points of a step that the search may come to.
         limit: u64,
         /// A report of which it is asked whether some order gives its replies.
         observed: Option<&'a str>,
@@ -65,12 +65,12 @@ pub enum Invocation<'a> {
         looks: Looks,
         output: Output,
     },
-    /// Count what traces have tried.
+    /// Count the replies and conditions that traces have reached.
     Cover {
         files: Vec<&'a str>,
-        /// Whether only what never came is written.
+        /// Whether only rows that never came are written.
         missing: bool,
-        /// Whether nothing is written: the exit status tells.
+        /// Whether to write nothing: the exit status is the answer.
         quiet: bool,
     },
     /// Write a trace with what its lines report as expectations.
@@ -92,7 +92,7 @@ pub enum Invocation<'a> {
         pages: u64,
         /// The width of input addresses in bits.
         geometry: u64,
-        /// Of a hundred calls, how many are to be refused.
+        /// The number of calls to be refused, of a hundred.
         hostile: u64,
     },
     /// Find who owns what in an image of memory, and what isn't sound.

@@ -1,4 +1,4 @@
--- How many steps are a row's (profile).
+-- The number of steps counted in each row (profile).
 use Rattle.std.specs.Prelude.{ℕ, ◌==◌, ◌&&◌, Bool, true, false, List, map, count_by, Option, Some, None}
 use Rattle.call_table.specs.declared.row.CallName.{CallName}
 use Rattle.call_table.specs.Rows.{row as row_in}

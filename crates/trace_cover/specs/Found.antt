@@ -49,7 +49,8 @@ by_row m frame row =
     else (if row.owner.0 == 1 then by_usage row.usage
     else of_guest (is_dying m (row.owner.0 - 2)) row.lent)
 
--- of a page: a memory frame's by its row, and a device's page. None outside of all regions
+-- of a page: the condition of a memory frame by its owner row, or of a device's page. None outside
+-- of all regions
 abbrev pub frame_condition : Machine → ℕ → Option Condition
 frame_condition m frame =
     if has_memory m.layout.memory frame
@@ -67,7 +68,7 @@ abbrev pub page_condition : Machine → ℕ → ℕ → Option Condition
 page_condition m slot page =
     leaf_condition (is_dying m slot) ((m.state.contents.guest slot).tree.map page)
 
--- of that of a VM, where the guest has the name's generation
+-- of the page of a VM's guest, if the guest has the generation of the VM's name
 abbrev pub named_condition : Machine → VmId → ℕ → Option Condition
 named_condition m vm page =
     if (m.state.contents.guest vm.slot).generation == vm.generation

@@ -1,4 +1,5 @@
--- Which rows can come (profile): what the rule of each call tells, and what no run meets.
+-- Which rows can come (profile): the replies that the rule of each call allows, and the rows that
+-- no run meets.
 use Rattle.std.specs.Prelude.{ℕ, Bool, true, false, not, ◌&&◌, ◌||◌, List, codes, is_none, Option, Some, None, if◌then◌else◌}
 use Rattle.call_table.specs.declared.reply.Refusal.{Refusal}
 use Rattle.call_table.specs.declared.reply.Refusal.TheVariants.{Perm, NoVm, Contended, NoMemory, Busy, Invalid, NoPool, LogFull}
@@ -126,8 +127,8 @@ wants_tables FinishGuest = true
 wants_tables GuestRelax = true
 wants_tables other = false
 
--- a call's rule tells a refusal. Each call needs a log; want of memory is this machine's, and
--- nothing is contended
+-- a call's rule can give a refusal. Each call needs a log; running out of memory is up to this
+-- machine, and nothing is contended
 abbrev pub tells : CallName → Refusal → Bool
 tells call Invalid = has_argument call
 tells call NoVm = wants_vm call
@@ -138,18 +139,18 @@ tells call LogFull = true
 tells call NoMemory = false
 tells call Contended = false
 
--- a row's reply is told, or its condition named
+-- a rule can give a row's reply, or the row's call names its condition
 abbrev pub is_told : Row → Bool
 is_told (Reply call None) = true
 is_told (Reply call (Some why)) = tells call why
 is_told (Cell call condition) = names call condition
 
--- `teardown` is busy while a vCPU of the VM is loaded, `vcpu_load` wants an open VM, and
+-- `teardown` is busy while a vCPU of the VM is loaded, `vcpu_load` needs an open VM, and
 -- `mark_dying` one that was torn down
 abbrev pub none_loaded : List ℕ
 none_loaded = codes "no CPU has a vCPU of a Dying guest loaded"
 
--- why no run meets a row, though it is told
+-- why no run meets a row, though a rule can give it
 abbrev pub impossible : Row → Option (List ℕ)
 impossible (Reply call why) = None
 impossible (Cell call condition) =

@@ -28,7 +28,7 @@ cell_count seen (Cell call condition) = count (Cell call condition) seen
 abbrev pub is_of_frame : Seen → Bool
 is_of_frame x = is_some x.condition
 
--- each step is counted in one row of a reply, and, where it names a frame, in one of a condition
+-- each step is counted in one row of a reply, and, if it names a frame, in one of a condition
 pub record CountsOnce (seen : List Seen) : Type 0 where
   pub replies : sum_by (reply_count seen) rows ≡ length seen
   pub cells : sum_by (cell_count seen) rows ≡ count_by is_of_frame seen
@@ -42,8 +42,8 @@ pub record ChangesNoMap (h : Changes) : Type 0 where
   pub hyp : h.hyp ≡ None
   pub guest : h.guest ≡ None
 
--- what a call's rule tells isn't said of it, so its test passes, whatever the rule reads: its four
--- tests, that it names no guest, and that it needs no tables
+-- the rule of a call passes each test whose refusal isn't listed for the call, whatever the rule
+-- reads: its four tests, that it names no guest, and that it needs no tables
 pub record PassesUntold (call : CallName) (step : Step) (r : Rule) : Type 0 where
   pub valid : tells call Invalid ≡ false → r.valid.passes ≡ true
   pub has_vm : tells call NoVm ≡ false → r.has_vm.passes ≡ true

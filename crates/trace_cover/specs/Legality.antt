@@ -1,4 +1,4 @@
--- What is counted in a legal state, as each state of a run is.
+-- What is counted in a legal state. Each state of a run is legal.
 use Rattle.std.specs.Prelude.{◌≡◌, ℕ, true, Some, None}
 use Rattle.descriptor.specs.declared.State.TheVariants.{Owned, SharedOwned, SharedBorrowed}
 use Rattle.call_table.specs.declared.step.Step.{Step}
@@ -31,7 +31,7 @@ SameCondition =
     → is_memory m.layout frame ≡ true
     → by_row m frame (m.state.contents.shared.row frame) ≡ reported m frame (legal.condition frame)
 
--- no step finds a frame in a condition that is told to be impossible
+-- no step finds a frame in a condition that the report calls impossible
 abbrev pub NeverFound : Type 0
 NeverFound =
     (m : Machine) (legal : Legal m.layout m.state.contents) (cpu : ℕ) (step : Step)

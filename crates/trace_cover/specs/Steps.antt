@@ -1,4 +1,4 @@
--- The steps of a trace, and what is counted of each (profile).
+-- The steps of a trace, and what each adds to the counts (profile).
 use Rattle.std.specs.Prelude.{◌≡◌, ℕ, ◌+◌, Bool, true, false, List, [], ◌∷◌, ◌++◌, Option, Some, None, Result, Ok, Err, is_some}
 use Rattle.call_table.specs.declared.reply.Refusal.{Refusal}
 use Rattle.call_table.specs.declared.reply.Reply.{Reply}
@@ -28,7 +28,7 @@ use Rattle.trace_text.specs.Replay.{IsPlayed}
 use Rattle.trace_text.specs.Session.{Answer, Standing, at_start}
 use Rattle.trace_text.specs.Worlds.{Machine}
 
--- what is allowed, before and after the boot: as in an audit before its first poke
+-- what is allowed before and after the boot: the same as in an audit before its first poke
 abbrev pub allowed : Bool → Bool → Allows
 allowed false started = before_boot
 allowed true started = of_audit started
@@ -57,14 +57,14 @@ abbrev pub refused : Reply → Option Refusal
 refused (Done value) = None
 refused (Refused why) = Some why
 
--- what is counted of a step that a line of the report tells
+-- what a step adds to the counts, by the line that reports it
 abbrev pub seen_in : Step → Option Condition → Response → List Seen
 seen_in step condition (responses.Step number by reply) =
     (record { call = (named_by step).call; why = refused reply; condition = condition }) ∷ []
 seen_in step condition other = []
 
--- what is counted of a line, by what it reports: its call, its reply, and the condition of its
--- frame. Nothing where it is no step
+-- what a line adds to the counts, by its report: its call, its reply, and the condition of its
+-- frame. Nothing if it is no step
 abbrev pub seen_of : Option (ℕ × Step) → Option Condition → List ReportLine → List Seen
 seen_of (Some (cpu, step)) condition (report.Response response ∷ more) =
     seen_in step condition response
@@ -77,8 +77,8 @@ seen_at old line reported =
     (condition_before old.machine (step_in (line_said old line))) reported
 
 module _ (name : List ℕ) (all : List (List ℕ)) where
-  -- what is counted from a line on that answers so: its step, and then those of the lines after it.
-  -- A fault is the end, and is told
+  -- what the lines from one on add to the counts, if that line has this answer: its step, and then
+  -- the steps after it. A fault ends the run and is reported
   abbrev pub Goes : ℕ → List ℕ → Standing → Answer → (List Seen → List ℕ → Outcome → Type 0)
       → List Seen → List ℕ → Outcome → Type 0
   Goes place line old (Err (stops.Fault fault)) follows seen text outcome =

@@ -23,11 +23,11 @@ named_reason row why = name_of row ++ codes ": " ++ why ++ 10 ∷ []
 abbrev pub reason_line : Row → List ℕ → List ℕ
 reason_line row why = codes "impossible " ++ named_reason row why
 
--- a row that is told, and never came
+-- the line of a row that can come and never came
 abbrev pub zero_line : Counted → List ℕ
 zero_line c = elim (impossible c.row) [ Some why ↦ reason_line c.row why | None ↦ count_line c ]
 
--- each row that came, and each that is told
+-- the line of each row that came, and of each that can come
 abbrev pub told_line : Counted → List ℕ
 told_line c = if c.count == 0 then (if is_told c.row then zero_line c else []) else count_line c
 

@@ -61,7 +61,7 @@ impl Condition {
         ]
     }
 
-    /// Its place among all, from 1 on.
+    /// Its place in the order of the report, from 1 on.
     pub(crate) fn number(self) -> u64
         ensures { result ≡ condition_number self }
     {
@@ -83,7 +83,7 @@ impl Condition {
         }
     }
 
-    /// It in words.
+    /// The condition in words, as a line of the report has it.
     pub fn words(self) -> &'static str
         ensures { result.now ≡ words_of self }
     {
@@ -106,7 +106,7 @@ impl Condition {
     }
 }
 
-/// That of a frame which a guest maps in a state.
+/// The condition of a frame that a guest maps in a state.
 pub(crate) fn by_state(is_dying: bool, state: State) -> Condition
     ensures { result ≡ by_state_in is_dying state }
 {
@@ -120,7 +120,7 @@ pub(crate) fn by_state(is_dying: bool, state: State) -> Condition
     }
 }
 
-/// That of a frame of the hypervisor in a use.
+/// The condition of a frame of the hypervisor, by its use.
 pub(crate) fn by_usage(usage: Usage) -> Condition
     ensures { result ≡ by_usage_in usage }
 {

@@ -1,4 +1,4 @@
-//! How many steps are a row's.
+//! The number of steps counted in each row.
 ghost use Rattle.std.specs.Prelude.{◌≡◌, ◌==◌, ◌&&◌, IfOk, count_by, map};
 ghost use Rattle.call_table.specs.Rows.{row as row_in};
 ghost use Rattle.trace_cover.specs.Counted.{count as count_by_rows, counted as counted_by, is_in as is_in_by, is_of_call as is_of_call_by, meets as meets_by};
@@ -9,7 +9,7 @@ use crate::steps::Seen;
 use call_table::CallName;
 use std::alloc::{AllocError, Global};
 
-/// A row, and how many steps are its.
+/// A row, and the number of steps counted in it.
 #[derive(Clone, Copy)]
 pub(crate) struct Counted {
     pub(crate) row: Row,
@@ -31,7 +31,7 @@ fn is_in(condition: Condition, seen: Option<Condition>) -> bool
     }
 }
 
-/// Whether a step is a row's.
+/// Whether a step is counted in a row.
 fn meets(row: Row, seen: Seen) -> bool
     ensures { result ≡ meets_by row seen }
 {
@@ -43,14 +43,14 @@ fn meets(row: Row, seen: Seen) -> bool
     }
 }
 
-/// How many of some steps are a row's.
+/// The number of these steps that are counted in a row.
 fn count(row: Row, seen: &[Seen]) -> usize
     ensures { result ≡ count_by_rows row seen.now }
 {
     seen.iter().filter(|step| meets(row, **step)).count()
 }
 
-/// Rows, each with how many of some steps are its.
+/// Rows, each with the number of steps counted in it.
 pub(crate) fn with_counts(
     global: Global,
     rows: &[Row],

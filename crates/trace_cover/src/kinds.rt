@@ -1,4 +1,4 @@
-//! Which rows can come: what the rule of each call tells, and what no run meets.
+//! //! Which rows can come: the replies that the rule of each call allows, and the rows that no run meets.
 ghost use Rattle.std.specs.Prelude.{◌≡◌, option_map};
 ghost use Rattle.trace_cover.specs.Kinds.{
   has_argument as has_argument_by,
@@ -23,10 +23,11 @@ use crate::condition::Condition;
 use crate::rows::Row;
 use call_table::{CallName, Refusal};
 
-/// `teardown` is busy while a vCPU of the VM is loaded, `vcpu_load` wants an open VM, and `mark_dying` one that was torn down.
+/// `teardown` is busy while a vCPU of the VM is loaded, `vcpu_load` needs an open VM, and `mark_dying` one that was
+/// torn down.
 const NONE_LOADED: &str = "no CPU has a vCPU of a Dying guest loaded";
 
-/// Why a row can't come, though the call names the condition, or its rule tells the reply.
+/// Why a row can't come, though the call names the condition, or its rule can give the reply.
 pub(crate) fn impossible(row: Row) -> Option<&'static str>
     ensures { option_map (λ why. why.now) result ≡ impossible_by row }
 {
@@ -120,7 +121,8 @@ fn names(call: CallName, condition: Condition) -> bool
     false
 }
 
-/// Whether a rule of the model tells this: whether the call has a test that answers so, may need tables, or needs a log.
+/// Whether the rule of a call can give this refusal: the call has a test that answers so, may need tables, or needs a
+/// log.
 fn tells(call: CallName, why: Refusal) -> bool
     ensures { result ≡ tells_by call why }
 {
@@ -136,7 +138,7 @@ fn tells(call: CallName, why: Refusal) -> bool
     }
 }
 
-/// `invalid`: not where a call has no argument, or any is in its range.
+/// `invalid`: all calls but those without an argument, and those that accept any value of one.
 fn has_argument(call: CallName) -> bool
     ensures { result ≡ has_argument_by call }
 {
@@ -152,7 +154,7 @@ fn has_argument(call: CallName) -> bool
     )
 }
 
-/// `novm`: not where a call is on host and hypervisor alone, nor of a reservation.
+/// `novm`: all calls but those on the host and the hypervisor alone, and those of a reservation.
 fn wants_vm(call: CallName) -> bool
     ensures { result ≡ wants_vm_by call }
 {
@@ -181,7 +183,7 @@ fn is_on_shared(call: CallName) -> bool
     )
 }
 
-/// `busy`: where something may be in use.
+/// `busy`: calls that test whether something is in use.
 fn wants_rest(call: CallName) -> bool
     ensures { result ≡ wants_rest_by call }
 {
@@ -191,7 +193,7 @@ fn wants_rest(call: CallName) -> bool
     )
 }
 
-/// `perm`: not where a call only looks, nor where it has no other test than the ones before.
+/// `perm`: all calls but those that only look, and those that have no test after the ones above.
 fn wants_state(call: CallName) -> bool
     ensures { result ≡ wants_state_by call }
 {
@@ -210,7 +212,7 @@ fn wants_state(call: CallName) -> bool
     )
 }
 
-/// `nopool`: where a map changes.
+/// `nopool`: calls that change a map.
 fn wants_tables(call: CallName) -> bool
     ensures { result ≡ wants_tables_by call }
 {
@@ -235,7 +237,7 @@ fn wants_tables(call: CallName) -> bool
     )
 }
 
-/// Whether a rule tells the reply of a row, or the call of a row names its condition.
+/// Whether a rule can give the reply of a row, or the call of a row names its condition.
 pub(crate) fn is_told(row: Row) -> bool
     ensures { result ≡ is_told_by row }
 {
@@ -249,7 +251,7 @@ pub(crate) fn is_told(row: Row) -> bool
     }
 }
 
-/// Whether a row is asked for: it is told, and isn't impossible.
+/// Whether a trace is expected to reach a row: it can come, and isn't impossible.
 pub(crate) fn is_asked(row: Row) -> bool
     ensures { result ≡ is_asked_by row }
 {

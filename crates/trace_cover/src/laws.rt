@@ -2,7 +2,7 @@
 ghost use Rattle.trace_cover.specs.Laws.{EachOnce, UntoldPass};
 ghost use Rattle.trace_cover.specs.Legality.{NeverFound, SameCondition};
 
-/// Each step is counted in one row of a reply, and, where it names a frame, in one row of a condition.
+/// Each step is counted in one row of a reply, and, if it names a frame, in one row of a condition.
 pub fn each_once()
     ensures { EachOnce }
 {}
@@ -17,7 +17,7 @@ pub fn same_condition()
     ensures { SameCondition }
 {}
 
-/// In a legal state no step finds a frame in a condition that the report tells to be impossible.
+/// In a legal state no step finds a frame in a condition that the report calls impossible.
 pub fn never_found()
     ensures { NeverFound }
 {}

@@ -28,7 +28,7 @@ use reference_model::Loaded;
 use std::alloc::Allocator;
 use world::World;
 
-/// What the guest in a slot holds. None where it is Empty, and of a slot past the last.
+/// The body of the guest in a slot. None if the slot is Empty or past the last.
 fn guest_body<A: Allocator>(world: &World<A>, slot: u64) -> Option<&Body<A>>
     ensures { MatchOption result (body_at world.now slot ≡ None)
         (λ body. body_at world.now slot ≡ Some body.now) }
@@ -56,7 +56,7 @@ fn is_last(phase: Phase) -> bool
     }
 }
 
-/// The generation of the guest in a slot, 0 where it is Empty.
+/// The generation of the guest in a slot, 0 if the slot is Empty.
 fn generation<A: Allocator>(world: &World<A>, slot: u64) -> u64
     ensures { result ≡ ((machine_of world.now).state.contents.guest slot).generation }
 {

@@ -7,7 +7,7 @@ use call_table::{CallName, Refusal};
 use std::alloc::{AllocError, Global};
 use std::fmt;
 
-/// What steps are counted for.
+/// The key of a count: a call with its reply, or with its frame's condition.
 #[derive(Clone, Copy)]
 pub enum Row {
     /// A call that was refused for this, or made.

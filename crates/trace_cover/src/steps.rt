@@ -1,4 +1,4 @@
-//! The steps of a trace, and what is counted of each.
+//! The steps of a trace, and what each adds to the counts.
 ghost use Rattle.std.specs.Prelude.{◌≡◌, ◌+◌, ◌<◌, ◌≤◌, ◌∷◌, [], ◌++◌, IfOk, OnOk, Option, Some, None, is_some, length, map, true};
 ghost use Rattle.trace_cover.specs.Steps.{allowed as allowed_by, condition_before as condition_before_by, is_poke as is_poke_by, line_said, refused, seen_in, seen_of, step_in};
 ghost use Rattle.trace_cover.specs.View.{AddsAll, IsCountedAt, IsPlayedAt, line_at, lines_in};
@@ -16,20 +16,20 @@ use trace_lines::{Allows, Line, Response, said};
 use trace_reader::{Outcome, lines};
 use trace_text::{Fault, MOST_LINES, Reported, Session, Stop};
 
-/// What is counted of a step.
+/// A step as it is counted: its call, its refusal and the condition of its frame.
 #[derive(Clone, Copy)]
 pub struct Seen {
     pub call: CallName,
-    /// Why it was refused; None where it was made.
+    /// Why it was refused; None if it was made.
     pub why: Option<Refusal>,
-    /// The condition, before it, of the frame that it names, or of the one at the guest's page that it names; of a range of the first.
-    /// None where it names none, or only looks.
+    /// The condition, before the step, of the frame that it names, or of the frame at the guest's page that it names;
+    /// of the first page of a range. None if it names none, or only looks.
     pub condition: Option<Condition>,
 }
 
-/// Carries a trace out up to its first poke, its first fault or its end, without an oracle, and adds each of its steps to `seen`. Steps
-/// after `start` are made in the order of lines. A fault is told in `text`, with its place; `name` is the trace's file. `alloc` is where
-/// the tables of the trees lie. Err where memory was refused.
+/// Carries a trace out up to its first poke, its first fault or its end, without an oracle, and adds each of its steps
+/// to `seen`. Steps after `start` are made in the order of lines. `text` gets the fault, with its place; `name` is the
+/// trace's file. The tables of the trees are allocated from `alloc`. Err if memory was refused.
 pub fn add_steps<A: Allocator + Copy>(
     global: Global,
     alloc: A,
@@ -77,7 +77,7 @@ fn count_lines<A: Allocator + Copy>(
     Ok(Outcome::Clean)
 }
 
-/// What is allowed at this point of a trace: as in an audit before its first poke.
+/// What is allowed at this point of a trace: the same as in an audit before its first poke.
 fn allowed<A: Allocator + Copy>(session: &Session<A>) -> Allows
     ensures { result
         ≡ allowed_by (is_some (standing_of session.now).machine)
@@ -122,7 +122,8 @@ fn condition_before<A: Allocator + Copy>(
     condition_at(world, cpu, step)
 }
 
-/// Carries out a line of a trace that is no poke, by its place from 0 on, and adds its step. A fault isn't told yet.
+/// Carries out a line of a trace that is no poke, by its place from 0 on, and adds its step. It doesn't report a fault
+/// yet.
 fn count_line<A: Allocator + Copy>(
     session: &mut Session<A>,
     lines: &[&[u8]],
@@ -169,7 +170,7 @@ fn line_run<A: Allocator + Copy>(
     session.run_unasked(number, lines[place])
 }
 
-/// What is counted of a step, by what its line reports; nothing where it is no step.
+/// Adds the step of a line to `seen`, by the line's report; nothing if the line is no step.
 fn add_seen<A: Allocator + Copy>(
     seen: &mut Vec<Seen>,
     session: &Session<A>,

@@ -8,18 +8,19 @@ use crate::rows::{Row, rows};
 use crate::steps::Seen;
 use std::alloc::{AllocError, Global};
 
-/// What steps have tried, and not.
+/// The report of the rows that steps reached, and of those that never came.
 #[derive(Drop)]
 pub struct Covered {
     /// A line for each row: its count, or why it can't come; of missing ones alone, those that never came. The last has the number of
     /// steps, and that of rows that never came.
     pub text: Vec<u8>,
-    /// How many rows never came, of those that can.
+    /// The number of rows that can come and never came.
     pub missing: usize,
 }
 
-/// What these steps have tried: of each call how often it was made, how often each refusal came that its rule tells, and how often the
-/// frame that it names was in each condition. `only_missing`: only what never came. Err where memory was refused.
+/// The coverage of these steps: for each call how often it was made, how often each refusal came that its rule can
+/// give, and how often the frame that it names was in each condition. `only_missing`: only rows that never came. Err if
+/// memory was refused.
 pub fn cover(global: Global, seen: &[Seen], only_missing: bool) -> Result<Covered, AllocError>
     ensures { IfOk result (Tells only_missing seen.now) }
 {
@@ -87,7 +88,7 @@ fn add_missing(text: &mut Vec<u8>, global: Global, counted: Counted) -> Result<(
     Ok(())
 }
 
-/// The line of a row. One that no rule tells has none, unless it came.
+/// The line of a row. A row that no rule can give has none, unless it came.
 fn add_told(text: &mut Vec<u8>, global: Global, counted: Counted) -> Result<(), AllocError>
     ensures { OnOk result (text.new.items ≡ text.old.items ++ told_line_by counted) }
 {
@@ -100,7 +101,7 @@ fn add_told(text: &mut Vec<u8>, global: Global, counted: Counted) -> Result<(), 
     Ok(())
 }
 
-/// The line of a row that is told and never came.
+/// The line of a row that can come and never came.
 fn add_zero(text: &mut Vec<u8>, global: Global, counted: Counted) -> Result<(), AllocError>
     ensures { OnOk result (text.new.items ≡ text.old.items ++ zero_line_by counted) }
 {

@@ -115,7 +115,7 @@ escaped byte =
 abbrev pub text_of_label : Label → List ℕ
 text_of_label l = text_of_head l.head ++ flat_map escaped l.bytes.items ++ codes "</text>\n"
 
--- an element, which is closed where it ends, with the end of its line
+-- an element, with its closing tag, and the end of its line
 abbrev pub text_of_item : Item → List ℕ
 text_of_item (items.Pattern paint) = text_of_pattern paint ++ codes "\n"
 text_of_item (items.Rectangle rectangle) = text_of_rectangle rectangle ++ codes "\n"

@@ -18,7 +18,7 @@ use Rattle.trace_text.specs.Session.{Standing}
 abbrev pub IsRight : ℕ → ℕ → Type 0
 IsRight left right = (left < right) ⊎ (right ≡ 18446744073709551615)
 
--- the left edges of so many columns, from left to right, and the right one of the last
+-- the left edges of `count` columns, from left to right, and the right edge of the last
 pub record AreEdges (count : ℕ) (edges : List ℕ) : Type 0 where
   pub count_is : length edges ≡ count + 1
   pub order : (k : ℕ) → k < count → IsRight (get_or edges k 0) (get_or edges (k + 1) 0)
@@ -38,14 +38,14 @@ SpansColumn edges column area =
     → (area.x ≡ get_or edges column 0)
     × (area.width ≡ get_or edges (column + 1) 0 - get_or edges column 0 - 1)
 
--- elements behind which a rectangle was put, and marks over it
+-- elements to which a rectangle was added, and marks over it
 abbrev pub IsPiece : Area → List Item → List Item → Type 0
 IsPiece area old new =
     (paint : Paint)
     × (marks : List Item)
     × (new ≡ old ++ items.Rectangle (record { area = area; paint = paint }) ∷ marks)
 
--- a rectangle for each of so many columns
+-- a rectangle for each of `count` columns
 abbrev pub AreDrawn : List Item → List ℕ → ℕ → Type 0
 AreDrawn elements edges count =
     (k : ℕ) → k < count → HasRectangle elements (get_or edges k 0) (get_or edges (k + 1) 0)

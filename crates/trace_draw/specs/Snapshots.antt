@@ -31,7 +31,7 @@ abbrev pub TellsMachine : Option Machine → List ℕ → Type 0
 TellsMachine None text = text ≡ []
 TellsMachine (Some m) text = IsTextOf m text
 
--- the text of where a run of a trace ends, and how it ends
+-- the text of the state at which a run of a trace ends, and how it ends
 pub record IsSnapshot (trace : List ℕ) (ended : Ended) (text : List ℕ) : Type 0 where
   pub standing : Standing
   pub run : IsRunOf trace standing ended

@@ -3,7 +3,7 @@ use page_state::{Row, Usage};
 use run_list::Run;
 use std::alloc::{AllocError, Global};
 
-/// What is drawn of a frame: who owns it, to whom it is lent, and what holds it. Numbers are those of owner rows.
+/// How a frame is drawn: who owns it, to whom it is lent, and what holds it. Numbers are those of owner rows.
 #[derive(Clone, Copy, PartialEq)]
 pub(crate) struct Look {
     pub(crate) owner: u64,

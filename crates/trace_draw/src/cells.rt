@@ -15,7 +15,7 @@ pub(crate) struct Cell {
     pub(crate) look: Look,
 }
 
-/// What a column looks like since a row.
+/// The look of a column from a row on.
 #[derive(Clone, Copy)]
 pub(crate) struct Since {
     pub(crate) from: usize,
@@ -25,7 +25,7 @@ pub(crate) struct Since {
 /// The cells of a picture.
 #[derive(Drop)]
 pub(crate) struct Cells {
-    /// Those that end before a row.
+    /// The cells that end before a row.
     pub(crate) ended: Vec<Cell>,
     /// What each column looks like at the end of the picture.
     pub(crate) last: Vec<Since>,
@@ -94,7 +94,7 @@ fn go_on(
     Ok(())
 }
 
-/// The place, from `start` on, of the first band that ends behind a frame.
+/// The place, from `start` on, of the first band that ends after a frame.
 fn behind(bands: &[Band], start: usize, frame: u64) -> usize {
     for at in start..bands.len() {
         if bands[at].end() > frame {

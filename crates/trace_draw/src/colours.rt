@@ -9,7 +9,7 @@ pub enum Colour {
     Ice,
     /// The hypervisor's.
     Orange,
-    /// Those of guests, by slot; the ninth begins again.
+    /// The colours of guests, by slot; the ninth begins again.
     Green,
     Pink,
     Violet,
@@ -18,7 +18,7 @@ pub enum Colour {
     Lime,
     Purple,
     Brown,
-    /// Those of rules and marks.
+    /// The colours of rules and marks.
     Black,
     Pale,
     White,

@@ -11,7 +11,7 @@ use std::alloc::{AllocError, Global};
 pub(crate) struct Column {
     pub(crate) first: u64,
     pub(crate) count: u64,
-    /// What they look like in the first row.
+    /// Their look in the first row.
     pub(crate) look: Look,
 }
 
@@ -53,7 +53,7 @@ fn whole(global: Global, bands: &[Band]) -> Result<Vec<Column>, AllocError>
     Ok(columns)
 }
 
-/// Columns cut where a band begins or ends.
+/// Columns cut at each place where a band begins or ends.
 fn refined(global: Global, columns: &[Column], bands: &[Band]) -> Result<Vec<Column>, AllocError>
     ensures { IfOk result (λ cut. frames_of cut.items ≡ frames_of columns.now) }
 {
@@ -65,7 +65,7 @@ fn refined(global: Global, columns: &[Column], bands: &[Band]) -> Result<Vec<Col
     Ok(cut)
 }
 
-/// Puts a column's pieces last, and answers the place of the first band that goes on behind it.
+/// Appends a column's pieces, and returns the place of the first band that goes on after the column.
 fn cut_column(
     cut: &mut Vec<Column>,
     column: Column,

@@ -45,7 +45,7 @@ pub(crate) struct SlotLook {
     pub(crate) state: SlotState,
 }
 
-/// What is drawn of a state.
+/// The parts of a state that a picture shows.
 #[derive(Drop)]
 pub(crate) struct Scene {
     pub(crate) bands: Vec<Band>,
@@ -177,7 +177,7 @@ fn is_same(one: &Scene, other: &Scene) -> bool {
     one.bands.as_slice() == other.bands.as_slice() && one.slots.as_slice() == other.slots.as_slice()
 }
 
-/// What is drawn of a world.
+/// The parts of a world that a picture shows.
 fn scene_of<A: Allocator>(global: Global, world: &World<A>) -> Result<Scene, AllocError> {
     let bands = bands_of(global, world.parts().shared.owners.runs())?;
     let slots = slots_of(global, world)?;

@@ -17,7 +17,7 @@ use trace_reader::lines;
 use trace_text::Session;
 use vm_table::SlotState;
 
-/// How many bytes of a reply are shown.
+/// The number of a reply's bytes that are shown.
 const MOST_REPLY: usize = 30;
 
 /// The height of the part of a slot's cell that has its text.
@@ -30,8 +30,8 @@ pub struct Drawing {
     pub ended: Ended,
 }
 
-/// An SVG of who owns what: memory from left to right, steps from top to bottom. A fault of the trace ends it, and is told
-/// under it.
+/// An SVG of who owns what: memory from left to right, steps from top to bottom. A fault of the trace ends it, and its
+/// text is under the picture.
 pub fn draw<A: Allocator + Copy>(
     global: Global,
     alloc: A,

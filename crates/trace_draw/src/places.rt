@@ -1,4 +1,4 @@
-//! Where things are in a picture, in pixels.
+//! The places of the parts of a picture, in pixels.
 ghost use Rattle.std.specs.Prelude.{◌≡◌, ◌+◌, ◌<◌, IfOk, IfSome, length, slice_get};
 ghost use Rattle.trace_draw.specs.Pictures.{AreEdges};
 
@@ -44,7 +44,7 @@ pub(crate) struct Places {
 }
 
 impl Places {
-    /// The places in a picture of so many rows and slots, and of these columns.
+    /// The places in a picture of this number of rows and slots, and of these columns.
     pub(crate) fn of(
         global: Global,
         rows: u64,
@@ -104,7 +104,7 @@ impl Places {
     }
 }
 
-/// How far down a row begins, where all have no more than the most pixels.
+/// How far down a row begins if all rows together have no more than the most pixels.
 fn scaled(row: u64, rows: u64) -> u64 {
     if rows == 0 {
         return 0;

@@ -29,8 +29,8 @@ pub struct TextDrawing {
     pub ended: Ended,
 }
 
-/// A line for each run of owner rows, and one for each VM slot that isn't Empty, where a trace ends: with its last line, or
-/// with its first fault. A trace that hasn't booted has no text.
+/// A line for each run of owner rows, and one for each VM slot that isn't Empty, at the end of a trace: its last line,
+/// or its first fault. A trace that hasn't booted has no text.
 pub fn draw_text<A: Allocator + Copy>(
     global: Global,
     alloc: A,

@@ -31,7 +31,7 @@ pub record IsStateOf (m : Machine) (g : GhostLists) : Type 0 where
   pub state : ghost_state g ≡ m.state
   pub frames : HasRowsOf m.layout g
 
--- the state before a step, where there is a machine and a step
+-- the state before a step, if there is a machine and a step
 abbrev pub IsBefore : Option Machine → Option (ℕ × Step) → Option GhostLists → Type 0
 IsBefore (Some m) (Some asked) (Some g) = IsStateOf m g
 IsBefore (Some m) (Some asked) None = ⊥

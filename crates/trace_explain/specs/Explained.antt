@@ -68,7 +68,7 @@ abbrev pub explained : List ℕ → Standing → List ReportLine → Standing �
 explained line old reported new =
     line_with line (step_at old line) (seen old.machine (step_at old line)) reported new.machine
 
--- the line of a trace, by its place, with a fault, and where that is
+-- the line of a trace, by its place, with a fault, and the place of the fault
 abbrev pub faulty : List ℕ → List (List ℕ) → ℕ → List ℕ → Fault → List ℕ
 faulty name all place line fault =
     ended line ++ codes "    fault " ++ text_of_fault fault ++ 10 ∷ codes "    "
@@ -81,7 +81,7 @@ TellsStep (Some m) (Some (cpu, step)) (Some n) text =
     TellsAll m.state.contents n.state.contents cpu text
 TellsStep old asked new text = text ≡ []
 
--- whether a line is shown, by its number: each one, or the one that is asked for
+-- whether a line is shown, by its number: each one, or only the line of the number given
 abbrev pub is_shown : Option ℕ → ℕ → Bool
 is_shown None number = true
 is_shown (Some only) number = number == only

@@ -56,7 +56,7 @@ abbrev pub leaf_places : Memory → Entry → List Place
 leaf_places memory (Leaf frame prot kind state) = lent_places memory frame.0
 leaf_places memory other = []
 
--- the slot of the VM whose vCPU is loaded; 64, which is no slot, where none is
+-- the slot of the VM whose vCPU is loaded; 64, which is no slot, if none is
 abbrev pub slot_of_loaded : Option Loaded → ℕ
 slot_of_loaded None = 64
 slot_of_loaded (Some l) = l.vm.slot
@@ -66,7 +66,7 @@ abbrev pub slot_of_ticket : Option CpuTicket → ℕ
 slot_of_ticket None = 64
 slot_of_ticket (Some t) = t.vm.slot
 
--- these, where there is such a slot
+-- these places, if there is such a slot
 abbrev pub in_slot : ℕ → List Place → List Place
 in_slot slot places = if nat_lt slot 64 then places else []
 
@@ -134,7 +134,7 @@ module _ (m : Machine) (cpu : ℕ) where
   places_of (steps.Teardown vm) = Ticket ∷ vm_places vm.slot
   places_of steps.VmRelease = Ticket ∷ vm_places ticket_slot
 
--- a place, and what was there before a step
+-- a place, and its contents before a step
 abbrev pub Look : Type 0
 Look = Place × List ℕ
 
@@ -145,7 +145,7 @@ seen_at m cpu places = map (λ place. (place, told_at m cpu place)) places
 abbrev pub seen_by : Machine → ℕ → Step → List Look
 seen_by m cpu step = seen_at m cpu (places_of m cpu step)
 
--- what a step of a CPU sees before it; where nothing has booted, nothing
+-- what a step of a CPU sees before it; nothing before the boot
 abbrev pub seen : Option Machine → Option (ℕ × Step) → List Look
 seen (Some m) (Some (cpu, step)) = seen_by m cpu step
 seen machine asked = []
@@ -156,7 +156,7 @@ look_lines m cpu [] = []
 look_lines m cpu ((place, before) ∷ more) =
     look_line (name_of place) before (told_at m cpu place) ++ look_lines m cpu more
 
--- the same, where there is a machine and a step
+-- the lines of what a step looked at, if there is a machine and a step
 abbrev pub looked : Option Machine → Option (ℕ × Step) → List Look → List ℕ
 looked (Some m) (Some (cpu, step)) looks = look_lines m cpu looks
 looked machine asked looks = []

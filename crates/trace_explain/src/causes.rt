@@ -106,7 +106,7 @@ fn novm_cause(step: Step) -> &'static str
     }
 }
 
-/// `busy`: what is in use.
+/// `busy`: names what is in use.
 fn busy_cause(step: Step) -> &'static str
     ensures { result.now ≡ (tests_of step).ready.failing }
 {

@@ -39,16 +39,16 @@ pub struct Explained {
     pub outcome: Outcome,
 }
 
-/// A place that a step looks at, and what was there before it.
+/// A place that a step looks at, and its contents before the step.
 #[derive(Drop)]
 pub(crate) struct Look {
     pub(crate) place: Place,
     pub(crate) before: String,
 }
 
-/// Carries a trace out up to its first fault, and explains each line, or `only` the one of this number, counted from 1. A fault
-/// is always told. `name` is the trace's file, for the place of a fault. `alloc` is where the tables of the trees lie. Err
-/// where memory was refused.
+/// Carries a trace out up to its first fault, and explains each line, or `only` the one of this number, counted from 1.
+/// The text always has the fault. `name` is the trace's file, for the place of a fault. The tables of the trees are
+/// allocated from `alloc`. Err if memory was refused.
 pub fn explain<A: Allocator + Copy>(
     global: Global,
     alloc: A,
@@ -483,7 +483,7 @@ fn add_caused(text: &mut Vec<u8>, said: &[u8], cause: &str) -> Result<(), AllocE
     Ok(())
 }
 
-/// What a step looked at, where it is as before.
+/// Adds the places that a step looked at and left as they were.
 fn add_looked<A: Allocator + Copy>(
     text: &mut Vec<u8>,
     global: Global,
@@ -529,7 +529,7 @@ fn add_looks<A: Allocator>(
     Ok(())
 }
 
-/// A place, with what was there, where that is there now.
+/// Adds a place with its contents before the step, if they are the same now.
 fn add_look(
     text: &mut Vec<u8>,
     global: Global,

@@ -6,7 +6,7 @@ pub fn one_text()
     ensures { OneText }
 {}
 
-/// What is said of a refusal is said of the test of the step's rule that failed, whatever the rule read.
+/// The words for a refusal name the test of the step's rule that failed, whatever the rule read.
 pub fn same_words()
     ensures { SameWords }
 {}

@@ -1,4 +1,4 @@
-//! What is there in a world.
+//! The contents of a place in a world.
 ghost use Rattle.std.specs.Prelude.{◌≡◌, ◌<◌, IfOk, MatchOption, None, Some, string_bytes};
 ghost use Rattle.trace_explain.specs.Looks.{told_at as told_by};
 ghost use Rattle.trace_explain.specs.Texts.{text_of_guest, text_of_vcpu};
@@ -29,7 +29,7 @@ pub(crate) struct Own {
     pub(crate) ticket: Option<Ticket>,
 }
 
-/// That of a CPU. One that the world hasn't has nothing.
+/// A CPU's own state. A CPU that the world hasn't has nothing.
 pub(crate) fn own_of<A: Allocator>(world: &World<A>, cpu: u64) -> Own
     ensures loaded { result.loaded ≡ ((machine_of world.now).state.contents.cpu cpu).loaded }
     ensures hand { result.hand ≡ ((machine_of world.now).state.contents.cpu cpu).hand }
@@ -49,7 +49,7 @@ pub(crate) fn own_of<A: Allocator>(world: &World<A>, cpu: u64) -> Own
     }
 }
 
-/// What the guest in a slot holds. None where it is Empty, and of a slot past the last.
+/// The body of the guest in a slot. None if the slot is Empty or past the last.
 fn guest_body<A: Allocator>(world: &World<A>, slot: u64) -> Option<&Body<A>>
     ensures { MatchOption result (body_at world.now slot ≡ None)
         (λ body. body_at world.now slot ≡ Some body.now) }
@@ -68,7 +68,7 @@ pub(crate) fn guest_entry<A: Allocator>(world: &World<A>, slot: u64, page: u64) 
     }
 }
 
-/// What is there, in words.
+/// The contents of a place, in words.
 pub(crate) fn told_at<A: Allocator>(
     global: Global,
     world: &World<A>,

@@ -4,7 +4,7 @@ ghost use Rattle.trace_explain.specs.Texts.{name_of};
 
 use std::fmt;
 
-/// What a step may look at and change.
+/// A place that a step may look at and change.
 #[derive(Clone, Copy)]
 pub enum Place {
     /// The host's entry of a page.

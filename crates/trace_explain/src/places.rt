@@ -1,4 +1,4 @@
-//! Where a step looks.
+//! The places that a step looks at.
 ghost use Rattle.std.specs.Prelude.{◌≡◌, ◌∷◌, [], ◌++◌, OnOk};
 ghost use Rattle.trace_explain.specs.Looks.{frame_places, given_places, guest_places, hand_places, leaf_places, lent_places, page_places, places_of, slot_of_loaded, slot_of_ticket, vcpu_places, vm_places};
 ghost use Rattle.trace_text.specs.View.{machine_of};

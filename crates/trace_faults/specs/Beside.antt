@@ -1,4 +1,4 @@
--- What is said beside the report of a trace (profile).
+-- The text beside the report of a trace (profile).
 use Rattle.std.specs.Prelude.{ℕ, ◌-◌, Bool, false, ◌&&◌, ◌||◌, not, nat_lt, ◌==◌, List, [], ◌∷◌, ◌++◌, codes, length, Option, Some, None, option_and_then, option_map, slice_get, if◌then◌else◌}
 use Rattle.std.specs.List.{list_all, list_any}
 use Rattle.std.specs.Str.{bytes_eq}
@@ -27,7 +27,7 @@ remark name lines races =
     then file_line name (codes "no start, so all steps are made in order")
     else []))
 
--- the place of a fault at the line of a number, where there is such a line
+-- the place of a fault at the line of a number, if there is such a line
 abbrev pub place_of : List ℕ → List (List ℕ) → ℕ → Fault → List ℕ
 place_of name lines number fault =
     if number == 0 || nat_lt (length lines) number then []
@@ -55,7 +55,7 @@ plain_fault name =
     else (if bytes_eq name (codes "path") then Some faults.Path
     else option_map faults.Line (line_fault name)))
 
--- that of a layout, and of a boot, by its number
+-- the fault of a layout, and of a boot, by its number
 abbrev pub layout_fault : ℕ → Option Fault
 layout_fault number =
     if number == 1 then Some (faults.Layout layouts.Overlap)

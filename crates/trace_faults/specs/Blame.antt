@@ -9,7 +9,7 @@ use Rattle.trace_words.specs.Numbers.{number_of}
 use Rattle.trace_words.specs.Words.{words_of}
 use Rattle.world.specs.declared.boot.BootFault.TheVariants.{Config, CarveSmall, NoMemory}
 
--- the number that the word at a place of a line is, and 0 where it is none
+-- the number that the word at a place of a line is, and 0 if it is none
 abbrev pub number_of_word : List ℕ → ℕ → Option ℕ
 number_of_word line place = option_and_then number_of (slice_get (words_of line) place)
 
@@ -28,7 +28,7 @@ is_region line = begins line (codes "memory") || begins line (codes "device")
 abbrev pub is_carve : List ℕ → Bool
 is_carve line = begins line (codes "carve")
 
--- how many of these lines are regions
+-- the number of these lines that are regions
 abbrev pub regions_in : List (List ℕ) → ℕ
 regions_in lines = count_by (λ line. is_region line) lines
 
@@ -79,13 +79,13 @@ blamed fault earlier (line ∷ rest) =
     if is_blamed fault earlier line then Some (length earlier)
     else blamed fault (earlier ++ line ∷ []) rest
 
--- the form wanted of a number of the machine, by its name
+-- the expected form of a number of the machine, by its name
 abbrev pub config_wanted : List ℕ → List ℕ
 config_wanted first =
     if bytes_eq first (codes "geometry") then codes "39 or 48"
     else (if bytes_eq first (codes "cpus") then codes "1 to 64" else codes "1 to 1048576")
 
--- the form wanted of the setting that is blamed, by its first word
+-- the expected form of the setting that is blamed, by its first word
 abbrev pub blamed_wanted : Fault → List ℕ → List ℕ
 blamed_wanted (Layout TooMany) first = codes "16 regions at most"
 blamed_wanted (Layout Empty) first = codes "a page or more"
@@ -95,7 +95,7 @@ blamed_wanted (Layout CarveOutside) first = codes "pages of one memory region"
 blamed_wanted (Boot CarveSmall) first = codes "a frame for each table of the boot"
 blamed_wanted other first = config_wanted first
 
--- what was found and wanted at a boot whose fault blames no line
+-- what was found and expected at a boot whose fault blames no line
 abbrev pub unblamed_found : Fault → List ℕ
 unblamed_found (Layout PastLimit) = codes "more pages of memory"
 unblamed_found (Layout NoMapMemory) = codes "too little memory"

@@ -13,7 +13,7 @@ use Rattle.trace_lines.specs.Asked.{begins_with_digit}
 use Rattle.trace_lines.specs.Calls.{argument_at}
 use Rattle.trace_words.specs.Words.{named}
 
--- what is wanted of an argument, in words
+-- the expected argument of a form, in words
 abbrev pub wanted_argument : ArgumentForm → List ℕ
 wanted_argument Frame = codes "FRAME, a number"
 wanted_argument Page = codes "PAGE, a number"
@@ -51,7 +51,7 @@ first_wrong words [] place = place
 first_wrong words (form ∷ more) place =
     if is_of words place form then first_wrong words more (place + 1) else place
 
--- whether the word at a place is of the form that a list has at one: yes where it has none
+-- whether the word at a place has the form that a list gives for that place: yes if it gives none
 abbrev pub is_right : List (List ℕ) → List Form → ℕ → ℕ → Bool
 is_right words forms at place =
     elim (slice_get forms at) [ Some form ↦ is_of words place form | None ↦ true ]
@@ -92,7 +92,7 @@ header_forms name = unwrap_or (named (
     ∷ (codes "memory", range_forms) ∷ (codes "device", range_forms) ∷ (codes "carve", range_forms)
     ∷ (codes "boot", Name ∷ []) ∷ (codes "start", Name ∷ []) ∷ []) name) []
 
--- those of a line that is no step line, by its first words
+-- the forms of a line that is no step line, by its first words
 abbrev pub own_forms : List ℕ → List ℕ → List Form
 own_forms first second =
     if bytes_eq first (codes "word")
@@ -111,7 +111,7 @@ abbrev pub forms_from : List ℕ → List ℕ → List Form
 forms_from first second =
     if begins_with_digit first then call_forms second else own_forms first second
 
--- those of the words of a line: none where they ask for nothing
+-- the forms of the words of a line: none if they ask for nothing
 unfoldable pub forms : List (List ℕ) → List Form
 forms words =
     elim (slice_get words 0)

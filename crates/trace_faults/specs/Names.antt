@@ -9,7 +9,7 @@ use Rattle.trace_lines.specs.Asked.{begins_with_digit}
 abbrev pub edits : List ℕ → List ℕ → ℕ
 edits name word = levenshtein_row nat_eq name word (length word)
 
--- the first of the names with the fewest edits to a word, where these are fewer than `least`; else
+-- the first of the names with the fewest edits to a word, if these are fewer than `least`; else
 -- `found`
 abbrev pub nearest : List ℕ → ℕ → List ℕ → List (List ℕ) → List ℕ
 nearest word least found [] = found

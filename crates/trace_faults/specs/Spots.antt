@@ -1,4 +1,4 @@
--- Where the fault of a line is, and what was found and wanted there (profile).
+-- Where the fault of a line is, and what was found and expected there (profile).
 use Rattle.std.specs.Prelude.{ℕ, ◌+◌, Bool, ◌==◌, List, [], ◌∷◌, ◌++◌, codes, length, take, Some, None, slice_get, slice_index_or, unwrap_or, if◌then◌else◌}
 use Rattle.std.specs.Fmt.{decimal}
 use Rattle.std.specs.List.{list_any}
@@ -17,7 +17,7 @@ use Rattle.trace_text.specs.declared.fault.Fault.TheVariants as faults
 use Rattle.trace_text.specs.Texts.{text_of_fault}
 use Rattle.trace_words.specs.Words.{is_stray, words_of}
 
--- a line's number, a column, and what was found and wanted there
+-- a line's number, a column, and what was found and expected there
 pub record Told : Type 0 where
   pub line : ℕ
   pub column : ℕ
@@ -43,7 +43,7 @@ at number column found wanted =
 abbrev pub of_line : ℕ → List ℕ → List ℕ → Told
 of_line number line wanted = at number 1 (word_said line) wanted
 
--- of the word at a place of a line, or of the line's end where there is none
+-- the spot of the word at a place of a line, or of the line's end if there is none
 abbrev pub at_word : ℕ → List ℕ → ℕ → List ℕ → Told
 at_word number line place wanted =
     at number (word_column line place)
@@ -78,7 +78,7 @@ asked name = codes "; did you mean " ++ name ++ codes "?"
 abbrev pub meant : List ℕ → List ℕ
 meant name = if length name == 0 then [] else asked name
 
--- what is wanted of an unknown word, by the line's first, and the name that it may be meant for
+-- what is expected for an unknown word, by the line's first, and the name that it may be meant for
 unfoldable pub unknown_said : List ℕ → List ℕ → List ℕ
 unknown_said first word = unknown_wanted first ++ meant (nearest_of word (names_of first))
 
@@ -122,7 +122,7 @@ abbrev pub byte_found : List ℕ → List ℕ
 byte_found [] = codes "another byte"
 byte_found (byte ∷ bytes) = if is_stray byte then byte_said byte else byte_found bytes
 
--- where a fault of a line is, by itself and by whether a line before it is `boot`
+-- where a fault of a line is, by the line itself and by whether a line before it is `boot`
 abbrev pub line_spot : ℕ → List ℕ → LineFault → Bool → Told
 line_spot number line Long booted =
     at number 257 (codes "a longer line") (codes "256 bytes at most")
@@ -139,7 +139,7 @@ line_spot number line WrongForm booted = wrong_spot number line
 abbrev pub has_booted : List (List ℕ) → Bool
 has_booted lines = list_any (λ line. bytes_eq line (codes "boot")) lines
 
--- the number of CPUs that these lines set, as it is written: 1 where none does
+-- the number of CPUs that these lines set, as it is written: 1 if none does
 abbrev pub cpus_word : List (List ℕ) → List ℕ
 cpus_word [] = codes "1"
 cpus_word (line ∷ rest) =

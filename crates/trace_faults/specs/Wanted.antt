@@ -1,4 +1,4 @@
--- What was wanted of lines, in words (profile).
+-- What was expected of lines, in words (profile).
 use Rattle.std.specs.Prelude.{ℕ, Bool, not, ◌||◌, List, codes, if◌then◌else◌}
 use Rattle.std.specs.Str.{bytes_eq}
 use Rattle.trace_lines.specs.Asked.{begins_with_digit}
@@ -11,7 +11,7 @@ unknown_place first =
     || bytes_eq first (codes "show") || bytes_eq first (codes "poke") then 1
     else 0
 
--- and the form wanted there
+-- and the form that was expected there
 abbrev pub unknown_wanted : List ℕ → List ℕ
 unknown_wanted first =
     if begins_with_digit first then codes "a call"
@@ -28,7 +28,7 @@ is_header first =
     || bytes_eq first (codes "memory") || bytes_eq first (codes "device")
     || bytes_eq first (codes "carve")
 
--- the place wanted of a line that may not be where it is; `booted`: a line before it is `boot`
+-- the expected place of a line that may not be where it is; `booted`: a line before it is `boot`
 abbrev pub place_wanted : List ℕ → Bool → List ℕ
 place_wanted first booted =
     if is_header first

@@ -1,4 +1,4 @@
-//! What is said beside the report of a trace: where its fault is, or why it makes no step, or no race.
+//! The text beside the report of a trace: where its fault is, or why it makes no step, or no race.
 ghost use Rattle.std.specs.Prelude.{◌≡◌, ◌++◌, IfOk, OnOk, codes, map, option_copied};
 ghost use Rattle.std.specs.List.{list_all, list_any};
 ghost use Rattle.std.specs.Str.{bytes_eq};
@@ -26,8 +26,8 @@ use trace_text::Fault;
 use trace_words::{Words, decimal, is_name};
 use world::BootFault;
 
-/// What is said beside the report of a trace whose run had this fault at the line of this number, or none. `name` is the trace's
-/// file, and `races` says whether the steps after `start` are made at once. Empty where nothing is to be said.
+/// The text beside the report of a trace whose run had this fault at the line of this number, or none. `name` is the
+/// trace's file, and `races` says whether the steps after `start` are made at once. Empty if there is nothing to say.
 pub fn said_beside(
     global: Global,
     name: &str,
@@ -48,7 +48,7 @@ pub fn said_beside(
     Ok(text)
 }
 
-/// Adds the line for the place of a fault at the line of a number, where there is such a line.
+/// Adds the line for the place of a fault at the line of a number, if there is such a line.
 fn add_fault(
     text: &mut Vec<u8>,
     global: Global,

@@ -88,7 +88,7 @@ fn is_carve(line: &[u8]) -> bool
     begins(line, b"carve")
 }
 
-/// How many of these lines are regions.
+/// The number of these lines that are regions.
 fn regions(lines: &[&[u8]]) -> usize
     ensures { result ≡ regions_in (map (λ line. line.now) lines.now) }
 {
@@ -154,7 +154,7 @@ fn is_other_config(line: &[u8]) -> bool
     begins(line, b"log") && (value == 0 || value > 0x10_0000)
 }
 
-/// What is wanted of a setting that is blamed, by its first word.
+/// The expected form of a setting that is blamed, by its first word.
 pub(crate) fn blamed_wanted(fault: Fault, first: &[u8]) -> &'static [u8]
     ensures { result.now ≡ blamed_wanted_by fault first.now }
 {
@@ -181,7 +181,7 @@ fn config_wanted(first: &[u8]) -> &'static [u8]
     b"1 to 1048576"
 }
 
-/// What was found at a boot whose fault blames no line.
+/// The words for what a boot has too much of, or lacks, when its fault blames no line.
 pub(crate) fn unblamed_found(fault: Fault) -> &'static [u8]
     ensures { result.now ≡ unblamed_found_by fault }
 {
@@ -194,7 +194,7 @@ pub(crate) fn unblamed_found(fault: Fault) -> &'static [u8]
     }
 }
 
-/// And what was wanted there.
+/// What the boot of such a fault expected.
 pub(crate) fn unblamed_wanted(fault: Fault) -> &'static [u8]
     ensures { result.now ≡ unblamed_wanted_by fault }
 {

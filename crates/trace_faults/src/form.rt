@@ -25,7 +25,7 @@ const PAGE: Form = Form::Argument(ArgumentForm::Page);
 
 const COUNT: Form = Form::Argument(ArgumentForm::Count);
 
-/// What a word must be.
+/// The form that a word of a line must have.
 #[derive(Clone, Copy)]
 pub(crate) enum Form {
     /// A name that the grammar knows.
@@ -36,12 +36,12 @@ pub(crate) enum Form {
     Word,
     Level,
     Slot,
-    /// What a call has as an argument.
+    /// An argument of a call.
     Argument(ArgumentForm),
 }
 
 impl Form {
-    /// What is wanted, in words.
+    /// The form in words, as a fault's `wanted ..` has it.
     pub(crate) fn wanted(self) -> &'static [u8]
         ensures { result.now ≡ form_words self }
     {
@@ -93,14 +93,14 @@ pub(crate) struct LineForms {
 }
 
 impl LineForms {
-    /// How many there are.
+    /// The number of forms.
     pub(crate) fn count(self) -> usize
         ensures { result ≡ length (all_forms self) }
     {
         self.own.len() + self.arguments.len()
     }
 
-    /// That of the word at a place, counted from 0.
+    /// The form of the word at a place, counted from 0.
     pub(crate) fn get(self, place: usize) -> Option<Form>
         ensures { result ≡ slice_get (all_forms self) place }
     {
@@ -112,7 +112,7 @@ impl LineForms {
     }
 }
 
-/// The forms of the words of a line, by its first words. None of a line whose words ask for nothing.
+/// The forms of the words of a line, by its first words. None if the words ask for nothing.
 #[tactic(auto, unfolding(crate::specs::Forms::forms))]
 pub(crate) fn forms(words: &Words<'_>) -> LineForms
     ensures { all_forms result ≡ forms_by words.now }
@@ -127,7 +127,7 @@ pub(crate) fn forms(words: &Words<'_>) -> LineForms
     of_line(own(first, second))
 }
 
-/// Those of a line without a call's arguments.
+/// The forms of a line without a call's arguments.
 fn of_line(own: &'static [Form]) -> LineForms
     ensures { all_forms result ≡ own.now }
 {
@@ -137,7 +137,7 @@ fn of_line(own: &'static [Form]) -> LineForms
     }
 }
 
-/// Those of a step line whose call has this name.
+/// The forms of a step line whose call has this name.
 fn call(name: &[u8]) -> LineForms
     ensures { all_forms result ≡ call_forms name.now }
 {
@@ -150,7 +150,7 @@ fn call(name: &[u8]) -> LineForms
     }
 }
 
-/// Those of a line that is no step line, by its first words.
+/// The forms of a line that is no step line, by its first words.
 fn own(first: &[u8], second: &[u8]) -> &'static [Form]
     ensures { result.now ≡ own_forms first.now second.now }
 {
@@ -233,7 +233,7 @@ fn header(name: &[u8]) -> &'static [Form]
     &[]
 }
 
-/// The first place whose word isn't of its form. As many as there are forms where each is.
+/// The first place whose word isn't of its form. The number of forms if each is.
 pub(crate) fn first_wrong(words: &Words<'_>, forms: LineForms) -> usize
     ensures { result ≡ first_wrong_by words.now (all_forms forms) 0 }
 {

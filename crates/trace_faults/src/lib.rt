@@ -1,4 +1,4 @@
-//! Where in a line of a trace a fault is: what was found there, and what was wanted.
+//! Where in a line of a trace a fault is: what was found there, and what was expected.
 #![tactic(auto)]
 
 mod beside;

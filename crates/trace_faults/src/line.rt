@@ -92,7 +92,7 @@ fn unknown_at(
     at_word(global, number, line, place, wanted.as_slice())
 }
 
-/// What is wanted of an unknown word, and the name that it may be meant for.
+/// What is expected for an unknown word, and the name that it may be meant for.
 #[tactic(auto, unfolding(crate::specs::Spots::unknown_said))]
 fn unknown_said(global: Global, first: &[u8], word: &[u8]) -> Result<Vec<u8>, AllocError>
     ensures { IfOk result (λ said. said.items ≡ unknown_said_by first.now word.now) }

@@ -8,7 +8,7 @@ use std::alloc::{AllocError, Global};
 use strsim::generic_levenshtein;
 use trace_words::is_name;
 
-/// The name that the unknown word of a line may be meant for, by the line's first word. Empty where none is near.
+/// The name that the unknown word of a line may be meant for, by the line's first word. Empty if none is near.
 pub(crate) fn meant_name(
     global: Global,
     first: &[u8],
@@ -36,7 +36,8 @@ fn nearest_call(global: Global, word: &[u8]) -> Result<&'static [u8], AllocError
     nearest(global, word, names.as_slice())
 }
 
-/// The name that is nearest to a word, of those that are as many edits away as a third of its bytes, or fewer. Empty where none is.
+/// The name with the fewest edits to a word, among those at most a third of the word's bytes away. Empty if there is
+/// none.
 fn nearest(global: Global, word: &[u8], names: &[&'static str]) -> Result<&'static [u8], AllocError>
     ensures { IfOk result (λ name. name.now ≡ nearest_of word.now (map (λ name. name.now) names.now)) }
 {

@@ -30,8 +30,8 @@ pub fn add_place(
     add_spot(text, global, name, &named)
 }
 
-/// Where the fault of the line at a place is, what was found there and what was wanted, by the lines of its trace up to it.
-/// Of a refused boot it is the setting that the fault blames.
+/// Where the fault of the line at a place is, what was found there and what was expected, by the lines of its trace up
+/// to it. For a refused boot it is the setting that the fault blames.
 #[tactic(auto, unfolding(crate::specs::Spots::spot_of))]
 fn spot(global: Global, lines: &[&[u8]], place: usize, fault: Fault) -> Result<Spot, AllocError>
     requires { place < length lines.now }

@@ -7,10 +7,10 @@ use std::alloc::{AllocError, Global};
 use trace_text::Fault;
 use trace_words::Words;
 
-/// Where a fault is, and what it is.
+/// The place of a fault, and its text.
 #[derive(Drop)]
 pub(crate) struct Spot {
-    /// The number of its line, from 1. Of a refused boot it is that of the setting at fault, where there is one.
+    /// The number of its line, from 1. For a refused boot it is that of the setting at fault, if there is one.
     pub line: u64,
     /// Its column in bytes, from 1.
     pub column: u64,
@@ -51,7 +51,7 @@ pub(crate) fn add_spot(
     Ok(())
 }
 
-/// A spot where something was found that is no word.
+/// A spot whose find is described, not a word of the line.
 pub(crate) fn at(
     global: Global,
     line: u64,
@@ -78,7 +78,7 @@ fn quoted(global: Global, text: &[u8]) -> Result<Vec<u8>, AllocError>
     Ok(said)
 }
 
-/// A whole line where something else was wanted.
+/// The spot of a whole line in place of which another was expected.
 pub(crate) fn of_line(
     global: Global,
     number: u64,
@@ -91,7 +91,7 @@ pub(crate) fn of_line(
     at(global, number, 1, found.as_slice(), wanted)
 }
 
-/// The word at a place of a line, or the line's end where there is no such word.
+/// The word at a place of a line, or the line's end if there is no such word.
 pub(crate) fn at_word(
     global: Global,
     number: u64,

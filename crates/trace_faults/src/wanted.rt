@@ -1,4 +1,4 @@
-//! What was wanted of lines, in words.
+//! What was expected of lines, in words.
 ghost use Rattle.std.specs.Prelude.{◌≡◌};
 ghost use Rattle.trace_faults.specs.Wanted.{is_header as is_header_by, place_wanted as place_wanted_by, unknown_place as unknown_place_by, unknown_wanted as unknown_wanted_by};
 
@@ -20,7 +20,7 @@ pub(crate) fn unknown_place(first: &[u8]) -> usize
     }
 }
 
-/// What is wanted there.
+/// What is expected at that place.
 pub(crate) fn unknown_wanted(first: &[u8]) -> &'static [u8]
     ensures { result.now ≡ unknown_wanted_by first.now }
 {
@@ -48,7 +48,7 @@ fn is_header(first: &[u8]) -> bool
         || is_name(first, b"carve")
 }
 
-/// What is wanted of a line that may not be where it is. `booted`: a line before it is `boot`.
+/// The expected place of a line that may not be where it is. `booted`: a line before it is `boot`.
 pub(crate) fn place_wanted(first: &[u8], booted: bool) -> &'static [u8]
     ensures { result.now ≡ place_wanted_by first.now booted }
 {

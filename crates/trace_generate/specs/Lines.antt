@@ -27,7 +27,7 @@ text_of_argument Vm a = text_of_vm a.vm
 text_of_argument Kind a = text_of_vm_kind a.kind
 text_of_argument Rights a = text_of_prot a.rights
 
--- and those of such forms, each behind a space
+-- and the arguments of such forms, each after a space
 abbrev pub text_of_arguments : List Form → Arguments → List ℕ
 text_of_arguments [] a = []
 text_of_arguments (form ∷ more) a =

@@ -17,8 +17,8 @@ abbrev pub text_of_calls : List StepLine → List ℕ
 text_of_calls [] = []
 text_of_calls (c ∷ cs) = text_of_line c ++ codes "\n" ++ text_of_calls cs
 
--- a number of calls so far: a walk of the model from a state to another, and their lines behind
--- bytes
+-- a number of calls so far: a walk of the model from a state to another, with the lines of the
+-- calls appended to bytes
 pub record IsSoFar (l : Layout) (hostile : ℕ) (start : Reference) (begun : List ℕ) (number : ℕ)
     (state : Reference) (bytes : List ℕ) : Type 0 where
   pub calls : List StepLine
@@ -26,14 +26,14 @@ pub record IsSoFar (l : Layout) (hostile : ℕ) (start : Reference) (begun : Lis
   pub walk : IsWalk l hostile 0 start calls state
   pub text : bytes ≡ begun ++ text_of_calls calls
 
--- just so many calls were made, from lists that say a state to others, and their lines written
--- behind bytes
+-- this number of calls was made, from lists that say one state to lists that say another, and their
+-- lines were appended to bytes
 abbrev pub AreCallsMade : ℕ → ℕ → GhostLists → GhostLists → List ℕ → List ℕ → Type 0
 AreCallsMade hostile count old new begun bytes =
     IsSoFar (layout_of old.layout) hostile (ghost_state old) begun count (ghost_state new) bytes
 
--- the bytes of a trace of these options: the settings, and then just as many calls, which are a
--- walk of the model from the boot of these settings
+-- the bytes of a trace of these options: the settings, and then `steps` calls, which are a walk of
+-- the model from the boot of these settings
 pub record IsTrace (steps : ℕ) (o : Options) (bytes : List ℕ) : Type 0 where
   pub layout : Layout
   pub of_options : IsLayoutOf steps o layout

@@ -1,4 +1,4 @@
--- The lines of a generated trace are read as what they were written for (profile).
+-- A generated line is read back as the setting or the call that it was written for (profile).
 use Rattle.std.specs.Prelude.{◌≡◌, ℕ, ◌^◌, ◌<◌, ◌≤◌, Bool, List, [], ◌∷◌, Some, Ok, length}
 use Rattle.call_table.specs.declared.argument.Arguments.{Arguments}
 use Rattle.call_table.specs.declared.argument.Form.{Form}

@@ -13,13 +13,12 @@ abbrev pub is_chance : Lcg → ℕ → Bool
 is_chance chance percent = nat_lt (drawn chance 100) percent
 
 -- a call whose CPU is one of the layout's, whose numbers are of 64 bits, and which the model
--- refuses or makes, as is wanted
+-- refuses if `hostile`, and else makes
 pub record IsChosen (l : Layout) (s : Reference) (hostile : Bool) (c : StepLine) : Type 0 where
   pub cpu : c.cpu < l.config.cpus
   pub numbers : IsIn64Bits c.step
   pub wanted : is_refused l s c ≡ hostile
 
--- the model refuses it just where the first number drawn says so: of all numbers so many of a
--- hundred
+-- the model refuses it if and only if the first number drawn, from 0 to 99, is below `hostile`
 abbrev pub IsSuggested : Layout → Reference → ℕ → ℕ → StepLine → Type 0
 IsSuggested l s random hostile c = IsChosen l s (is_chance (seeded random) hostile) c

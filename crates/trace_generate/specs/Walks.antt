@@ -1,5 +1,5 @@
--- Walks along the reference step, but for want of memory: which calls they have, and which of these
--- the model refuses (profile).
+-- Walks along the reference step, except that memory never runs out: which calls they have, and
+-- which of these the model refuses (profile).
 use Rattle.std.specs.Prelude.{◌≡◌, ◌⊎◌, ℕ, ◌+◌, ◌*◌, ◌/◌, ◌<◌, Bool, true, false, not, ◌==◌, List, [], ◌∷◌}
 use Rattle.page_state.specs.Layouts.{Layout}
 use Rattle.reference_model.specs.model.State.{Reference}
@@ -32,13 +32,14 @@ abbrev pub IsAsWanted : Layout → Bool → Reference → StepLine → Type 0
 IsAsWanted l true s c = is_refused l s c ≡ true
 IsAsWanted l false s c = (is_refused l s c ≡ false) ⊎ (c.step ≡ OwnerOf 0x40000)
 
--- a call of a walk: its CPU is one of the layout's, its numbers are of 64 bits, and it is as wanted
+-- a call of a walk: its CPU is one of the layout's, its numbers are of 64 bits, and it is refused
+-- or made as asked
 pub record IsCallOf (l : Layout) (hostile : Bool) (s : Reference) (c : StepLine) : Type 0 where
   pub cpu : c.cpu < l.config.cpus
   pub numbers : IsIn64Bits c.step
   pub wanted : IsAsWanted l hostile s c
 
--- calls from a number on lead by the model from one state to another, each as wanted
+-- calls from a number on lead by the model from one state to another, each refused or made as asked
 abbrev pub IsWalk : Layout → ℕ → ℕ → Reference → List StepLine → Reference → Type 0
 IsWalk l hostile number s [] t = s ≡ t
 IsWalk l hostile number s (c ∷ cs) t =

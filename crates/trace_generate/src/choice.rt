@@ -1,4 +1,4 @@
-//! Calls that a state mostly makes.
+//! Calls that are likely to be made in a state.
 ghost use Rattle.std.specs.Prelude.{◌≡◌};
 
 use crate::chance::below;
@@ -25,8 +25,8 @@ const GUEST_PAGES: u64 = 96;
 /// The hypervisor's page of frame 0.
 const HYP_PAGE: u64 = 0x400_0000;
 
-/// A call that is mostly made: of the life of a VM, on pages of the host, or one that looks. Half of them lead to those that the
-/// trace hasn't made yet.
+/// A call that is likely to be made: of the life of a VM, on pages of the host, or one that looks. Half of them lead to
+/// those that the trace hasn't made yet.
 pub(crate) fn likely(
     lists: &GhostLists,
     memory: PageRange,
@@ -71,7 +71,7 @@ fn picked_guest_page(chance: &mut Pcg32) -> u64 {
     GUEST_PAGE.saturating_add(below(chance, GUEST_PAGES))
 }
 
-/// A call of a VM's life, by what the CPU has.
+/// A call of a VM's life, by the CPU's ticket and loaded vCPU.
 fn of_life(lists: &GhostLists, memory: PageRange, own: GhostCpu, chance: &mut Pcg32) -> Step {
     match (own.ticket, own.loaded) {
         (Some(ticket), _) => with_ticket(lists, memory, own, ticket, chance),

@@ -79,7 +79,7 @@ pub(crate) struct SettingLines {
     pub(crate) carve: PageRange,
 }
 
-/// A range: its first page, and how many.
+/// A range: its first page, and the number of pages.
 #[derive(Clone, Copy)]
 struct RangeWords(PageRange);
 

@@ -15,8 +15,8 @@ use std::alloc::{AllocError, Global};
 use std::fmt::Write;
 use trace_reader::Progress;
 
-/// A trace of `steps` calls on the machine of these options: its settings, its boot and the steps. The same seed gives the
-/// same bytes. `progress` is told of each call that is made.
+/// A trace of `steps` calls on the machine of these options: its settings, its boot and the steps. The same seed gives
+/// the same bytes. `progress` counts each call that is made.
 pub fn generate<P: Progress>(
     global: Global,
     seed: u64,

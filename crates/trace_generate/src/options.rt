@@ -23,7 +23,7 @@ pub struct Options {
     pub pages: u64,
     /// The width of input addresses in bits: 39 or 48.
     pub geometry: u64,
-    /// How many of a hundred calls are refused: 0 to 100.
+    /// The number of calls to be refused, of a hundred: 0 to 100.
     pub hostile: u64,
 }
 

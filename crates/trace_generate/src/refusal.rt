@@ -1,4 +1,4 @@
-//! Calls that a state mostly refuses.
+//! Calls that are likely to be refused in a state.
 ghost use Rattle.std.specs.Prelude.{◌≡◌};
 
 use crate::chance::below;
@@ -26,8 +26,8 @@ pub(crate) fn refused() -> Step
     Step::ShareHyp { pfn: NO_PAGE }
 }
 
-/// A call that is mostly refused: out of turn, on the wrong page or VM, on what is in use, with a number past a limit, or where a
-/// guest's pool runs out.
+/// A call that is likely to be refused: out of turn, on the wrong page or VM, on what is in use, with a number past a
+/// limit, or with a guest's pool that runs out.
 pub(crate) fn unlikely(
     lists: &GhostLists,
     memory: PageRange,
@@ -74,7 +74,7 @@ fn on_any_frame(lists: &GhostLists, memory: PageRange, chance: &mut Pcg32) -> St
     }
 }
 
-/// A frame, mostly of a short run.
+/// A frame, more often of a short run.
 fn any_frame(lists: &GhostLists, memory: PageRange, chance: &mut Pcg32) -> u64 {
     match picked_rows(lists, chance) {
         Some(run) => picked_page(run.pages, chance),
@@ -87,7 +87,7 @@ fn any_guest_page(chance: &mut Pcg32) -> u64 {
     GUEST_PAGE.saturating_add(below(chance, 96))
 }
 
-/// A call on a VM that there mostly isn't.
+/// A call on a VM that is unlikely to exist.
 fn on_wrong_vm(chance: &mut Pcg32) -> Step {
     let vm = VmId {
         slot: below(chance, SLOTS),
@@ -178,7 +178,7 @@ fn of_guest(pfn: u64, gfn: u64, n: u64, chance: &mut Pcg32) -> Step {
     }
 }
 
-/// A call of a guest, of a CPU that mostly has none or not such a page.
+/// A call of a guest, from a CPU that is unlikely to have a vCPU loaded or such a page mapped.
 fn on_no_vcpu(memory: PageRange, chance: &mut Pcg32) -> Step {
     let pfn = picked_page(memory, chance);
     let gfn = any_guest_page(chance);

@@ -7,7 +7,7 @@ use ghost_spec::parts::{GhostGuest, GhostPhase, GhostSlot, GhostStand};
 use page_state::{Owner, Page, PageRange, Prot, RegionKind, Row, Run, Usage};
 use rand_pcg::Pcg32;
 
-/// How many slots are used at most.
+/// The most slots that a generated trace uses.
 pub(crate) const SLOTS: u64 = 6;
 
 /// The row of a frame that isn't listed.
@@ -20,7 +20,7 @@ const PLAIN: Row = Row {
 /// How often a run is drawn before none is found.
 const DRAWS: usize = 6;
 
-/// What a CPU has.
+/// A CPU's own state: its loaded vCPU, its hand and its ticket.
 pub(crate) fn own_state(lists: &GhostLists, cpu: u64) -> GhostCpu {
     match lists.cpus.get(cpu as usize) {
         Some(own) => *own,
@@ -28,7 +28,8 @@ pub(crate) fn own_state(lists: &GhostLists, cpu: u64) -> GhostCpu {
     }
 }
 
-/// A run of owner rows, or a gap between them: memory whose rows aren't listed is the host's. None where there is no memory.
+/// A run of owner rows, or a gap between them: memory whose rows aren't listed is the host's. None if there is no
+/// memory.
 pub(crate) fn picked_rows(lists: &GhostLists, chance: &mut Pcg32) -> Option<run_list::Run<Row>> {
     let runs = lists.shared.rows.runs();
     let gaps = Gaps::before(lists, u64::MAX).count;
@@ -47,14 +48,14 @@ pub(crate) fn picked_rows(lists: &GhostLists, chance: &mut Pcg32) -> Option<run_
 /// Gaps between runs of owner rows, in memory.
 #[derive(Clone, Copy)]
 struct Gaps {
-    /// How many there are, up to a number.
+    /// The number of gaps found before the one sought.
     count: u64,
-    /// The one behind these, if they are as many.
+    /// The gap sought, if there are enough gaps.
     next: Option<PageRange>,
 }
 
 impl Gaps {
-    /// Those before the one of a number.
+    /// The gaps before the one of a number, from 0 on, and that gap.
     fn before(lists: &GhostLists, number: u64) -> Gaps {
         let mut found = Gaps {
             count: 0,
@@ -68,7 +69,7 @@ impl Gaps {
         found
     }
 
-    /// Adds those of a region. The runs are in order.
+    /// Adds the gaps of a region. The runs are in order.
     fn add_of(&mut self, runs: &[run_list::Run<Row>], region: PageRange, number: u64) {
         let end = region.first.0.saturating_add(region.count);
         let mut from = region.first.0;
@@ -96,7 +97,7 @@ impl Gaps {
     }
 }
 
-/// A run of a guest's map. None where nothing is mapped.
+/// A run of a guest's map. None if nothing is mapped.
 pub(crate) fn picked_run(guest: &GhostGuest, chance: &mut Pcg32) -> Option<Run> {
     let at = picked_place(chance, guest.tree.runs.len())?;
     guest.tree.runs.get(at).copied()
@@ -126,7 +127,7 @@ pub(crate) fn picked_hosts(lists: &GhostLists, chance: &mut Pcg32) -> Option<Pag
     None
 }
 
-/// A page of a range; its first, where it has none.
+/// A page of a range; its first page if the range is empty.
 pub(crate) fn picked_page(range: PageRange, chance: &mut Pcg32) -> u64 {
     if range.count == 0 {
         return range.first.0;
@@ -134,7 +135,7 @@ pub(crate) fn picked_page(range: PageRange, chance: &mut Pcg32) -> u64 {
     range.first.0.saturating_add(below(chance, range.count))
 }
 
-/// At most `most` pages of a range, and at least one: mostly from its first page on, so that runs stay long.
+/// At most `most` pages of a range, and at least one: usually from its first page on, so that runs stay long.
 pub(crate) fn picked_part(range: PageRange, most: u64, chance: &mut Pcg32) -> PageRange {
     let count = below(chance, most.max(1))
         .saturating_add(1)

@@ -44,7 +44,7 @@ fn is_chosen(chance: &mut Pcg32, percent: u64) -> bool
     below(chance, 100) < percent
 }
 
-/// A call that is refused or made, as is wanted, by a number of tries; the state goes on by one that was found.
+/// A call that is refused or made, as asked, found in a limited number of tries; the state goes on by it.
 fn chosen(
     global: Global,
     state: &mut Ghost,

@@ -72,7 +72,7 @@ fn is_refusal(reply: Reply) -> bool
     matches!(reply, Reply::Refused(_))
 }
 
-/// The state goes on by a call, where its reply is as wanted.
+/// Makes a call on the state if its reply is as asked.
 fn goes_on(
     global: Global,
     state: &mut Ghost,
@@ -116,7 +116,7 @@ fn candidate(
     }
 }
 
-/// A call of the walk, unless it isn't as wanted; then the state is as it was. Its CPU is drawn.
+/// Tries a call of the walk from a CPU that is drawn. If its reply isn't as asked, the state stays as it was.
 pub(crate) fn tried(
     global: Global,
     state: &mut Ghost,
@@ -148,7 +148,7 @@ pub(crate) fn tried(
     Ok(None)
 }
 
-/// A call that is surely as wanted, of a CPU that is drawn.
+/// A call, from a CPU that is drawn, whose reply is certain to be as asked.
 fn surely(
     global: Global,
     state: &mut Ghost,
@@ -180,7 +180,7 @@ fn sure_step(hostile: bool) -> Step
     if hostile { refused() } else { sure() }
 }
 
-/// The next call of the walk, by what was made before it.
+/// The next call of the walk, by the calls before it.
 pub(crate) fn next_call(
     global: Global,
     state: &mut Ghost,

@@ -43,7 +43,7 @@ impl Made {
         release: false,
     };
 
-    /// Each as chance has it: what is wanted is then any of those that aren't flagged.
+    /// Each flag by chance: a call is then sought among those that aren't flagged.
     pub(crate) fn picked(chance: &mut Pcg32) -> Made {
         Made {
             unfund: below(chance, 2) == 0,
@@ -94,7 +94,7 @@ impl Made {
     }
 }
 
-/// A call that leads to one which wasn't made yet. None where the CPU can't get nearer to any.
+/// A call that leads to one which wasn't made yet. None if the CPU can't get nearer to any.
 pub(crate) fn wanting(
     lists: &GhostLists,
     memory: PageRange,
@@ -109,7 +109,7 @@ pub(crate) fn wanting(
     }
 }
 
-/// That of a CPU that has neither a ticket nor a vCPU.
+/// The call of a CPU that has neither a ticket nor a vCPU.
 fn with_nothing(
     lists: &GhostLists,
     memory: PageRange,
@@ -164,7 +164,7 @@ fn toward(lists: &GhostLists, kind: VmKind, chance: &mut Pcg32) -> Option<Step> 
     Some(Step::VmReserve { kind, vcpus })
 }
 
-/// That of a CPU that has a vCPU loaded: the next step on a page of its guest, which is mapped first.
+/// The call of a CPU that has a vCPU loaded: the next step on a page of its guest, which is mapped first.
 fn with_loaded(
     lists: &GhostLists,
     memory: PageRange,

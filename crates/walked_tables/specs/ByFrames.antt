@@ -1,6 +1,5 @@
--- What a tree says whose tables lie in pages, by a profile: a table word leads on to the page of
--- its frame, where there is one.
--- Depths count the levels below.
+-- The map of a tree whose tables lie in pages, by a profile: a table word leads on to the page of
+-- its frame, if there is one. Depths count the levels below.
 use Rattle.std.specs.Prelude.{◌≡◌, ℕ, zero, suc, ◌+◌, ◌*◌, ◌/◌, ◌%◌, ◌==◌, List, [], ◌∷◌, ◌++◌, get_or, length, find, slice_get, Option, Some, None}
 use Rattle.descriptor.specs.declared.Level.{Level}
 use Rattle.descriptor.specs.declared.Level.TheVariants.{Zero, One, Two, Three}
@@ -27,7 +26,7 @@ IsWhole page = length (words_of page) ≡ 512
 abbrev pub page_of : List TablePage → ℕ → Option TablePage
 page_of pages frame = find (λ p. p.frame == frame) pages
 
--- the page that a word leads on to: a table's, where its frame has one
+-- the page that a word leads on to: a table's, if its frame has one
 abbrev pub led : List TablePage → Decoded → Option TablePage
 led pages (Table frame) = page_of pages frame.0
 led pages other = None
@@ -39,7 +38,7 @@ level_at (suc zero) = Two
 level_at (suc (suc zero)) = One
 level_at (suc (suc (suc depth))) = Zero
 
--- what one gives where a word doesn't lead on, and else by the page
+-- `here` if a word doesn't lead on, and else `below` of the page
 abbrev pub led_case : {R : Type 0} → R → (TablePage → R) → Option TablePage → R
 led_case here below led = elim led [ None ↦ here | Some next ↦ below next ]
 
@@ -51,7 +50,7 @@ index_at depth page = page / block_pages depth % 512
 abbrev pub word_on : ℕ → TablePage → ℕ → ℕ
 word_on depth table page = get_or (words_of table) (index_at depth page) 0
 
--- the words of a list give lists, each by its number
+-- `f` of each word of a list and its number, one after the other
 abbrev pub along : {X W : Type 0} → (ℕ → W → List X) → ℕ → List W → List X
 along f number [] = []
 along f number (word ∷ words) = f number word ++ along f (number + 1) words

@@ -1,4 +1,4 @@
--- A derived `==` tells whether two values are the same.
+-- A derived `==` decides whether two values are the same.
 use Rattle.std.proofs.Common.{◌≡◌, true, false, refl, ap}
 use Rattle.std.proofs.lemmas.Bool.Decides.{Decides-like}
 use Rattle.std.specs.contracts.prelude.BoolPartialEq.TheImpl as bools

@@ -25,7 +25,7 @@ as_plain page = record { frame = page.frame; words = page.words }
 abbrev pub HasWords : TablePage → Type 0
 HasWords page = All (λ w. w < 2 ^ 64) (words_of page)
 
--- the entry of a descriptor, where there is one
+-- the entry of a descriptor, if there is one
 abbrev pub desc_entry : Option Desc → Entry
 desc_entry (Some desc) = entry_of_word desc
 desc_entry None = Malformed

@@ -13,7 +13,7 @@ pub fn are_whole(pages: &[TablePage<'_>]) -> bool
     pages.iter().all(|page| page.words.len() == 512)
 }
 
-/// The pages of a root of `count` pages from a frame on. None where a frame has no page.
+/// The pages of a root of `count` pages from a frame on. None if a frame has no page.
 pub fn root_pages<'a>(
     alloc: Global,
     pages: &[TablePage<'a>],

@@ -1,4 +1,4 @@
-//! Runs that a walk finds, put behind all others.
+//! Runs that a walk finds, appended to those before.
 ghost use Rattle.std.specs.Prelude.{◌≡◌, ◌+◌, ◌<◌, ◌≤◌, ◌^◌, OnOk};
 ghost use Rattle.std.specs.Option.{ForSome};
 ghost use Rattle.run_list.specs.Runs.{EndBefore, map_updated, run_map};

@@ -37,7 +37,7 @@ fn walk(
     walked(alloc, &profile, pages, 7, 1, roots.as_slice(), met)
 }
 
-/// The host's own memory, or what it borrows: 7.3's words tell no state.
+/// The host's own memory, or memory that it borrows: 7.3's words have no state.
 fn memory(frame: u64) -> Decoded {
     Decoded::Leaf(Mapping {
         frame: Frame(frame),
