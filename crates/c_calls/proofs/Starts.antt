@@ -6,8 +6,8 @@ use Rattle.std.proofs.lemmas.List.{append-nil, append_assoc}
 use Rattle.page_state.specs.declared.layout.RegionKind.TheVariants as kinds
 use Rattle.page_state.specs.Texts.{text_of_page}
 use Rattle.c_states.specs.declared.layout.PlainRegion.{PlainRegion}
-use Rattle.c_states.specs.Layouts.{region_said}
-use Rattle.c_states.specs.Lists.{range_said}
+use Rattle.c_states.specs.Layouts.{region_from_c}
+use Rattle.c_states.specs.Lists.{range_from_c}
 use Rattle.trace_generate.specs.Reading.{Fits}
 use Rattle.trace_generate.proofs.Spaces.{said-words, spaced}
 use Rattle.trace_generate.proofs.Words.{number_of-decimal, number_of-page, word_of-decimal, word_of-page}
@@ -17,8 +17,8 @@ use Rattle.trace_lines.specs.declared.line.Setting.TheVariants as settings
 use Rattle.trace_lines.specs.Asked.{asked}
 use Rattle.trace_lines.specs.Places.{before_boot}
 use Rattle.trace_lines.specs.Said.{said}
-use Rattle.trace_lines.specs.Settings.{Told, nothing_told, told_after}
-use Rattle.c_calls.specs.Laws.{FitRegions, SaySettings, StartsAreRead, settings_said}
+use Rattle.trace_lines.specs.Settings.{Told, no_settings, told_after}
+use Rattle.c_calls.specs.Laws.{FitRegions, SaySettings, StartsAreRead, settings_from_c}
 use Rattle.c_calls.specs.Lines.{number_line, range_line, region_line}
 
 geometry_read : (told : Told) (n : ℕ)
@@ -65,7 +65,7 @@ range_spaced w first count =
 
 carve_read : (told : Told) (first count : ℕ) → Fits first → Fits count → told.carve ≡ None
     → said before_boot told (range_line (codes "carve") first count)
-    ≡ Ok (Some (lines.Setting (settings.Carve (range_said first count))))
+    ≡ Ok (Some (lines.Setting (settings.Carve (range_from_c first count))))
 unfolding asked
 carve_read told first count f c e =
     ap (said before_boot told) (range_spaced (codes "carve") first count)
@@ -78,7 +78,7 @@ memory_read : (told : Told) (first count : ℕ)
     → Fits first
     → Fits count
     → said before_boot told (range_line (codes "memory") first count)
-    ≡ Ok (Some (lines.Setting (settings.Memory (range_said first count))))
+    ≡ Ok (Some (lines.Setting (settings.Memory (range_from_c first count))))
 unfolding asked
 memory_read told first count f c =
     ap (said before_boot told) (range_spaced (codes "memory") first count)
@@ -91,7 +91,7 @@ device_read : (told : Told) (first count : ℕ)
     → Fits first
     → Fits count
     → said before_boot told (range_line (codes "device") first count)
-    ≡ Ok (Some (lines.Setting (settings.Device (range_said first count))))
+    ≡ Ok (Some (lines.Setting (settings.Device (range_from_c first count))))
 unfolding asked
 device_read told first count f c =
     ap (said before_boot told) (range_spaced (codes "device") first count)
@@ -108,8 +108,8 @@ boot_read told e =
     ∙ rw e refl
 
 region_setting : Bool → PlainRegion → Setting
-region_setting true r = settings.Memory (range_said r.first r.count)
-region_setting false r = settings.Device (range_said r.first r.count)
+region_setting true r = settings.Memory (range_from_c r.first r.count)
+region_setting false r = settings.Device (range_from_c r.first r.count)
 
 region_read : (memory : Bool) (told : Told) (r : PlainRegion) → Fits r.first → Fits r.count
     → said before_boot told (range_line (if memory then codes "memory" else codes "device") r.first r.count)
@@ -122,7 +122,7 @@ region_after : (memory : Bool) (told : Told) (r : PlainRegion)
     → told_after (region_setting memory r) told
     ≡ record told {
       regions = told.regions
-          ++ (record { kind = if memory then kinds.Memory else kinds.Device; pages = range_said r.first r.count }
+          ++ (record { kind = if memory then kinds.Memory else kinds.Device; pages = range_from_c r.first r.count }
           ∷ []);
     }
 unfolding region_setting
@@ -131,17 +131,17 @@ region_after false told r = refl
 
 regions_read : (rs : List PlainRegion) (told : Told) (rest : List (List ℕ)) (end : Told)
     → FitRegions rs
-    → SaySettings rest (record told { regions = told.regions ++ map region_said rs }) end
+    → SaySettings rest (record told { regions = told.regions ++ map region_from_c rs }) end
     → SaySettings (map region_line rs ++ rest) told end
 regions_read [] told rest end h k =
     subst (λ x. SaySettings rest (record told { regions = x }) end) (append-nil told.regions) k
 regions_read (r ∷ rs) told rest end h k =
     let memory = r.kind == 0 in
-    let with : Told = record told { regions = told.regions ++ (region_said r ∷ []) } in
+    let with : Told = record told { regions = told.regions ++ (region_from_c r ∷ []) } in
     let more : SaySettings (map region_line rs ++ rest) with end =
     regions_read rs with rest end h.2
     (subst (λ x. SaySettings rest (record told { regions = x }) end)
-    (sym (append_assoc told.regions (region_said r ∷ []) (map region_said rs))) k) in (
+    (sym (append_assoc told.regions (region_from_c r ∷ []) (map region_from_c rs))) k) in (
       region_setting memory r,
       region_read memory told r h.0 h.1,
       subst (λ t. SaySettings (map region_line rs ++ rest) t end) (sym (region_after memory told r)) more,
@@ -149,18 +149,18 @@ regions_read (r ∷ rs) told rest end h k =
 
 pub starts_are_read : StartsAreRead
 starts_are_read l regions h =
-    let first : Told = record nothing_told { geometry = Some l.address_bits } in
+    let first : Told = record no_settings { geometry = Some l.address_bits } in
     let second : Told = record first { cpus = Some l.cpus } in
     let third : Told = record second { log = Some 1048576 } in
-    let fourth : Told = record third { regions = map region_said regions } in
-    let carve : SaySettings (range_line (codes "carve") l.carve_first l.carve_count ∷ []) fourth (settings_said l regions) = (
-      settings.Carve (range_said l.carve_first l.carve_count),
+    let fourth : Told = record third { regions = map region_from_c regions } in
+    let carve : SaySettings (range_line (codes "carve") l.carve_first l.carve_count ∷ []) fourth (settings_from_c l regions) = (
+      settings.Carve (range_from_c l.carve_first l.carve_count),
       carve_read fourth l.carve_first l.carve_count h.first h.count refl,
       refl,
     ) in (
       (
         settings.Geometry l.address_bits,
-        geometry_read nothing_told l.address_bits h.bits refl,
+        geometry_read no_settings l.address_bits h.bits refl,
         (
           settings.Cpus l.cpus,
           cpus_read first l.cpus h.cpus refl,
@@ -168,9 +168,9 @@ starts_are_read l regions h =
             settings.Log 1048576,
             log_read second refl,
             regions_read regions third (range_line (codes "carve") l.carve_first l.carve_count ∷ [])
-                (settings_said l regions) h.regions_are carve,
+                (settings_from_c l regions) h.regions_are carve,
           ),
         ),
       ),
-      boot_read (settings_said l regions) refl,
+      boot_read (settings_from_c l regions) refl,
     )

@@ -19,17 +19,17 @@ use Rattle.call_table.specs.Rows.{calls, named, numbered, row}
 use Rattle.call_table.proofs.CallsNamed.{calls_named, rows_differ}
 use Rattle.call_table.proofs.StepsMade.{steps_made}
 use Rattle.c_words.specs.declared.step.PlainStep.{PlainStep}
-use Rattle.c_words.specs.Numbers.{rights_said, rights_written, vm_kind_said}
-use Rattle.c_words.specs.Steps.{argument_said, arguments_said, numbers_behind, step_said}
+use Rattle.c_words.specs.Numbers.{rights_from_c, rights_written, vm_kind_from_c}
+use Rattle.c_words.specs.Steps.{argument_from_c, arguments_from_c, numbers_behind, step_from_c}
 use Rattle.c_calls.specs.Steps.{all_in_front, bare, in_front, step_written, vm_kind_written}
 
-rights_says : (prot : Prot) → rights_said (rights_written prot) ≡ Some prot
+rights_says : (prot : Prot) → rights_from_c (rights_written prot) ≡ Some prot
 rights_says R = refl
 rights_says RX = refl
 rights_says RW = refl
 rights_says RWX = refl
 
-kind_says : (kind : VmKind) → vm_kind_said (vm_kind_written kind) ≡ Some kind
+kind_says : (kind : VmKind) → vm_kind_from_c (vm_kind_written kind) ≡ Some kind
 kind_says Plain = refl
 kind_says Protected = refl
 
@@ -81,7 +81,7 @@ behind form more a c h =
 
 -- the argument is said
 argument_back : (form : Form) (a to : Arguments) (s : PlainStep)
-    → argument_said form (in_front form a s) to ≡ Some (taken form a to)
+    → argument_from_c form (in_front form a s) to ≡ Some (taken form a to)
 argument_back Kind a to s = rw (kind_says a.kind) refl
 argument_back Rights a to s = rw (rights_says a.rights) refl
 argument_back form a to s = refl
@@ -92,12 +92,12 @@ less form more h = omega (arith, h)
 
 arguments_back : (fs : List Form) (a to : Arguments) (c : ℕ)
     → weight fs ≤ 4
-    → arguments_said fs (written fs a c) to ≡ Some (kept fs a to)
+    → arguments_from_c fs (written fs a c) to ≡ Some (kept fs a to)
 arguments_back [] a to c h = refl
 arguments_back (form ∷ more) a to c h =
-    ap (option_and_then (arguments_said more (numbers_behind form (written (form ∷ more) a c))))
+    ap (option_and_then (arguments_from_c more (numbers_behind form (written (form ∷ more) a c))))
     (argument_back form a to (written more a c))
-    ∙ ap (λ s. arguments_said more s (taken form a to)) (behind form more a c h)
+    ∙ ap (λ s. arguments_from_c more s (taken form a to)) (behind form more a c h)
     ∙ arguments_back more a (taken form a to) c (less form more h)
 
 call_kept : (fs : List Form) (a : Arguments) (c : ℕ) → (written fs a c).call ≡ c
@@ -147,13 +147,13 @@ kept_makes step =
 
 said_by : (s : PlainStep) (call : CallName) (given : Arguments) (step : Step)
     → numbered s.call ≡ Some call
-    → arguments_said (row call).forms s blank ≡ Some given
+    → arguments_from_c (row call).forms s blank ≡ Some given
     → step_by call given ≡ step
-    → step_said s ≡ Some step
-unfolding step_said
+    → step_from_c s ≡ Some step
+unfolding step_from_c
 said_by s call given step e f g = rw (e, f, g) refl
 
-pub steps_said : (step : Step) → step_said (step_written step) ≡ Some step
+pub steps_said : (step : Step) → step_from_c (step_written step) ≡ Some step
 steps_said step =
     let n = named_by step in
     let forms = (row n.call).forms in

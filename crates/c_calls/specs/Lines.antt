@@ -3,7 +3,7 @@ use Rattle.std.specs.Prelude.{◌≡◌, ◌<◌, ◌≤◌, ◌==◌, ◌++◌,
 use Rattle.std.specs.Fmt.{decimal}
 use Rattle.page_state.specs.Texts.{text_of_page}
 use Rattle.call_table.specs.declared.step.Step.{Step}
-use Rattle.c_words.specs.Steps.{step_said}
+use Rattle.c_words.specs.Steps.{step_from_c}
 use Rattle.c_states.specs.declared.judge.PlainCall.{PlainCall}
 use Rattle.c_states.specs.declared.layout.PlainLayout.{PlainLayout}
 use Rattle.c_states.specs.declared.layout.PlainRegion.{PlainRegion}
@@ -62,7 +62,7 @@ IsReadAs line says =
 pub record IsLineOf (l : PlainLayout) (call : PlainCall) (old new : List ℕ)
     (count : ℕ) : Type 0 where
   pub step : Step
-  pub step_is : step_said call.step ≡ Some step
+  pub step_is : step_from_c call.step ≡ Some step
   pub cpu : call.cpu < l.cpus
   pub offered : IsOffered
       (text_of_line (record { cpu = call.cpu; step = step }) ++ codes "\n") old new count
@@ -71,6 +71,6 @@ pub record IsLineOf (l : PlainLayout) (call : PlainCall) (old new : List ℕ)
 
 -- why a call has no line: the first that is true
 abbrev pub IsUnwritten : PlainLayout → PlainCall → Unwritten → Type 0
-IsUnwritten l call unwritten.Step = step_said call.step ≡ None
-IsUnwritten l call unwritten.Cpu = IsSome (step_said call.step) × (l.cpus ≤ call.cpu)
+IsUnwritten l call unwritten.Step = step_from_c call.step ≡ None
+IsUnwritten l call unwritten.Cpu = IsSome (step_from_c call.step) × (l.cpus ≤ call.cpu)
 IsUnwritten l call unwritten.NoMemory = Unit {0}

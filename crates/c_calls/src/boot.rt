@@ -3,8 +3,8 @@ ghost use Rattle.std.specs.Prelude.{◌≡◌, ◌≤◌, IfErr, IfOk, OnOk};
 ghost use Rattle.page_state.specs.LayoutView.{layout_of as layout_of_code};
 ghost use Rattle.reference_model.specs.model.Boot.{CanBoot, boot};
 ghost use Rattle.ghost_spec.specs.States.{ghost_state};
-ghost use Rattle.c_calls.specs.Boots.{CanBootPlain, HasCpus, IsBootTold, IsUnbooted};
-ghost use Rattle.c_states.specs.Layouts.{layout_said};
+ghost use Rattle.c_calls.specs.Boots.{CanBootPlain, HasCpus, IsBootState, IsUnbooted};
+ghost use Rattle.c_states.specs.Layouts.{layout_from_c};
 ghost use Rattle.c_states.specs.Told.{lists_owned};
 
 use c_states::{PlainLayout, PlainLayoutFault, PlainLists, layout_of, lists_of};
@@ -28,7 +28,7 @@ pub enum Unbooted {
 /// The state at boot.
 pub(crate) fn booted(alloc: Global, layout: &PlainLayout<'_>) -> Result<Ghost, Unbooted>
     ensures can { OnOk result (CanBootPlain layout.now layout.now.regions.now) }
-    ensures state { IfOk result (λ g. ghost_state g ≡ boot (layout_said layout.now layout.now.regions.now)) }
+    ensures state { IfOk result (λ g. ghost_state g ≡ boot (layout_from_c layout.now layout.now.regions.now)) }
     ensures cpus { IfOk result (λ g. g.layout.config.cpus ≡ layout.now.cpus) }
     ensures fault { IfErr result (IsUnbooted layout.now layout.now.regions.now) }
 {
@@ -49,7 +49,7 @@ pub(crate) fn booted(alloc: Global, layout: &PlainLayout<'_>) -> Result<Ghost, U
 
 /// The lists of the state at boot: all 64 slots and guests and all CPUs, and of each map the fewest runs.
 pub fn boot_lists(alloc: Global, layout: &PlainLayout<'_>) -> Result<PlainLists, Unbooted>
-    ensures booted { IfOk result (λ p. IsBootTold layout.now layout.now.regions.now (lists_owned p)) }
+    ensures booted { IfOk result (λ p. IsBootState layout.now layout.now.regions.now (lists_owned p)) }
     ensures fault { IfErr result (IsUnbooted layout.now layout.now.regions.now) }
 {
     let state = booted(alloc, layout)?;

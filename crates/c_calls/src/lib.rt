@@ -10,5 +10,5 @@ mod text;
 
 pub use boot::{Unbooted, boot_lists};
 pub use lines::{Unwritten, write_call, write_start};
-pub use step::step_told;
+pub use step::step_to_c;
 pub use suggest::{Suggested, Unsuggested, suggested_call};

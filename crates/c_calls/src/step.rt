@@ -79,7 +79,7 @@ fn bare(call: u64) -> PlainStep
 }
 
 /// A step in numbers: the call's and those of its arguments, and then 0.
-pub fn step_told(step: Step) -> PlainStep
+pub fn step_to_c(step: Step) -> PlainStep
     ensures { result ≡ step_written step }
 {
     let named = values_of(step);

@@ -1,9 +1,9 @@
 //! A next call on a state.
 ghost use Rattle.std.specs.Prelude.{◌≡◌, IfErr, IfOk};
 ghost use Rattle.c_calls.specs.Suggests.{IsSuggestedCall, IsUnsuggested};
-ghost use Rattle.c_states.specs.Views.{lists_told};
+ghost use Rattle.c_states.specs.Views.{lists_from_c};
 
-use crate::step::step_told;
+use crate::step::step_to_c;
 use c_states::{PlainLayout, PlainState, Unmade, made};
 use c_words::PlainStep;
 use std::alloc::Global;
@@ -40,9 +40,9 @@ pub fn suggested_call(
 ) -> Result<Suggested, Unsuggested>
     ensures call { IfOk result
         (IsSuggestedCall layout.now layout.now.regions.now
-        (lists_told state.now) random hostile) }
+        (lists_from_c state.now) random hostile) }
     ensures fault { IfErr result
-        (IsUnsuggested layout.now layout.now.regions.now (lists_told state.now) hostile) }
+        (IsUnsuggested layout.now layout.now.regions.now (lists_from_c state.now) hostile) }
 {
     if hostile > 100 {
         return Err(Unsuggested::Hostile);
@@ -57,7 +57,7 @@ pub fn suggested_call(
     match suggested(alloc, state, random, hostile) {
         Ok(call) => Ok(Suggested {
             cpu: call.cpu,
-            step: step_told(call.step),
+            step: step_to_c(call.step),
         }),
         Err(_) => Err(Unsuggested::NoMemory),
     }

@@ -13,8 +13,8 @@ use Rattle.c_states.specs.declared.judge.Unjudged.{Unjudged}
 use Rattle.c_states.specs.declared.judge.Unjudged.TheVariants as unjudged
 use Rattle.c_states.specs.declared.layout.PlainLayout.{PlainLayout}
 use Rattle.c_states.specs.declared.layout.PlainRegion.{PlainRegion}
-use Rattle.c_states.specs.Judged.{IsUnjudgedAfter, IsUntold}
-use Rattle.c_states.specs.Layouts.{layout_said}
+use Rattle.c_states.specs.Judged.{IsUnjudgedAfter, IsUnpredicted}
+use Rattle.c_states.specs.Layouts.{layout_from_c}
 use Rattle.c_states.specs.States.{Lists}
 use Rattle.c_judge.specs.declared.found.Found.{Found}
 use Rattle.c_judge.specs.declared.reply.Said.{Said}
@@ -40,7 +40,7 @@ module _ (w : Freedoms) (l : PlainLayout) (regions : List PlainRegion) (before :
     says = says;
     says_is = says_is;
     found_is =
-        subst (λ (s : Contents). IsFoundOf w (layout_said l regions) l.cpus s call.cpu step says after found)
+        subst (λ (s : Contents). IsFoundOf w (layout_from_c l regions) l.cpus s call.cpu step says after found)
         (contents-are l regions before call.cpu call.step step g h)
         (subst (λ (m : Layout). IsFoundOf w m l.cpus (contents_in g) call.cpu step says after found) h.layout k);
   }
@@ -65,7 +65,7 @@ module _ (w : Freedoms) (l : PlainLayout) (regions : List PlainRegion) (before :
 pub before-fault : (l : PlainLayout) (regions : List PlainRegion) (before : Lists) (call : PlainCall) (after : Lists)
     (says : Said) (why : Unjudged)
     → said_of call.reply ≡ Some says
-    → IsUntold l regions before call.cpu call.step why
+    → IsUnpredicted l regions before call.cpu call.step why
     → IsUnfoundFreely l regions before call after why
 before-fault l regions before call after says unjudged.Step e k = k
 before-fault l regions before call after says unjudged.Reply e k = absurd k

@@ -8,20 +8,20 @@ use Rattle.call_table.specs.declared.step.Step.{Step}
 use Rattle.page_state.specs.Layouts.{Layout}
 use Rattle.reference_model.specs.model.State.{Contents}
 use Rattle.freedoms.specs.declared.Freedoms.{Freedoms}
-use Rattle.free_judge.specs.Freely.{IsJudgedFreely, IsToldFreely}
+use Rattle.free_judge.specs.Freely.{IsJudgedFreely, IsPredictedFreely}
 use Rattle.ghost_judge.specs.declared.disagreement.Disagreement.{Disagreement}
 use Rattle.ghost_judge.specs.declared.disagreement.Disagreement.TheVariants.{Reply as ReplyDiffers}
 use Rattle.c_words.specs.declared.step.PlainStep.{PlainStep}
-use Rattle.c_words.specs.Steps.{step_said}
+use Rattle.c_words.specs.Steps.{step_from_c}
 use Rattle.c_states.specs.declared.judge.PlainCall.{PlainCall}
 use Rattle.c_states.specs.declared.judge.Unjudged.{Unjudged}
 use Rattle.c_states.specs.declared.judge.Unjudged.TheVariants as unjudged
 use Rattle.c_states.specs.declared.layout.PlainLayout.{PlainLayout}
 use Rattle.c_states.specs.declared.layout.PlainRegion.{PlainRegion}
 use Rattle.c_states.specs.Faults.{AreTaken}
-use Rattle.c_states.specs.Judged.{told_said, CanCall, IsJudged, IsUnjudged, IsUnjudgedAfter, IsUntold}
-use Rattle.c_states.specs.Layouts.{layout_said}
-use Rattle.c_states.specs.States.{Lists, contents_said}
+use Rattle.c_states.specs.Judged.{prediction_from_c, CanCall, IsJudged, IsUnjudged, IsUnjudgedAfter, IsUnpredicted}
+use Rattle.c_states.specs.Layouts.{layout_from_c}
+use Rattle.c_states.specs.States.{Lists, contents_from_c}
 use Rattle.c_judge.specs.declared.found.Found.{Found}
 use Rattle.c_judge.specs.declared.found.Found.TheVariants.{Differs, Refusal, Stopped}
 use Rattle.c_judge.specs.declared.found.Unfound.{Unfound}
@@ -32,11 +32,11 @@ use Rattle.c_judge.specs.Freedoms.{IsFreedomsFault, IsTakenAs}
 use Rattle.c_judge.specs.Replies.{said_of}
 
 -- the reply that the model gives to a step of the lists' state
-pub record IsTold (l : PlainLayout) (regions : List PlainRegion) (before : Lists) (cpu : ℕ)
+pub record IsModelReply (l : PlainLayout) (regions : List PlainRegion) (before : Lists) (cpu : ℕ)
     (plain : PlainStep) (reply : Reply) : Type 0 where
   pub step : Step
   pub can : CanCall l regions before cpu plain step
-  pub reply_is : reply ≡ (told_said l regions before cpu step).0
+  pub reply_is : reply ≡ (prediction_from_c l regions before cpu step).0
 
 -- a disagreement on a state, or on a reply that the model has
 abbrev pub differs : Disagreement → Found
@@ -56,10 +56,12 @@ IsFoundExactlyOf l regions before call after (said.Known reply) found =
     × (found ≡ option_map differs o)
 IsFoundExactlyOf l regions before call after (said.Refusal n) found =
     (spec : Reply)
-    × IsTold l regions before call.cpu call.step spec
+    × IsModelReply l regions before call.cpu call.step spec
     × (found ≡ Some (Refusal n spec))
 IsFoundExactlyOf l regions before call after said.Stopped found =
-    (spec : Reply) × IsTold l regions before call.cpu call.step spec × (found ≡ Some (Stopped spec))
+    (spec : Reply)
+    × IsModelReply l regions before call.cpu call.step spec
+    × (found ≡ Some (Stopped spec))
 
 pub record IsFoundExactly (l : PlainLayout) (regions : List PlainRegion) (before : Lists)
     (call : PlainCall) (after : Lists) (found : Option Found) : Type 0 where
@@ -70,24 +72,24 @@ pub record IsFoundExactly (l : PlainLayout) (regions : List PlainRegion) (before
 -- why a call isn't judged exactly
 abbrev pub IsUnfoundExactly : PlainLayout → List PlainRegion → Lists → PlainCall → Lists → Unjudged
     → Type 0
-IsUnfoundExactly l regions before call after unjudged.Step = step_said call.step ≡ None
+IsUnfoundExactly l regions before call after unjudged.Step = step_from_c call.step ≡ None
 IsUnfoundExactly l regions before call after unjudged.Reply =
-    IsSome (step_said call.step) × (said_of call.reply ≡ None)
+    IsSome (step_from_c call.step) × (said_of call.reply ≡ None)
 IsUnfoundExactly l regions before call after why =
     IsSome (said_of call.reply)
     × (IsUnjudged l regions before call after why
-    ⊎ IsUntold l regions before call.cpu call.step why)
+    ⊎ IsUnpredicted l regions before call.cpu call.step why)
 
 -- the reply that the model gives, whatever the tables and free frames
-abbrev pub IsToldOnly : Freedoms → Layout → Contents → ℕ → Step → Reply → Type 0
-IsToldOnly w l before cpu step reply =
-    (after : Contents) × IsToldFreely w l before cpu step reply after
+abbrev pub IsModelReplyOnly : Freedoms → Layout → Contents → ℕ → Step → Reply → Type 0
+IsModelReplyOnly w l before cpu step reply =
+    (after : Contents) × IsPredictedFreely w l before cpu step reply after
 
 module _ (w : Freedoms) (l : Layout) (cpus : ℕ) (before : Contents) (cpu : ℕ) (step : Step) where
   -- the lists after the call make a state, and this is found of it
   pub record IsCompared (reply : Reply) (after : Lists) (found : Option Disagreement) : Type 0 where
     pub taken : AreTaken cpus after
-    pub judged : IsJudgedFreely w l before cpu step reply (contents_said after) found
+    pub judged : IsJudgedFreely w l before cpu step reply (contents_from_c after) found
 
   -- a refusal by a number that the model doesn't know counts as any refusal if that freedom is
   -- given; else it disagrees, and so does a call that stopped the machine
@@ -100,9 +102,11 @@ module _ (w : Freedoms) (l : Layout) (cpus : ℕ) (before : Contents) (cpu : ℕ
       × IsCompared (Refused Contended) after o
       × (found ≡ option_map (renamed n) o)))
       ⊎ ((w.any_refusal ≡ false)
-      × ((spec : Reply) × IsToldOnly w l before cpu step spec × (found ≡ Some (Refusal n spec))))
+      × ((spec : Reply)
+      × IsModelReplyOnly w l before cpu step spec
+      × (found ≡ Some (Refusal n spec))))
   IsFoundOf said.Stopped after found =
-      (spec : Reply) × IsToldOnly w l before cpu step spec × (found ≡ Some (Stopped spec))
+      (spec : Reply) × IsModelReplyOnly w l before cpu step spec × (found ≡ Some (Stopped spec))
 
 -- judged up to the freedoms
 pub record IsFoundFreely (w : Freedoms) (l : PlainLayout) (regions : List PlainRegion)
@@ -111,22 +115,22 @@ pub record IsFoundFreely (w : Freedoms) (l : PlainLayout) (regions : List PlainR
   pub can : CanCall l regions before call.cpu call.step step
   pub says : Said
   pub says_is : said_of call.reply ≡ Some says
-  pub found_is : IsFoundOf w (layout_said l regions) l.cpus
-      (contents_said before) call.cpu step says after found
+  pub found_is : IsFoundOf w (layout_from_c l regions) l.cpus
+      (contents_from_c before) call.cpu step says after found
 
 -- why a call isn't judged so
 abbrev pub IsUnfoundFreely : PlainLayout → List PlainRegion → Lists → PlainCall → Lists → Unjudged
     → Type 0
-IsUnfoundFreely l regions before call after unjudged.Step = step_said call.step ≡ None
+IsUnfoundFreely l regions before call after unjudged.Step = step_from_c call.step ≡ None
 IsUnfoundFreely l regions before call after unjudged.Reply =
-    IsSome (step_said call.step) × (said_of call.reply ≡ None)
+    IsSome (step_from_c call.step) × (said_of call.reply ≡ None)
 IsUnfoundFreely l regions before call after (unjudged.After why) =
     IsSome (said_of call.reply)
     × ((step : Step) × CanCall l regions before call.cpu call.step step)
     × IsUnjudgedAfter l regions after (unjudged.After why)
 IsUnfoundFreely l regions before call after unjudged.NoMemory = Unit {0}
 IsUnfoundFreely l regions before call after why =
-    IsSome (said_of call.reply) × IsUntold l regions before call.cpu call.step why
+    IsSome (said_of call.reply) × IsUnpredicted l regions before call.cpu call.step why
 
 -- judged by the layout's freedoms
 abbrev pub IsFoundBy : PlainLayout → List PlainRegion → Lists → PlainCall → Lists → Option Freedoms

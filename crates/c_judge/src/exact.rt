@@ -1,8 +1,8 @@
 //! A call judged exactly.
 ghost use Rattle.std.specs.Prelude.{◌≡◌, IfErr, IfOk};
-ghost use Rattle.c_states.specs.Judged.{told_said, CanCall, IsUntold};
-ghost use Rattle.c_states.specs.Views.{lists_told};
-ghost use Rattle.c_judge.specs.Found.{IsFoundExactly, IsTold, IsUnfoundExactly};
+ghost use Rattle.c_states.specs.Judged.{prediction_from_c, CanCall, IsUnpredicted};
+ghost use Rattle.c_states.specs.Views.{lists_from_c};
+ghost use Rattle.c_judge.specs.Found.{IsFoundExactly, IsModelReply, IsUnfoundExactly};
 
 use crate::found::Found;
 use crate::ready::ready;
@@ -21,8 +21,10 @@ fn told(
     cpu: u64,
     step: PlainStep,
 ) -> Result<Reply, Unjudged>
-    ensures told { IfOk result (IsTold layout.now layout.now.regions.now (lists_told before.now) cpu step) }
-    ensures untold { IfErr result (IsUntold layout.now layout.now.regions.now (lists_told before.now) cpu step) }
+    ensures told { IfOk result
+        (IsModelReply layout.now layout.now.regions.now (lists_from_c before.now) cpu step) }
+    ensures unpredicted { IfErr result
+        (IsUnpredicted layout.now layout.now.regions.now (lists_from_c before.now) cpu step) }
 {
     let (step, pre) = ready(alloc, layout, before, cpu, step)?;
     match predict_last(alloc, pre, cpu, step) {
@@ -43,11 +45,11 @@ pub(crate) fn found_exactly(
     after: &PlainState<'_>,
 ) -> Result<Option<Found>, Unjudged>
     ensures found { IfOk result
-        (IsFoundExactly layout.now layout.now.regions.now (lists_told before.now) call.now
-        (lists_told after.now)) }
+        (IsFoundExactly layout.now layout.now.regions.now (lists_from_c before.now) call.now
+        (lists_from_c after.now)) }
     ensures unfound { IfErr result
-        (IsUnfoundExactly layout.now layout.now.regions.now (lists_told before.now) call.now
-        (lists_told after.now)) }
+        (IsUnfoundExactly layout.now layout.now.regions.now (lists_from_c before.now) call.now
+        (lists_from_c after.now)) }
 {
     if step_of(call.step).is_none() {
         return Err(Unjudged::Step);

@@ -1,14 +1,14 @@
 //! A call judged up to a hypervisor's freedoms.
 ghost use Rattle.std.specs.Prelude.{◌≡◌, ◌<◌, IfErr, IfOk};
 ghost use Rattle.page_state.specs.LayoutView.{layout_of};
-ghost use Rattle.free_judge.specs.Freely.{IsJudgedFreely, IsToldFreely};
+ghost use Rattle.free_judge.specs.Freely.{IsJudgedFreely, IsPredictedFreely};
 ghost use Rattle.ghost_spec.specs.Kept.{HasNextGeneration};
 ghost use Rattle.ghost_spec.specs.States.{contents_in};
 ghost use Rattle.c_states.specs.Faults.{AreTaken};
 ghost use Rattle.c_states.specs.Judged.{IsUnjudgedAfter};
-ghost use Rattle.c_states.specs.States.{contents_said};
-ghost use Rattle.c_states.specs.Views.{lists_told};
-ghost use Rattle.c_judge.specs.Found.{differs, renamed, IsCompared, IsFoundFreely, IsFoundOf, IsToldOnly, IsUnfoundFreely};
+ghost use Rattle.c_states.specs.States.{contents_from_c};
+ghost use Rattle.c_states.specs.Views.{lists_from_c};
+ghost use Rattle.c_judge.specs.Found.{differs, renamed, IsCompared, IsFoundFreely, IsFoundOf, IsModelReplyOnly, IsUnfoundFreely};
 
 use crate::found::Found;
 use crate::ready::ready;
@@ -16,7 +16,7 @@ use crate::reply::{Said, said_of};
 use c_states::{PlainCall, PlainLayout, PlainState, Unjudged, made};
 use c_words::step_of;
 use call_table::{Refusal, Reply, Step};
-use free_judge::judge::{judge_freely, told_freely};
+use free_judge::judge::{judge_freely, predicted_freely};
 use freedoms::Freedoms;
 use ghost_judge::disagreement::Disagreement;
 use ghost_spec::state::Ghost;
@@ -37,8 +37,8 @@ fn compared(
     requires generation { HasNextGeneration ((contents_in pre.now).cpu cpu).ticket step }
     ensures judged { IfOk result
         (IsCompared freedoms (layout_of pre.now.layout) layout.now.cpus
-        (contents_in pre.now) cpu step reply (lists_told after.now)) }
-    ensures unjudged { IfErr result (IsUnjudgedAfter layout.now layout.now.regions.now (lists_told after.now)) }
+        (contents_in pre.now) cpu step reply (lists_from_c after.now)) }
+    ensures unjudged { IfErr result (IsUnjudgedAfter layout.now layout.now.regions.now (lists_from_c after.now)) }
 {
     match made(alloc, layout, after) {
         Ok(post) => match judge_freely(alloc, freedoms, pre, cpu, step, &reply, &post) {
@@ -59,11 +59,12 @@ fn told(
 ) -> Result<Reply, Unjudged>
     requires cpu { cpu < pre.now.layout.config.cpus }
     requires generation { HasNextGeneration ((contents_in pre.now).cpu cpu).ticket step }
-    ensures told { IfOk result (IsToldOnly freedoms (layout_of pre.now.layout) (contents_in pre.now) cpu step) }
-    ensures untold { IfErr result (λ why. why ≡ Unjudged.NoMemory) }
+    ensures told { IfOk result
+        (IsModelReplyOnly freedoms (layout_of pre.now.layout) (contents_in pre.now) cpu step) }
+    ensures unpredicted { IfErr result (λ why. why ≡ Unjudged.NoMemory) }
 {
     let said = Reply::Refused(Refusal::Contended);
-    match told_freely(alloc, freedoms, pre, cpu, step, said) {
+    match predicted_freely(alloc, freedoms, pre, cpu, step, said) {
         Ok((reply, after)) => {
             drop(after);
             Ok(reply)
@@ -97,8 +98,8 @@ fn found_from(
     requires generation { HasNextGeneration ((contents_in pre.now).cpu cpu).ticket step }
     ensures found { IfOk result
         (IsFoundOf freedoms (layout_of pre.now.layout) layout.now.cpus
-        (contents_in pre.now) cpu step said (lists_told after.now)) }
-    ensures unfound { IfErr result (IsUnjudgedAfter layout.now layout.now.regions.now (lists_told after.now)) }
+        (contents_in pre.now) cpu step said (lists_from_c after.now)) }
+    ensures unfound { IfErr result (IsUnjudgedAfter layout.now layout.now.regions.now (lists_from_c after.now)) }
 {
     match said {
         Said::Known(reply) => {
@@ -134,10 +135,10 @@ pub(crate) fn found_freely(
 ) -> Result<Option<Found>, Unjudged>
     ensures found { IfOk result
         (IsFoundFreely freedoms layout.now layout.now.regions.now
-        (lists_told before.now) call.now (lists_told after.now)) }
+        (lists_from_c before.now) call.now (lists_from_c after.now)) }
     ensures unfound { IfErr result
-        (IsUnfoundFreely layout.now layout.now.regions.now (lists_told before.now) call.now
-        (lists_told after.now)) }
+        (IsUnfoundFreely layout.now layout.now.regions.now (lists_from_c before.now) call.now
+        (lists_from_c after.now)) }
 {
     if step_of(call.step).is_none() {
         return Err(Unjudged::Step);

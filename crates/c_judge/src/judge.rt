@@ -1,6 +1,6 @@
 //! A call judged by its layout's freedoms.
 ghost use Rattle.std.specs.Prelude.{IfErr, IfOk};
-ghost use Rattle.c_states.specs.Views.{lists_told};
+ghost use Rattle.c_states.specs.Views.{lists_from_c};
 ghost use Rattle.c_judge.specs.Found.{IsFound, IsUnfound};
 
 use crate::exact::found_exactly;
@@ -20,11 +20,11 @@ pub fn judged_by(
     after: &PlainState<'_>,
 ) -> Result<Option<Found>, Unfound>
     ensures found { IfOk result
-        (IsFound layout.now layout.now.regions.now (lists_told before.now) call.now
-        (lists_told after.now)) }
+        (IsFound layout.now layout.now.regions.now (lists_from_c before.now) call.now
+        (lists_from_c after.now)) }
     ensures unfound { IfErr result
-        (IsUnfound layout.now layout.now.regions.now (lists_told before.now) call.now
-        (lists_told after.now)) }
+        (IsUnfound layout.now layout.now.regions.now (lists_from_c before.now) call.now
+        (lists_from_c after.now)) }
 {
     let freedoms = match freedoms_of(layout.freedoms) {
         Ok(freedoms) => freedoms,

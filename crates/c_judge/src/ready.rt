@@ -1,7 +1,7 @@
 //! A step of a CPU on a state, both in numbers.
 ghost use Rattle.std.specs.Prelude.{◌≡◌, IfErr, IfOk};
-ghost use Rattle.c_states.specs.Judged.{IsUntold};
-ghost use Rattle.c_states.specs.Views.{lists_told};
+ghost use Rattle.c_states.specs.Judged.{IsUnpredicted};
+ghost use Rattle.c_states.specs.Views.{lists_from_c};
 ghost use Rattle.c_judge.specs.Ready.{IsCallable};
 
 use c_states::{PlainLayout, PlainState, Unjudged, made};
@@ -20,8 +20,9 @@ pub(crate) fn ready(
 ) -> Result<(Step, Ghost), Unjudged>
     ensures ready { IfOk result
         (λ r. IsCallable layout.now layout.now.regions.now
-        (lists_told before.now) cpu step r.0 r.1) }
-    ensures untold { IfErr result (IsUntold layout.now layout.now.regions.now (lists_told before.now) cpu step) }
+        (lists_from_c before.now) cpu step r.0 r.1) }
+    ensures unpredicted { IfErr result
+        (IsUnpredicted layout.now layout.now.regions.now (lists_from_c before.now) cpu step) }
 {
     let Some(step) = step_of(step) else {
         return Err(Unjudged::Step);

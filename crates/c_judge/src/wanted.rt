@@ -1,6 +1,6 @@
 //! Freedoms in numbers.
 ghost use Rattle.std.specs.Prelude.{◌≡◌, IfErr, IfOk};
-ghost use Rattle.c_judge.specs.Freedoms.{freedoms_said, IsFreedomsFault, IsTakenAs};
+ghost use Rattle.c_judge.specs.Freedoms.{freedoms_from_c, IsFreedomsFault, IsTakenAs};
 
 use freedoms::Freedoms;
 

@@ -17,14 +17,14 @@ use Rattle.ghost_trees.specs.declared.tree.Table.{Table}
 use Rattle.ghost_trees.specs.Apart.{AreOtherFrames, AreOtherTables, AreRunsDisjoint}
 use Rattle.ghost_spec.specs.declared.filled.GhostFault.{GhostFault}
 use Rattle.ghost_spec.specs.declared.filled.GhostFault.TheVariants.{Overlap, TableTwice, FrameTwice}
-use Rattle.c_words.specs.Said.{target_said}
+use Rattle.c_words.specs.Said.{target_from_c}
 use Rattle.c_states.specs.declared.members.PlainFrame.{PlainFrame}
 use Rattle.c_states.specs.declared.members.PlainRun.{PlainRun}
 use Rattle.c_states.specs.declared.members.PlainTable.{PlainTable}
 use Rattle.c_states.specs.declared.state.PlainList.{PlainList}
 use Rattle.c_states.specs.Clashes.{do_frames_clash, do_runs_clash, do_tables_clash, HasNoClash, IsFirstClash}
 use Rattle.c_states.specs.Faults.{HaveFramesApart, HaveRunsApart, HaveTablesApart, IsCulprit, IsFirstOfLists}
-use Rattle.c_states.specs.Lists.{frame_said, range_said, run_said, table_said}
+use Rattle.c_states.specs.Lists.{frame_from_c, range_from_c, run_from_c, table_from_c}
 use Rattle.c_states.specs.States.{Lists}
 
 -- a member and each later one don't clash
@@ -97,12 +97,12 @@ far ta tb a n b m page e f g h = grind (arith, nat_tests)
 
 runs_differ : (tree : ℕ) (a b : PlainRun) (r s : Run)
     → do_runs_clash b a ≡ false
-    → run_said tree a ≡ Some r
-    → run_said tree b ≡ Some s
+    → run_from_c tree a ≡ Some r
+    → run_from_c tree b ≡ Some s
     → AreRunsDisjoint r s
 runs_differ tree a b r s f x y page g h =
-    let first = run_of (a.tree == tree) (target_said a.word) (range_said a.page a.count) r x in
-    let second = run_of (b.tree == tree) (target_said b.word) (range_said b.page b.count) s y in
+    let first = run_of (a.tree == tree) (target_from_c a.word) (range_from_c a.page a.count) r x in
+    let second = run_of (b.tree == tree) (target_from_c b.word) (range_from_c b.page b.count) s y in
     let t : a.tree ≡ tree = let i = first.0 in grind (arith, nat_tests) in
     let u : b.tree ≡ tree = let i = second.0 in grind (arith, nat_tests) in
     far a.tree b.tree a.page a.count b.page b.count page (t ∙ sym u) f
@@ -117,8 +117,8 @@ tables_far ta tb ha hb ia ib fa fb e f = (λ h i. grind (arith, nat_tests), λ h
 
 tables_differ : (tree : ℕ) (a b : PlainTable) (r s : Table)
     → do_tables_clash b a ≡ false
-    → table_said tree a ≡ Some r
-    → table_said tree b ≡ Some s
+    → table_from_c tree a ≡ Some r
+    → table_from_c tree b ≡ Some s
     → AreOtherTables r s
 tables_differ tree a b r s f x y =
     let first = said_of (a.tree == tree) (record { block = (a.height, a.index); frame = a.frame }) r x in
@@ -138,8 +138,8 @@ frames_far pa pb fa fb e f h = grind (arith, nat_tests)
 
 frames_differ : (pool : ℕ) (a b : PlainFrame) (r s : ℕ)
     → do_frames_clash b a ≡ false
-    → frame_said pool a ≡ Some r
-    → frame_said pool b ≡ Some s
+    → frame_from_c pool a ≡ Some r
+    → frame_from_c pool b ≡ Some s
     → AreOtherFrames r s
 frames_differ pool a b r s f x y e =
     let first = said_of (a.pool == pool) a.frame r x in
@@ -150,17 +150,17 @@ frames_differ pool a b r s f x y e =
 
 pub runs_apart : (p : Lists) → HasNoClash do_runs_clash p.runs → HaveRunsApart p
 runs_apart p none tree l =
-    pairs_said (run_said tree) (λ a b. do_runs_clash b a ≡ false) AreRunsDisjoint (runs_differ tree) p.runs
+    pairs_said (run_from_c tree) (λ a b. do_runs_clash b a ≡ false) AreRunsDisjoint (runs_differ tree) p.runs
     (pairs_apart do_runs_clash p.runs none)
 
 pub tables_apart : (p : Lists) → HasNoClash do_tables_clash p.tables → HaveTablesApart p
 tables_apart p none tree l =
-    pairs_said (table_said tree) (λ a b. do_tables_clash b a ≡ false) AreOtherTables (tables_differ tree) p.tables
+    pairs_said (table_from_c tree) (λ a b. do_tables_clash b a ≡ false) AreOtherTables (tables_differ tree) p.tables
     (pairs_apart do_tables_clash p.tables none)
 
 pub frames_apart : (p : Lists) → HasNoClash do_frames_clash p.frames → HaveFramesApart p
 frames_apart p none pool some l =
-    pairs_said (frame_said pool) (λ a b. do_frames_clash b a ≡ false) AreOtherFrames (frames_differ pool) p.frames
+    pairs_said (frame_from_c pool) (λ a b. do_frames_clash b a ≡ false) AreOtherFrames (frames_differ pool) p.frames
     (pairs_apart do_frames_clash p.frames none)
 
 -- where no two members clash there is none to tell, and no fault

@@ -13,8 +13,8 @@ use Rattle.ghost_spec.specs.declared.lists.GhostLists.{GhostLists}
 use Rattle.ghost_spec.specs.Filled.{HasFramesApart, HasLowNumbers, HasRunsApart, HasTablesApart}
 use Rattle.ghost_spec.specs.Views.{cpu_in}
 use Rattle.c_states.specs.Faults.{HaveFramesApart, HaveLowNumbers, HaveRunsApart, HaveTablesApart, IsLowCpu}
-use Rattle.c_states.specs.Filled.{GuestLists, guest_lists_said, lists_in, IsFilled}
-use Rattle.c_states.specs.Lists.{cpu_listed, cpu_said, frames_said, guest_listed, runs_said, tables_said}
+use Rattle.c_states.specs.Filled.{GuestLists, guest_lists_from_c, lists_in, IsFilled}
+use Rattle.c_states.specs.Lists.{cpu_listed, cpu_from_c, frames_from_c, guest_listed, runs_from_c, tables_from_c}
 use Rattle.c_states.specs.States.{Lists}
 use Rattle.c_states.proofs.Telling.{map_at}
 
@@ -60,23 +60,23 @@ abbrev AreLow : List ℕ → Type 0
 AreLow fs = All (λ f. f ≤ 2 ^ 62) fs
 
 module _ (cpus : ℕ) (p : Lists) (l : GhostLists) (f : IsFilled cpus p l) where
-  abbrev guest_said : ℕ → GuestLists
-  guest_said v = guest_lists_said p v (guest_listed p.guests v)
+  abbrev guest_from_c : ℕ → GuestLists
+  guest_from_c v = guest_lists_from_c p v (guest_listed p.guests v)
 
   abbrev own_said : ℕ → Cpu
-  own_said c = cpu_said (cpu_listed p.cpus c)
+  own_said c = cpu_from_c (cpu_listed p.cpus c)
 
   guests_in : (Q : GuestLists → Type 0)
-      → ((v : ℕ) → v < 64 → Q (guest_said v))
+      → ((v : ℕ) → v < 64 → Q (guest_from_c v))
       → All (λ g. Q (lists_in g)) l.guests.items
-  guests_in Q h = all_in lists_in guest_said 64 l.guests.items f.guests Q h
+  guests_in Q h = all_in lists_in guest_from_c 64 l.guests.items f.guests Q h
 
   guests_out : (Q : GuestLists → Type 0)
       → All (λ g. Q (lists_in g)) l.guests.items
       → (v : ℕ)
       → v < 64
-      → Q (guest_said v)
-  guests_out Q h = all_out lists_in guest_said 64 l.guests.items f.guests Q h
+      → Q (guest_from_c v)
+  guests_out Q h = all_out lists_in guest_from_c 64 l.guests.items f.guests Q h
 
   pub runs_in : HaveRunsApart p → HasRunsApart l
   runs_in h = record {
@@ -87,7 +87,7 @@ module _ (cpus : ℕ) (p : Lists) (l : GhostLists) (f : IsFilled cpus p l) where
 
   pub runs_out : HasRunsApart l → HaveRunsApart p
   runs_out h =
-      by_tree (λ n. AreRunsApart (runs_said p.runs n)) (subst AreRunsApart f.shared.host.runs h.host)
+      by_tree (λ n. AreRunsApart (runs_from_c p.runs n)) (subst AreRunsApart f.shared.host.runs h.host)
       (subst AreRunsApart f.shared.hyp.runs h.hyp) (guests_out (λ g. AreRunsApart g.runs) h.guests)
 
   pub tables_in : HaveTablesApart p → HasTablesApart l
@@ -99,7 +99,7 @@ module _ (cpus : ℕ) (p : Lists) (l : GhostLists) (f : IsFilled cpus p l) where
 
   pub tables_out : HasTablesApart l → HaveTablesApart p
   tables_out h =
-      by_tree (λ n. AreTablesApart (tables_said p.tables n)) (subst AreTablesApart f.shared.host.tables h.host)
+      by_tree (λ n. AreTablesApart (tables_from_c p.tables n)) (subst AreTablesApart f.shared.host.tables h.host)
       (subst AreTablesApart f.shared.hyp.tables h.hyp) (guests_out (λ g. AreTablesApart g.tables) h.guests)
 
   pub frames_in : HaveFramesApart p → HasFramesApart l
@@ -110,7 +110,7 @@ module _ (cpus : ℕ) (p : Lists) (l : GhostLists) (f : IsFilled cpus p l) where
 
   pub frames_out : HasFramesApart l → HaveFramesApart p
   frames_out h =
-      by_pool (λ n. AreFramesApart (frames_said p.frames n)) (subst AreFramesApart f.shared.free h.shared)
+      by_pool (λ n. AreFramesApart (frames_from_c p.frames n)) (subst AreFramesApart f.shared.free h.shared)
       (guests_out (λ g. AreFramesApart g.free) h.guests)
 
   pub low_in : HaveLowNumbers cpus p → HasLowNumbers l
@@ -145,16 +145,16 @@ module _ (cpus : ℕ) (p : Lists) (l : GhostLists) (f : IsFilled cpus p l) where
   pub low_out : HasLowNumbers l → HaveLowNumbers cpus p
   low_out h = record {
     runs =
-        by_tree (λ n. AreSmall (runs_said p.runs n)) (subst AreSmall f.shared.host.runs h.shared.host.runs)
+        by_tree (λ n. AreSmall (runs_from_c p.runs n)) (subst AreSmall f.shared.host.runs h.shared.host.runs)
         (subst AreSmall f.shared.hyp.runs h.shared.hyp.runs)
         (guests_out (λ g. AreSmall g.runs) (λ k d less. (h.guests k d less).tree.runs));
     tables =
-        by_tree (λ n. AreLowTables (tables_said p.tables n))
+        by_tree (λ n. AreLowTables (tables_from_c p.tables n))
         (subst AreLowTables f.shared.host.tables h.shared.host.tables)
         (subst AreLowTables f.shared.hyp.tables h.shared.hyp.tables)
         (guests_out (λ g. AreLowTables g.tables) (λ k d less. (h.guests k d less).tree.tables));
     frames =
-        by_pool (λ n. AreLow (frames_said p.frames n)) (subst AreLow f.shared.free h.shared.free)
+        by_pool (λ n. AreLow (frames_from_c p.frames n)) (subst AreLow f.shared.free h.shared.free)
         (guests_out (λ g. AreLow g.free) (λ k d less. (h.guests k d less).free));
     cpus_are =
         all_out cpu_in own_said cpus l.cpus.items f.cpus IsLowCpu

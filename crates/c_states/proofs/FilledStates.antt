@@ -27,9 +27,9 @@ use Rattle.ghost_spec.specs.Views.{cpu_in, row_in}
 use Rattle.c_states.specs.declared.state.PlainFault.{PlainFault}
 use Rattle.c_states.specs.declared.state.PlainFault.TheVariants.{Unknown, Rows as RowsFault, Twice, Lists as ListsFault, NoMemory}
 use Rattle.c_states.specs.Faults.{first_unknown_of, AreRead, AreTaken, IsFirstOfLists, IsListsFault, IsPlainFault}
-use Rattle.c_states.specs.Filled.{GuestLists, guest_lists_said, lists_in, slot_filled, IsFilled, IsFilledTree, IsRoomy}
-use Rattle.c_states.specs.Lists.{cpu_listed, cpu_said, frames_said, guest_listed, rows_said, slot_listed, slot_said}
-use Rattle.c_states.specs.States.{Lists, guest_said, rooms_said, state_said, tree_said}
+use Rattle.c_states.specs.Filled.{GuestLists, guest_lists_from_c, lists_in, slot_filled, IsFilled, IsFilledTree, IsRoomy}
+use Rattle.c_states.specs.Lists.{cpu_listed, cpu_from_c, frames_from_c, guest_listed, rows_from_c, slot_listed, slot_from_c}
+use Rattle.c_states.specs.States.{Lists, guest_from_c, rooms_from_c, state_from_c, tree_from_c}
 use Rattle.c_states.proofs.FilledLists.{frames_in, frames_out, low_in, low_out, runs_in, runs_out, tables_in, tables_out}
 use Rattle.c_states.proofs.KnownLists.{cpu_whole, known_cpus, known_loads, slot_whole}
 use Rattle.c_states.proofs.OneMore.{by_numbers}
@@ -50,7 +50,7 @@ whole slot host hyp free row guest cpu rooms =
 abbrev tree_from : List Run → List Table → Tree
 tree_from runs tables = record { map = map_of runs; table = table_of tables }
 
-tree_at : (p : Lists) (n : ℕ) (t : TreeOfLists) → IsFilledTree p n t → tree_in_lists t ≡ tree_said p n
+tree_at : (p : Lists) (n : ℕ) (t : TreeOfLists) → IsFilledTree p n t → tree_in_lists t ≡ tree_from_c p n
 tree_at p n t f = same2 tree_from f.runs f.tables
 
 -- the guest of its lists
@@ -71,15 +71,15 @@ guests_seen (g ∷ gs) zero = refl
 guests_seen (g ∷ gs) (suc v) = guests_seen gs v
 
 guests_from : (p : Lists) (vs : List ℕ)
-    → map guest_from (map (λ n. guest_lists_said p n (guest_listed p.guests n)) vs)
-    ≡ map (λ n. guest_said p n (guest_listed p.guests n)) vs
+    → map guest_from (map (λ n. guest_lists_from_c p n (guest_listed p.guests n)) vs)
+    ≡ map (λ n. guest_from_c p n (guest_listed p.guests n)) vs
 guests_from p [] = refl
-guests_from p (v ∷ vs) = ap (λ (xs : List Guest). guest_said p v (guest_listed p.guests v) ∷ xs) (guests_from p vs)
+guests_from p (v ∷ vs) = ap (λ (xs : List Guest). guest_from_c p v (guest_listed p.guests v) ∷ xs) (guests_from p vs)
 
 -- what lists that are filled in number by number have at a number
 slots_at : (cpus : ℕ) (p : Lists) (l : GhostLists) → first_unknown_of cpus p ≡ None → IsFilled cpus p l → (v : ℕ)
     → get_or (map slot_in l.vms.items) v (no_slot 1)
-    ≡ (if nat_lt v 64 then slot_said p.loads v (slot_listed p.slots v) else no_slot 1)
+    ≡ (if nat_lt v 64 then slot_from_c p.loads v (slot_listed p.slots v) else no_slot 1)
 slots_at cpus p l known f v =
     ap (λ (xs : List Slot). get_or xs v (no_slot 1)) f.slots
     ∙ (by_numbers (λ n. slot_filled p.loads n (slot_listed p.slots n)) (no_slot 1) 64 v
@@ -88,17 +88,17 @@ slots_at cpus p l known f v =
 
 guests_at : (cpus : ℕ) (p : Lists) (l : GhostLists) → IsFilled cpus p l → (v : ℕ)
     → ordered (get_or (map guest_in l.guests.items) v no_guest)
-    ≡ (if nat_lt v 64 then guest_said p v (guest_listed p.guests v) else no_guest)
+    ≡ (if nat_lt v 64 then guest_from_c p v (guest_listed p.guests v) else no_guest)
 guests_at cpus p l f v =
     guests_seen l.guests.items v ∙ (ap (λ (xs : List GuestLists). get_or (map guest_from xs) v no_guest) f.guests
     ∙ (ap (λ (xs : List Guest). get_or xs v no_guest) (guests_from p (range_with_len 0 64))
-    ∙ by_numbers (λ n. guest_said p n (guest_listed p.guests n)) no_guest 64 v))
+    ∙ by_numbers (λ n. guest_from_c p n (guest_listed p.guests n)) no_guest 64 v))
 
 cpus_at : (cpus : ℕ) (p : Lists) (l : GhostLists) → first_unknown_of cpus p ≡ None → IsFilled cpus p l → (c : ℕ)
-    → get_or (map cpu_in l.cpus.items) c no_cpu ≡ cpu_said (cpu_listed p.cpus c)
+    → get_or (map cpu_in l.cpus.items) c no_cpu ≡ cpu_from_c (cpu_listed p.cpus c)
 cpus_at cpus p l known f c =
     ap (λ (xs : List Cpu). get_or xs c no_cpu) f.cpus
-    ∙ (by_numbers (λ n. cpu_said (cpu_listed p.cpus n)) no_cpu cpus c
+    ∙ (by_numbers (λ n. cpu_from_c (cpu_listed p.cpus n)) no_cpu cpus c
     ∙ cpu_whole cpus p.cpus (known_cpus cpus p known) c)
 
 ones_at : (xs : List ℕ) → All (λ n. n ≡ 1) xs → (v : ℕ) → get_or xs v 1 ≡ 1
@@ -110,7 +110,7 @@ rooms_from vms shared guest cpu = record { vms = vms; shared = shared; guest = g
 rooms_at : (l : GhostLists)
     → IsRoomy l.rooms
     → l.layout.config.log ≡ 1
-    → rooms_in l.layout.config.log l.rooms ≡ rooms_said
+    → rooms_in l.layout.config.log l.rooms ≡ rooms_from_c
 rooms_at l r log =
     ap (λ (n : ℕ). rooms_in n l.rooms) log
     ∙ (same2
@@ -123,18 +123,18 @@ rooms_at l r log =
 pub filled_state : (cpus : ℕ) (p : Lists) (l : GhostLists)
     → first_unknown_of cpus p ≡ None
     → IsFilled cpus p l
-    → state_filled l ≡ state_said p
+    → state_filled l ≡ state_from_c p
 filled_state cpus p l known f =
-    let slots : (λ v. get_or (map slot_in l.vms.items) v (no_slot 1)) ≡ (λ v. if nat_lt v 64 then slot_said p.loads v (slot_listed p.slots v) else no_slot 1) =
+    let slots : (λ v. get_or (map slot_in l.vms.items) v (no_slot 1)) ≡ (λ v. if nat_lt v 64 then slot_from_c p.loads v (slot_listed p.slots v) else no_slot 1) =
     fun_ext (slots_at cpus p l known f) in
     let host = tree_at p 0 l.shared.host f.shared.host in
     let hyp = tree_at p 1 l.shared.hyp f.shared.hyp in
     let free = ap in_order f.shared.free in
-    let rows : row_in l.shared.rows.runs ≡ row_in (rows_said p.rows) =
+    let rows : row_in l.shared.rows.runs ≡ row_in (rows_from_c p.rows) =
     ap {B = ℕ → Row} (λ (m : ℕ → Option Row) n. unwrap_or (m n) plain_row) f.shared.rows in
-    let guests : (λ v. ordered (get_or (map guest_in l.guests.items) v no_guest)) ≡ (λ v. if nat_lt v 64 then guest_said p v (guest_listed p.guests v) else no_guest) =
+    let guests : (λ v. ordered (get_or (map guest_in l.guests.items) v no_guest)) ≡ (λ v. if nat_lt v 64 then guest_from_c p v (guest_listed p.guests v) else no_guest) =
     fun_ext (guests_at cpus p l f) in
-    let own : (λ c. get_or (map cpu_in l.cpus.items) c no_cpu) ≡ (λ c. cpu_said (cpu_listed p.cpus c)) =
+    let own : (λ c. get_or (map cpu_in l.cpus.items) c no_cpu) ≡ (λ c. cpu_from_c (cpu_listed p.cpus c)) =
     fun_ext (cpus_at cpus p l known f) in
     let rooms = rooms_at l f.rooms f.log in
     same2
@@ -143,19 +143,19 @@ filled_state cpus p l known f =
     (λ c. get_or (map cpu_in l.cpus.items) c no_cpu) (rooms_in l.layout.config.log l.rooms)) slots host
     ∙ (same2
     (λ (x : Tree) (y : Pool). whole
-    (λ v. if nat_lt v 64 then slot_said p.loads v (slot_listed p.slots v) else no_slot 1) (tree_said p 0) x y
+    (λ v. if nat_lt v 64 then slot_from_c p.loads v (slot_listed p.slots v) else no_slot 1) (tree_from_c p 0) x y
     (row_in l.shared.rows.runs) (λ v. ordered (get_or (map guest_in l.guests.items) v no_guest))
     (λ c. get_or (map cpu_in l.cpus.items) c no_cpu) (rooms_in l.layout.config.log l.rooms)) hyp free
     ∙ (same2
     (λ (x : ℕ → Row) (y : ℕ → Guest). whole
-    (λ v. if nat_lt v 64 then slot_said p.loads v (slot_listed p.slots v) else no_slot 1) (tree_said p 0)
-    (tree_said p 1) (in_order (frames_said p.frames 1)) x y
+    (λ v. if nat_lt v 64 then slot_from_c p.loads v (slot_listed p.slots v) else no_slot 1) (tree_from_c p 0)
+    (tree_from_c p 1) (in_order (frames_from_c p.frames 1)) x y
     (λ c. get_or (map cpu_in l.cpus.items) c no_cpu) (rooms_in l.layout.config.log l.rooms)) rows guests
     ∙ same2
     (λ (x : ℕ → Cpu) (y : Rooms). whole
-    (λ v. if nat_lt v 64 then slot_said p.loads v (slot_listed p.slots v) else no_slot 1) (tree_said p 0)
-    (tree_said p 1) (in_order (frames_said p.frames 1)) (row_in (rows_said p.rows))
-    (λ v. if nat_lt v 64 then guest_said p v (guest_listed p.guests v) else no_guest) x y) own rooms))
+    (λ v. if nat_lt v 64 then slot_from_c p.loads v (slot_listed p.slots v) else no_slot 1) (tree_from_c p 0)
+    (tree_from_c p 1) (in_order (frames_from_c p.frames 1)) (row_in (rows_from_c p.rows))
+    (λ v. if nat_lt v 64 then guest_from_c p v (guest_listed p.guests v) else no_guest) x y) own rooms))
 
 -- lists that are filled in have the counts of a state
 filled_counts : (cpus : ℕ) (p : Lists) (l : GhostLists)
@@ -170,10 +170,10 @@ filled_counts cpus p l f guests rooms are = record {
       ∙ (ap length f.slots ∙ length-map-range_with_len (λ n. slot_filled p.loads n (slot_listed p.slots n)) 0 64);
   guests =
       sym (length-map l.guests.items lists_in)
-      ∙ (ap length f.guests ∙ length-map-range_with_len (λ n. guest_lists_said p n (guest_listed p.guests n)) 0 64);
+      ∙ (ap length f.guests ∙ length-map-range_with_len (λ n. guest_lists_from_c p n (guest_listed p.guests n)) 0 64);
   cpus =
       sym (length-map l.cpus.items cpu_in)
-      ∙ (ap length f.cpus ∙ (length-map-range_with_len (λ n. cpu_said (cpu_listed p.cpus n)) 0 cpus ∙ sym are));
+      ∙ (ap length f.cpus ∙ (length-map-range_with_len (λ n. cpu_from_c (cpu_listed p.cpus n)) 0 cpus ∙ sym are));
   guest_rooms = guests;
   cpu_rooms = rooms ∙ sym are;
 }

@@ -15,7 +15,7 @@ use Rattle.c_states.specs.declared.state.PlainList.TheVariants as lists
 use Rattle.c_states.specs.Faults.{first_unknown_later, first_unknown_of, unknown_in}
 use Rattle.c_states.specs.Filled.{slot_filled}
 use Rattle.c_states.specs.Known.{is_cpu, is_frame, is_guest, is_load as is_known_load, is_row, is_run, is_slot, is_table}
-use Rattle.c_states.specs.Lists.{cpu_listed, cpu_said, is_load, loader_said, no_plain_cpu, slot_said}
+use Rattle.c_states.specs.Lists.{cpu_listed, cpu_from_c, is_load, loader_from_c, no_plain_cpu, slot_from_c}
 use Rattle.c_states.specs.States.{Lists}
 
 none_next : {X : Type 0} (test : X → Bool) (x : X) (xs : List X) (i : ℕ) (b : Bool) (rest : Option ℕ)
@@ -96,7 +96,7 @@ known_cpus cpus p known =
 late_load : (loads : List PlainLoad) (v i : ℕ)
     → position (λ l. not (is_known_load l)) loads ≡ None
     → nat_lt i 8 ≡ false
-    → loader_said loads v i ≡ None
+    → loader_from_c loads v i ≡ None
 late_load loads v i known late =
     ap (option_map (λ l. l.cpu)) (none_found is_known_load (is_load v i) (λ l k. grind (arith, nat_tests)) loads known)
 
@@ -109,17 +109,17 @@ late_cpu cpus ks c known late = none_found (is_cpu cpus) (λ k. k.cpu == c) (λ 
 -- so the cut at the eighth vCPU cuts nothing
 pub slot_whole : (loads : List PlainLoad) (v : ℕ) (s : PlainSlot)
     → position (λ l. not (is_known_load l)) loads ≡ None
-    → slot_filled loads v s ≡ slot_said loads v s
+    → slot_filled loads v s ≡ slot_from_c loads v s
 slot_whole loads v s known =
-    ap (λ (f : ℕ → Option ℕ). record (slot_said loads v s) { loaded = f })
+    ap (λ (f : ℕ → Option ℕ). record (slot_from_c loads v s) { loaded = f })
     (fun_ext (λ i. by_test (nat_lt i 8) (λ t. rw t refl) (λ t. rw t (sym (late_load loads v i known t)))))
 
 -- and CPUs past the last have nothing
 pub cpu_whole : (cpus : ℕ) (ks : List PlainCpu)
     → position (λ k. not (is_cpu cpus k)) ks ≡ None
     → (c : ℕ)
-    → (if nat_lt c cpus then cpu_said (cpu_listed ks c) else no_cpu) ≡ cpu_said (cpu_listed ks c)
+    → (if nat_lt c cpus then cpu_from_c (cpu_listed ks c) else no_cpu) ≡ cpu_from_c (cpu_listed ks c)
 cpu_whole cpus ks known c =
     by_test (nat_lt c cpus) (λ t. rw t refl)
     (λ t. rw t
-    (ap (λ (o : Option PlainCpu). cpu_said (unwrap_or o no_plain_cpu)) (sym (late_cpu cpus ks c known t))))
+    (ap (λ (o : Option PlainCpu). cpu_from_c (unwrap_or o no_plain_cpu)) (sym (late_cpu cpus ks c known t))))

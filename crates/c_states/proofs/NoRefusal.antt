@@ -1,4 +1,4 @@
--- What is taken, judged or foretold is refused for want of memory alone.
+-- What is taken, judged or predicted is refused for want of memory alone.
 use Rattle.std.proofs.Common.{◌≡◌, ℕ, suc, ◌+◌, ◌<◌, Bool, true, false, cond, not, List, [], ◌∷◌, Option, Some, None, get_or, refl, sym, ap, subst, ◌∙◌, arith}
 use Rattle.std.specs.Prelude.{◌==◌, ◌&&◌, ◌||◌, nat_lt, is_some, position}
 use Rattle.std.specs.List.{position_from}
@@ -10,7 +10,7 @@ use Rattle.call_table.specs.declared.step.Step.{Step}
 use Rattle.ghost_spec.specs.declared.filled.GhostFault.TheVariants.{TooLarge, Overlap, TableTwice, FrameTwice}
 use Rattle.ghost_spec.specs.Kept.{HasNextGeneration}
 use Rattle.c_words.specs.declared.step.PlainStep.{PlainStep}
-use Rattle.c_words.specs.Steps.{step_said}
+use Rattle.c_words.specs.Steps.{step_from_c}
 use Rattle.c_states.specs.declared.judge.Unjudged.{Unjudged}
 use Rattle.c_states.specs.declared.judge.Unjudged.TheVariants as unjudged
 use Rattle.c_states.specs.declared.judge.Unmade.TheVariants as unmade
@@ -23,9 +23,9 @@ use Rattle.c_states.specs.declared.state.PlainFault.TheVariants as faults
 use Rattle.c_states.specs.declared.state.PlainList.{PlainList}
 use Rattle.c_states.specs.declared.state.PlainList.TheVariants as lists
 use Rattle.c_states.specs.Faults.{first_unknown_of, unknown_in, AreTaken, AreOnce, IsPlainFault, IsTwice}
-use Rattle.c_states.specs.Judged.{CanCall, IsUntold}
+use Rattle.c_states.specs.Judged.{CanCall, IsUnpredicted}
 use Rattle.c_states.specs.Known.{has_known_ticket, is_cpu, is_frame, is_guest, is_load, is_row, is_run, is_slot, is_table}
-use Rattle.c_states.specs.Laws.{ForetoldElse, ForetoldKnown, ForetoldStateElse, JudgedElse, LacksMemory, MadeElse}
+use Rattle.c_states.specs.Laws.{PredictedElse, PredictedKnown, PredictedStateElse, JudgedElse, LacksMemory, MadeElse}
 use Rattle.c_states.specs.Layouts.{IsLayoutFault, IsTakenLayout}
 use Rattle.c_states.specs.States.{Lists}
 use Rattle.c_states.specs.Told.{AreKnown}
@@ -87,16 +87,16 @@ made_else l regions p (unmade.State (faults.Lists fault culprit)) ready taken h 
     absurd (let bad = plain_else l.cpus p (faults.Lists fault culprit) taken h.1 in cc)
 made_else l regions p (unmade.State faults.NoMemory) ready taken h = tt
 
-pub one_step : (plain : PlainStep) (a b : Step) → step_said plain ≡ Some a → step_said plain ≡ Some b → a ≡ b
+pub one_step : (plain : PlainStep) (a b : Step) → step_from_c plain ≡ Some a → step_from_c plain ≡ Some b → a ≡ b
 one_step plain a b h k = let same = sym h ∙ k in cc
 
 pub can_else : (l : PlainLayout) (regions : List PlainRegion) (before : Lists) (cpu : ℕ) (plain : PlainStep)
     (step : Step) (why : Unjudged)
     → CanCall l regions before cpu plain step
-    → IsUntold l regions before cpu plain why
+    → IsUnpredicted l regions before cpu plain why
     → LacksMemory why
 can_else l regions before cpu plain step unjudged.Step can h =
-    absurd (unknown_else (step_said plain) step h can.step_is)
+    absurd (unknown_else (step_from_c plain) step h can.step_is)
 can_else l regions before cpu plain step unjudged.Reply can h = absurd h
 can_else l regions before cpu plain step unjudged.Cpu can h =
     absurd (let least = h.1 in let most = can.cpu_is in omega (arith, least, most))
@@ -110,7 +110,7 @@ can_else l regions before cpu plain step unjudged.NoMemory can h = tt
 
 pub judged_else : JudgedElse
 judged_else l regions before call after found unjudged.Step j h =
-    absurd (unknown_else (step_said call.step) j.step h j.can.step_is)
+    absurd (unknown_else (step_from_c call.step) j.step h j.can.step_is)
 judged_else l regions before call after found unjudged.Reply j h = absurd (unknown_else _ j.reply h.1 j.reply_is)
 judged_else l regions before call after found unjudged.Cpu j h =
     can_else l regions before call.cpu call.step j.step unjudged.Cpu j.can h.1
@@ -122,10 +122,10 @@ judged_else l regions before call after found (unjudged.After why) j h =
     made_else l regions after why j.can.layout j.after_taken h.2
 judged_else l regions before call after found unjudged.NoMemory j h = tt
 
-pub foretold_else : ForetoldElse
+pub foretold_else : PredictedElse
 foretold_else l regions before cpu step reply why f h = can_else l regions before cpu step f.step why f.can h
 
-pub state_else : ForetoldStateElse
+pub state_else : PredictedStateElse
 state_else l regions before cpu step reply after why f h = can_else l regions before cpu step f.step why f.can h
 
 -- lists of known members have no unknown one
@@ -156,8 +156,8 @@ cpu_known true b true h k = h
 cpu_known true b false h k = absurd (let bad = k in cc)
 cpu_known false b c h k = absurd (let bad = h in cc)
 
-pub foretold_known : ForetoldKnown
-foretold_known l regions before cpu step reply after f loads own =
+pub predicted_known : PredictedKnown
+predicted_known l regions before cpu step reply after f loads own =
     let told = f.after_told in
     let rows = none_unknown is_row after.rows lists.Rows None told.rows refl in
     let cpus =

@@ -12,7 +12,7 @@ use Rattle.ghost_spec.specs.Filled.{AreLowRows, AreRowsApart, IsFirstRowFault}
 use Rattle.ghost_judge.specs.declared.disagreement.Disagreement.{Disagreement}
 use Rattle.ghost_judge.specs.Judgements.{JudgeAgrees, IsFirstJudged}
 use Rattle.ghost_judge.proofs.OneAnswer.{judged_else, judged_once as difference_once}
-use Rattle.c_words.specs.Said.{reply_said}
+use Rattle.c_words.specs.Said.{reply_from_c}
 use Rattle.c_words.specs.Written.{reply_written}
 use Rattle.c_states.specs.declared.judge.PlainCall.{PlainCall}
 use Rattle.c_states.specs.declared.layout.PlainLayout.{PlainLayout}
@@ -22,26 +22,27 @@ use Rattle.c_states.specs.declared.state.PlainList.{PlainList}
 use Rattle.c_states.specs.declared.state.PlainList.TheVariants as lists
 use Rattle.c_states.specs.Clashes.{do_frames_clash, do_runs_clash, do_tables_clash, have_one_cpu, have_one_guest, have_one_slot, IsFirstClash}
 use Rattle.c_states.specs.Faults.{first_unknown_of, IsCulprit, IsFirstOfLists, IsTwice}
-use Rattle.c_states.specs.Judged.{told_said, IsJudged}
-use Rattle.c_states.specs.Laws.{ForetoldOnce, ForetoldStateOnce, JudgedOnce, PlainFaultOnce}
-use Rattle.c_states.specs.States.{Lists, contents_said}
+use Rattle.c_states.specs.Judged.{prediction_from_c, IsJudged}
+use Rattle.c_states.specs.Laws.{PredictedOnce, PredictedStateOnce, JudgedOnce, PlainFaultOnce}
+use Rattle.c_states.specs.States.{Lists, contents_from_c}
 use Rattle.c_states.specs.Told.{in_pool_order}
 use Rattle.c_states.proofs.NoRefusal.{one_step, twice_else, unknown_else}
 
 -- predictions
 
-pub foretold_once : ForetoldOnce
+pub foretold_once : PredictedOnce
 foretold_once l regions before cpu step r s f g =
     f.reply_is
-    ∙ (ap (λ x. reply_written (told_said l regions before cpu x).0)
+    ∙ (ap (λ x. reply_written (prediction_from_c l regions before cpu x).0)
     (one_step step f.step g.step f.can.step_is g.can.step_is)
     ∙ sym g.reply_is)
 
-pub state_once : ForetoldStateOnce
+pub state_once : PredictedStateOnce
 state_once l regions before cpu step r s a b f g =
     let same = one_step step f.step g.step f.can.step_is g.can.step_is in (
-      f.reply_is ∙ (ap (λ x. reply_written (told_said l regions before cpu x).0) same ∙ sym g.reply_is),
-      f.after_is ∙ (ap (λ x. in_pool_order (told_said l regions before cpu x).1.contents) same ∙ sym g.after_is),
+      f.reply_is ∙ (ap (λ x. reply_written (prediction_from_c l regions before cpu x).0) same ∙ sym g.reply_is),
+      f.after_is
+          ∙ (ap (λ x. in_pool_order (prediction_from_c l regions before cpu x).1.contents) same ∙ sym g.after_is),
     )
 
 -- judgements
@@ -51,11 +52,13 @@ one_reply o a b h k = let same = sym h ∙ k in cc
 
 abbrev AgreesOf : PlainLayout → List PlainRegion → Lists → PlainCall → Lists → Step → Reply → Type 0
 AgreesOf l regions before call after step reply =
-    JudgeAgrees (contents_said before) step reply (contents_said after) (told_said l regions before call.cpu step)
+    JudgeAgrees (contents_from_c before) step reply (contents_from_c after)
+    (prediction_from_c l regions before call.cpu step)
 
 abbrev IsFirstOf : PlainLayout → List PlainRegion → Lists → PlainCall → Lists → Step → Reply → Disagreement → Type 0
 IsFirstOf l regions before call after step reply d =
-    IsFirstJudged (contents_said before) step reply (contents_said after) (told_said l regions before call.cpu step) d
+    IsFirstJudged (contents_from_c before) step reply (contents_from_c after)
+    (prediction_from_c l regions before call.cpu step) d
 
 same_call : (l : PlainLayout) (regions : List PlainRegion) (before : Lists) (call : PlainCall) (after : Lists)
     (f g : Option Disagreement) (x : IsJudged l regions before call after f)
@@ -63,7 +66,7 @@ same_call : (l : PlainLayout) (regions : List PlainRegion) (before : Lists) (cal
     → (x.step ≡ y.step) × (x.reply ≡ y.reply)
 same_call l regions before call after f g x y = (
   one_step call.step x.step y.step x.can.step_is y.can.step_is,
-  one_reply (reply_said call.reply) x.reply y.reply x.reply_is y.reply_is,
+  one_reply (reply_from_c call.reply) x.reply y.reply x.reply_is y.reply_is,
 )
 
 pub judged_once : JudgedOnce
@@ -71,22 +74,22 @@ judged_once l regions before call after None None x y = refl
 judged_once l regions before call after None (Some e) x y =
     let same = same_call l regions before call after None (Some e) x y in
     absurd
-    (judged_else (contents_said before) y.step y.reply (contents_said after)
-    (told_said l regions before call.cpu y.step) e
+    (judged_else (contents_from_c before) y.step y.reply (contents_from_c after)
+    (prediction_from_c l regions before call.cpu y.step) e
     (subst (λ r. AgreesOf l regions before call after y.step r) same.1
     (subst (λ s. AgreesOf l regions before call after s x.reply) same.0 (x.none.0 refl))) y.first)
 judged_once l regions before call after (Some d) None x y =
     let same = same_call l regions before call after (Some d) None x y in
     absurd
-    (judged_else (contents_said before) x.step x.reply (contents_said after)
-    (told_said l regions before call.cpu x.step) d
+    (judged_else (contents_from_c before) x.step x.reply (contents_from_c after)
+    (prediction_from_c l regions before call.cpu x.step) d
     (subst (λ r. AgreesOf l regions before call after x.step r) (sym same.1)
     (subst (λ s. AgreesOf l regions before call after s y.reply) (sym same.0) (y.none.0 refl))) x.first)
 judged_once l regions before call after (Some d) (Some e) x y =
     let same = same_call l regions before call after (Some d) (Some e) x y in
     ap Some
-    (difference_once (contents_said before) y.step y.reply (contents_said after)
-    (told_said l regions before call.cpu y.step) d e
+    (difference_once (contents_from_c before) y.step y.reply (contents_from_c after)
+    (prediction_from_c l regions before call.cpu y.step) d e
     (subst (λ r. IsFirstOf l regions before call after y.step r d) same.1
     (subst (λ s. IsFirstOf l regions before call after s x.reply d) same.0 x.first)) y.first)
 

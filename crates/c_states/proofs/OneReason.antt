@@ -6,16 +6,16 @@ use Rattle.page_state.specs.declared.layout.LayoutFault.TheVariants.{TooMany, Em
 use Rattle.page_state.specs.Geometries.{geometry_of}
 use Rattle.page_state.specs.LayoutFaults.{IsFirstFault}
 use Rattle.page_state.specs.Regions.{Memory}
-use Rattle.c_words.specs.Said.{reply_said}
-use Rattle.c_words.specs.Steps.{step_said}
+use Rattle.c_words.specs.Said.{reply_from_c}
+use Rattle.c_words.specs.Steps.{step_from_c}
 use Rattle.c_states.specs.declared.judge.Unjudged.TheVariants as unjudged
 use Rattle.c_states.specs.declared.judge.Unmade.TheVariants as unmade
 use Rattle.c_states.specs.declared.layout.PlainLayoutFault.{PlainLayoutFault}
 use Rattle.c_states.specs.declared.layout.PlainLayoutFault.TheVariants as layouts
 use Rattle.c_states.specs.declared.state.PlainFault.{PlainFault}
 use Rattle.c_states.specs.declared.state.PlainFault.TheVariants as faults
-use Rattle.c_states.specs.Laws.{LayoutFaultOnce, MadeLacksMemory, UnjudgedOnce, UnmadeOnce, UntoldOnce}
-use Rattle.c_states.specs.Layouts.{memory_said}
+use Rattle.c_states.specs.Laws.{LayoutFaultOnce, MadeLacksMemory, UnjudgedOnce, UnmadeOnce, UnpredictedOnce}
+use Rattle.c_states.specs.Layouts.{memory_from_c}
 use Rattle.c_states.proofs.NoRefusal.{can_else, layout_else, made_else, none_some, unknown_else}
 use Rattle.c_states.proofs.OneAnswer.{fault_once}
 
@@ -61,7 +61,7 @@ layout_once l regions layouts.Geometry (layouts.Memory g) h k = absurd (none_som
 layout_once l regions layouts.Geometry layouts.NoMemory h k = inr (inl refl)
 layout_once l regions (layouts.Memory f) layouts.Geometry h k = absurd (none_some (geometry_of l.address_bits) k h.0)
 layout_once l regions (layouts.Memory f) (layouts.Memory g) h k =
-    inr (inr (ap layouts.Memory (region_once (memory_said l regions) f g h.1 k.1)))
+    inr (inr (ap layouts.Memory (region_once (memory_from_c l regions) f g h.1 k.1)))
 layout_once l regions (layouts.Memory f) layouts.NoMemory h k = inr (inl refl)
 
 -- layouts and lists
@@ -94,27 +94,28 @@ unmade_once l regions p (unmade.State f) (unmade.State g) h k =
 late : (cpus cpu : ℕ) → cpus ≤ cpu → cpu < cpus → ⊥
 late cpus cpu h k = omega (arith, h, k)
 
-pub untold_once : UntoldOnce
+pub untold_once : UnpredictedOnce
 untold_once l regions before cpu step unjudged.NoMemory g h k = inl tt
 untold_once l regions before cpu step unjudged.Reply g h k = absurd h
 untold_once l regions before cpu step (unjudged.After why) g h k = absurd h
 untold_once l regions before cpu step unjudged.Step unjudged.Step h k = inr (inr refl)
 untold_once l regions before cpu step unjudged.Step unjudged.Reply h k = absurd k
-untold_once l regions before cpu step unjudged.Step unjudged.Cpu h k = absurd (none_some (step_said step) h k.0)
+untold_once l regions before cpu step unjudged.Step unjudged.Cpu h k = absurd (none_some (step_from_c step) h k.0)
 untold_once l regions before cpu step unjudged.Step (unjudged.Before why) h k =
-    absurd (none_some (step_said step) h k.0)
+    absurd (none_some (step_from_c step) h k.0)
 untold_once l regions before cpu step unjudged.Step unjudged.Generation h k =
-    absurd (unknown_else (step_said step) k.3.step h k.3.step_is)
+    absurd (unknown_else (step_from_c step) k.3.step h k.3.step_is)
 untold_once l regions before cpu step unjudged.Step (unjudged.After why) h k = absurd k
 untold_once l regions before cpu step unjudged.Step unjudged.NoMemory h k = inr (inl tt)
-untold_once l regions before cpu step unjudged.Cpu unjudged.Step h k = absurd (none_some (step_said step) k h.0)
+untold_once l regions before cpu step unjudged.Cpu unjudged.Step h k = absurd (none_some (step_from_c step) k h.0)
 untold_once l regions before cpu step unjudged.Cpu unjudged.Reply h k = absurd k
 untold_once l regions before cpu step unjudged.Cpu unjudged.Cpu h k = inr (inr refl)
 untold_once l regions before cpu step unjudged.Cpu (unjudged.Before why) h k = absurd (late l.cpus cpu h.1 k.1)
 untold_once l regions before cpu step unjudged.Cpu unjudged.Generation h k = absurd (late l.cpus cpu h.1 k.0)
 untold_once l regions before cpu step unjudged.Cpu (unjudged.After why) h k = absurd k
 untold_once l regions before cpu step unjudged.Cpu unjudged.NoMemory h k = inr (inl tt)
-untold_once l regions before cpu step (unjudged.Before f) unjudged.Step h k = absurd (none_some (step_said step) k h.0)
+untold_once l regions before cpu step (unjudged.Before f) unjudged.Step h k =
+    absurd (none_some (step_from_c step) k h.0)
 untold_once l regions before cpu step (unjudged.Before f) unjudged.Reply h k = absurd k
 untold_once l regions before cpu step (unjudged.Before f) unjudged.Cpu h k = absurd (late l.cpus cpu k.1 h.1)
 untold_once l regions before cpu step (unjudged.Before f) (unjudged.Before g) h k =
@@ -124,7 +125,7 @@ untold_once l regions before cpu step (unjudged.Before f) unjudged.Generation h 
 untold_once l regions before cpu step (unjudged.Before f) (unjudged.After why) h k = absurd k
 untold_once l regions before cpu step (unjudged.Before f) unjudged.NoMemory h k = inr (inl tt)
 untold_once l regions before cpu step unjudged.Generation unjudged.Step h k =
-    absurd (unknown_else (step_said step) h.3.step k h.3.step_is)
+    absurd (unknown_else (step_from_c step) h.3.step k h.3.step_is)
 untold_once l regions before cpu step unjudged.Generation unjudged.Reply h k = absurd k
 untold_once l regions before cpu step unjudged.Generation unjudged.Cpu h k = absurd (late l.cpus cpu k.1 h.0)
 untold_once l regions before cpu step unjudged.Generation (unjudged.Before g) h k =
@@ -137,32 +138,32 @@ pub unjudged_once : UnjudgedOnce
 unjudged_once l regions before call after unjudged.NoMemory g h k = inl tt
 unjudged_once l regions before call after unjudged.Step unjudged.Step h k = inr (inr refl)
 unjudged_once l regions before call after unjudged.Step unjudged.Reply h k =
-    absurd (none_some (step_said call.step) h k.0)
+    absurd (none_some (step_from_c call.step) h k.0)
 unjudged_once l regions before call after unjudged.Step unjudged.Cpu h k =
-    absurd (none_some (step_said call.step) h k.1.0)
+    absurd (none_some (step_from_c call.step) h k.1.0)
 unjudged_once l regions before call after unjudged.Step (unjudged.Before g) h k =
-    absurd (none_some (step_said call.step) h k.1.0)
+    absurd (none_some (step_from_c call.step) h k.1.0)
 unjudged_once l regions before call after unjudged.Step unjudged.Generation h k =
-    absurd (unknown_else (step_said call.step) k.1.3.step h k.1.3.step_is)
+    absurd (unknown_else (step_from_c call.step) k.1.3.step h k.1.3.step_is)
 unjudged_once l regions before call after unjudged.Step (unjudged.After g) h k =
-    absurd (unknown_else (step_said call.step) k.1.0 h k.1.1.step_is)
+    absurd (unknown_else (step_from_c call.step) k.1.0 h k.1.1.step_is)
 unjudged_once l regions before call after unjudged.Step unjudged.NoMemory h k = inr (inl tt)
 unjudged_once l regions before call after unjudged.Reply unjudged.Step h k =
-    absurd (none_some (step_said call.step) k h.0)
+    absurd (none_some (step_from_c call.step) k h.0)
 unjudged_once l regions before call after unjudged.Reply unjudged.Reply h k = inr (inr refl)
 unjudged_once l regions before call after unjudged.Reply unjudged.Cpu h k =
-    absurd (none_some (reply_said call.reply) h.1 k.0)
+    absurd (none_some (reply_from_c call.reply) h.1 k.0)
 unjudged_once l regions before call after unjudged.Reply (unjudged.Before g) h k =
-    absurd (none_some (reply_said call.reply) h.1 k.0)
+    absurd (none_some (reply_from_c call.reply) h.1 k.0)
 unjudged_once l regions before call after unjudged.Reply unjudged.Generation h k =
-    absurd (none_some (reply_said call.reply) h.1 k.0)
+    absurd (none_some (reply_from_c call.reply) h.1 k.0)
 unjudged_once l regions before call after unjudged.Reply (unjudged.After g) h k =
-    absurd (none_some (reply_said call.reply) h.1 k.0)
+    absurd (none_some (reply_from_c call.reply) h.1 k.0)
 unjudged_once l regions before call after unjudged.Reply unjudged.NoMemory h k = inr (inl tt)
 unjudged_once l regions before call after (unjudged.After f) unjudged.Step h k =
-    absurd (unknown_else (step_said call.step) h.1.0 k h.1.1.step_is)
+    absurd (unknown_else (step_from_c call.step) h.1.0 k h.1.1.step_is)
 unjudged_once l regions before call after (unjudged.After f) unjudged.Reply h k =
-    absurd (none_some (reply_said call.reply) k.1 h.0)
+    absurd (none_some (reply_from_c call.reply) k.1 h.0)
 unjudged_once l regions before call after (unjudged.After f) unjudged.Cpu h k =
     inr (inl (can_else l regions before call.cpu call.step h.1.0 unjudged.Cpu h.1.1 k.1))
 unjudged_once l regions before call after (unjudged.After f) (unjudged.Before g) h k =
@@ -173,9 +174,9 @@ unjudged_once l regions before call after (unjudged.After f) (unjudged.After g) 
     either (λ x. x) (next (λ x. x) (ap unjudged.After)) (unmade_once l regions after f g h.2 k.2)
 unjudged_once l regions before call after (unjudged.After f) unjudged.NoMemory h k = inr (inl tt)
 unjudged_once l regions before call after unjudged.Cpu unjudged.Step h k =
-    absurd (none_some (step_said call.step) k h.1.0)
+    absurd (none_some (step_from_c call.step) k h.1.0)
 unjudged_once l regions before call after unjudged.Cpu unjudged.Reply h k =
-    absurd (none_some (reply_said call.reply) k.1 h.0)
+    absurd (none_some (reply_from_c call.reply) k.1 h.0)
 unjudged_once l regions before call after unjudged.Cpu unjudged.Cpu h k =
     untold_once l regions before call.cpu call.step unjudged.Cpu unjudged.Cpu h.1 k.1
 unjudged_once l regions before call after unjudged.Cpu (unjudged.Before g) h k =
@@ -186,9 +187,9 @@ unjudged_once l regions before call after unjudged.Cpu (unjudged.After g) h k =
     inl (can_else l regions before call.cpu call.step k.1.0 unjudged.Cpu k.1.1 h.1)
 unjudged_once l regions before call after unjudged.Cpu unjudged.NoMemory h k = inr (inl tt)
 unjudged_once l regions before call after (unjudged.Before f) unjudged.Step h k =
-    absurd (none_some (step_said call.step) k h.1.0)
+    absurd (none_some (step_from_c call.step) k h.1.0)
 unjudged_once l regions before call after (unjudged.Before f) unjudged.Reply h k =
-    absurd (none_some (reply_said call.reply) k.1 h.0)
+    absurd (none_some (reply_from_c call.reply) k.1 h.0)
 unjudged_once l regions before call after (unjudged.Before f) unjudged.Cpu h k =
     untold_once l regions before call.cpu call.step (unjudged.Before f) unjudged.Cpu h.1 k.1
 unjudged_once l regions before call after (unjudged.Before f) (unjudged.Before g) h k =
@@ -199,9 +200,9 @@ unjudged_once l regions before call after (unjudged.Before f) (unjudged.After g)
     inl (can_else l regions before call.cpu call.step k.1.0 (unjudged.Before f) k.1.1 h.1)
 unjudged_once l regions before call after (unjudged.Before f) unjudged.NoMemory h k = inr (inl tt)
 unjudged_once l regions before call after unjudged.Generation unjudged.Step h k =
-    absurd (unknown_else (step_said call.step) h.1.3.step k h.1.3.step_is)
+    absurd (unknown_else (step_from_c call.step) h.1.3.step k h.1.3.step_is)
 unjudged_once l regions before call after unjudged.Generation unjudged.Reply h k =
-    absurd (none_some (reply_said call.reply) k.1 h.0)
+    absurd (none_some (reply_from_c call.reply) k.1 h.0)
 unjudged_once l regions before call after unjudged.Generation unjudged.Cpu h k =
     untold_once l regions before call.cpu call.step unjudged.Generation unjudged.Cpu h.1 k.1
 unjudged_once l regions before call after unjudged.Generation (unjudged.Before g) h k =

@@ -11,7 +11,7 @@ use Rattle.std.proofs.Math.Seq.{take-suc}
 use Rattle.page_state.proofs.Cases.{by_eq}
 use Rattle.page_state.proofs.Common.{same2}
 use Rattle.c_states.specs.declared.members.PlainLoad.{PlainLoad}
-use Rattle.c_states.specs.Lists.{is_load, listed, loader_said}
+use Rattle.c_states.specs.Lists.{is_load, listed, loader_from_c}
 
 -- one more member of a list, of which a part says something
 one_said : {X Y : Type 0} (h : X → Option Y) (x : X) (b : Bool) (y : Y)
@@ -137,12 +137,12 @@ found_one true l = refl
 found_one false l = refl
 
 pub load_more : (xs : List PlainLoad) (l : PlainLoad) (s k : ℕ)
-    → loader_said (xs ++ l ∷ []) s k
-    ≡ option_or (loader_said xs s k) (if l.slot == s && l.vcpu == k then Some l.cpu else None)
+    → loader_from_c (xs ++ l ∷ []) s k
+    ≡ option_or (loader_from_c xs s k) (if l.slot == s && l.vcpu == k then Some l.cpu else None)
 load_more xs l s k =
     ap (option_map (λ x. x.cpu)) (find-append (is_load s k) xs (l ∷ []))
     ∙ (map_or (λ x. x.cpu) (find (is_load s k) xs) (find (is_load s k) (l ∷ []))
-    ∙ ap (option_or (loader_said xs s k)) (found_one (is_load s k l) l))
+    ∙ ap (option_or (loader_from_c xs s k)) (found_one (is_load s k l) l))
 
 abbrev no_number : Option ℕ
 no_number = None
@@ -153,8 +153,8 @@ none_either false = refl
 
 -- and with none more
 pub load_none : (xs : List PlainLoad) (b : Bool) (s k : ℕ)
-    → loader_said xs s k ≡ option_or (loader_said xs s k) (if b then no_number else no_number)
-load_none xs b s k = sym (ap (option_or (loader_said xs s k)) (none_either b) ∙ or_none (loader_said xs s k))
+    → loader_from_c xs s k ≡ option_or (loader_from_c xs s k) (if b then no_number else no_number)
+load_none xs b s k = sym (ap (option_or (loader_from_c xs s k)) (none_either b) ∙ or_none (loader_from_c xs s k))
 
 or_both : (a x y : Option ℕ) (b e : Bool)
     → option_or (option_or a (if b then x else None)) (if b && e then y else None)

@@ -13,7 +13,7 @@ use Rattle.page_state.specs.declared.entry.Target.{Target}
 use Rattle.page_state.specs.declared.row.Row.{Row}
 use Rattle.run_list.specs.declared.run.Run.{Run as RowRun}
 use Rattle.ghost_trees.specs.declared.tree.Table.{Table}
-use Rattle.c_words.specs.Said.{row_said as owner_said, target_said}
+use Rattle.c_words.specs.Said.{row_from_c as owner_said, target_from_c}
 use Rattle.c_states.specs.declared.members.PlainCpu.{PlainCpu}
 use Rattle.c_states.specs.declared.members.PlainFrame.{PlainFrame}
 use Rattle.c_states.specs.declared.members.PlainLoad.{PlainLoad}
@@ -22,8 +22,8 @@ use Rattle.c_states.specs.declared.members.PlainRun.{PlainRun}
 use Rattle.c_states.specs.declared.members.PlainTable.{PlainTable}
 use Rattle.c_states.specs.Clashes.{HasNoClash}
 use Rattle.c_states.specs.Known.{has_known_ticket, is_frame, is_row, is_run, is_table}
-use Rattle.c_states.specs.Lists.{frame_said, row_said, run_said, table_said}
-use Rattle.c_states.specs.Told.{is_cpu_told, AreKnown, AreLoads}
+use Rattle.c_states.specs.Lists.{frame_from_c, row_from_c, run_from_c, table_from_c}
+use Rattle.c_states.specs.Told.{is_cpu_well_formed, AreKnown, AreLoads}
 use Rattle.c_states.proofs.FilledLists.{at}
 
 -- one member more
@@ -74,34 +74,34 @@ tested true x y e = refl
 tested false x y e = absurd (let bad = e in cc)
 
 pub run_known : (tree : ℕ) (told : PlainRun) (r : Run)
-    → ((t : ℕ) → run_said t told ≡ (if tree == t then Some r else None))
+    → ((t : ℕ) → run_from_c t told ≡ (if tree == t then Some r else None))
     → tree < 66
     → IsTrue (is_run told)
 run_known tree told r all l =
     let is =
-    run_is (told.tree == tree) (target_said told.word)
+    run_is (told.tree == tree) (target_from_c told.word)
     (record { first = record { 0 = told.page }; count = told.count }) r
-    (of_number (λ t. run_said t told) tree r all) in
-    both_true (nat_lt told.tree 66) (is_some (target_said told.word)) (low_tree told.tree tree is.0 l) is.1
+    (of_number (λ t. run_from_c t told) tree r all) in
+    both_true (nat_lt told.tree 66) (is_some (target_from_c told.word)) (low_tree told.tree tree is.0 l) is.1
 
 pub table_known : (tree : ℕ) (told : PlainTable) (x : Table)
-    → ((t : ℕ) → table_said t told ≡ (if tree == t then Some x else None))
+    → ((t : ℕ) → table_from_c t told ≡ (if tree == t then Some x else None))
     → tree < 66
     → IsTrue (is_table told)
 table_known tree told x all l =
     low_tree told.tree tree
     (tested (told.tree == tree) (record { block = (told.height, told.index); frame = told.frame }) x
-    (of_number (λ t. table_said t told) tree x all)) l
+    (of_number (λ t. table_from_c t told) tree x all)) l
 
 pub frame_known : (pool : ℕ) (told : PlainFrame) (x : ℕ)
-    → ((t : ℕ) → frame_said t told ≡ (if pool == t then Some x else None))
+    → ((t : ℕ) → frame_from_c t told ≡ (if pool == t then Some x else None))
     → 1 ≤ pool
     → pool < 66
     → IsTrue (is_frame told)
 frame_known pool told x all some l =
     let low =
     low_pool told.pool pool
-    (tested (told.pool == pool) told.frame x (of_number (λ t. frame_said t told) pool x all)) some l in
+    (tested (told.pool == pool) told.frame x (of_number (λ t. frame_from_c t told) pool x all)) some l in
     let up = low.0 in
     let down = low.1 in grind (arith, nat_tests)
 
@@ -111,7 +111,7 @@ row_is : (o : Option Row) (pages : PageRange) (x : RowRun Row)
 row_is None pages x e = absurd (let bad = e in cc)
 row_is (Some row) pages x e = refl
 
-pub row_known : (told : PlainRow) (x : RowRun Row) → row_said told ≡ Some x → IsTrue (is_row told)
+pub row_known : (told : PlainRow) (x : RowRun Row) → row_from_c told ≡ Some x → IsTrue (is_row told)
 row_known told x e =
     row_is (owner_said told.owner) (record { first = record { 0 = told.frame }; count = told.count }) x e
 
@@ -119,7 +119,7 @@ pub cpu_known : (cpus number : ℕ) (told : PlainCpu)
     → told.cpu ≡ number
     → number < cpus
     → IsTrue (has_known_ticket told)
-    → IsTrue (is_cpu_told cpus told)
+    → IsTrue (is_cpu_well_formed cpus told)
 cpu_known cpus number told e l k = both_true (nat_lt told.cpu cpus) (has_known_ticket told) (grind (arith, nat_tests)) k
 
 -- members whose numbers are their indices

@@ -8,14 +8,14 @@ use Rattle.c_states.specs.declared.members.PlainFrame.{PlainFrame}
 use Rattle.c_states.specs.declared.members.PlainSlot.{PlainSlot}
 use Rattle.c_states.specs.declared.members.PlainGuest.{PlainGuest}
 use Rattle.c_states.specs.declared.members.PlainCpu.{PlainCpu}
-use Rattle.c_states.specs.Lists.{range_said}
+use Rattle.c_states.specs.Lists.{range_from_c}
 
 -- two runs of one tree that have pages share one: either has the other's first
 abbrev pub do_runs_clash : PlainRun → PlainRun → Bool
 do_runs_clash a b =
     a.tree == b.tree && (nat_lt 0 a.count && nat_lt 0 b.count)
-    && (is_in_range (range_said a.page a.count) b.page
-    || is_in_range (range_said b.page b.count) a.page)
+    && (is_in_range (range_from_c a.page a.count) b.page
+    || is_in_range (range_from_c b.page b.count) a.page)
 
 -- two tables of one tree have one block or one frame
 abbrev pub do_tables_clash : PlainTable → PlainTable → Bool

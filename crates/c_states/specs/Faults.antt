@@ -13,7 +13,7 @@ use Rattle.c_states.specs.declared.state.PlainList.{PlainList}
 use Rattle.c_states.specs.declared.state.PlainList.TheVariants as lists
 use Rattle.c_states.specs.Clashes.{do_frames_clash, do_runs_clash, do_tables_clash, have_one_cpu, have_one_guest, have_one_slot, HasNoClash, IsFirstClash}
 use Rattle.c_states.specs.Known.{is_run, is_table, is_frame, is_slot, is_load, is_guest, is_cpu, is_row}
-use Rattle.c_states.specs.Lists.{cpu_listed, cpu_said, frames_said, rows_said, runs_said, tables_said}
+use Rattle.c_states.specs.Lists.{cpu_listed, cpu_from_c, frames_from_c, rows_from_c, runs_from_c, tables_from_c}
 use Rattle.c_states.specs.States.{Lists}
 
 -- the first member of a list with an unknown number, and if there is none that of the others
@@ -43,7 +43,7 @@ first_unknown_of cpus p =
 
 -- the rows' frames and lent pages are small, and no two runs of them share a frame
 abbrev pub AreTakenRows : Lists → Type 0
-AreTakenRows p = AreLowRows (rows_said p.rows) × AreRowsApart (rows_said p.rows)
+AreTakenRows p = AreLowRows (rows_from_c p.rows) × AreRowsApart (rows_from_c p.rows)
 
 -- no two slots, guests or CPUs have one number
 pub record AreOnce (p : Lists) : Type 0 where
@@ -77,22 +77,25 @@ pub record IsLowCpu (k : Cpu) : Type 0 where
 
 -- so is each of `cpus` CPUs, and the pages and frames of all trees and pools are small
 pub record HaveLowNumbers (cpus : ℕ) (p : Lists) : Type 0 where
-  pub runs : (tree : ℕ) → tree < 66 → AreSmall (runs_said p.runs tree)
-  pub tables : (tree : ℕ) → tree < 66 → All (λ t. t.frame ≤ 2 ^ 62) (tables_said p.tables tree)
-  pub frames : (pool : ℕ) → 1 ≤ pool → pool < 66 → All (λ f. f ≤ 2 ^ 62) (frames_said p.frames pool)
-  pub cpus_are : (c : ℕ) → c < cpus → IsLowCpu (cpu_said (cpu_listed p.cpus c))
+  pub runs : (tree : ℕ) → tree < 66 → AreSmall (runs_from_c p.runs tree)
+  pub tables : (tree : ℕ) → tree < 66 → All (λ t. t.frame ≤ 2 ^ 62) (tables_from_c p.tables tree)
+  pub frames : (pool : ℕ)
+      → 1 ≤ pool
+      → pool < 66
+      → All (λ f. f ≤ 2 ^ 62) (frames_from_c p.frames pool)
+  pub cpus_are : (c : ℕ) → c < cpus → IsLowCpu (cpu_from_c (cpu_listed p.cpus c))
 
 -- no tree has two runs that share a page
 abbrev pub HaveRunsApart : Lists → Type 0
-HaveRunsApart p = (tree : ℕ) → tree < 66 → AreRunsApart (runs_said p.runs tree)
+HaveRunsApart p = (tree : ℕ) → tree < 66 → AreRunsApart (runs_from_c p.runs tree)
 
 -- no tree has two tables at one block, or with one frame
 abbrev pub HaveTablesApart : Lists → Type 0
-HaveTablesApart p = (tree : ℕ) → tree < 66 → AreTablesApart (tables_said p.tables tree)
+HaveTablesApart p = (tree : ℕ) → tree < 66 → AreTablesApart (tables_from_c p.tables tree)
 
 -- no pool has a frame twice
 abbrev pub HaveFramesApart : Lists → Type 0
-HaveFramesApart p = (pool : ℕ) → 1 ≤ pool → pool < 66 → AreFramesApart (frames_said p.frames pool)
+HaveFramesApart p = (pool : ℕ) → 1 ≤ pool → pool < 66 → AreFramesApart (frames_from_c p.frames pool)
 
 -- lists that make a state
 pub record AreTaken (cpus : ℕ) (p : Lists) : Type 0 where
@@ -133,7 +136,7 @@ IsListsFault cpus p other = ⊥
 abbrev pub IsPlainFault : ℕ → Lists → PlainFault → Type 0
 IsPlainFault cpus p (Unknown list at) = first_unknown_of cpus p ≡ Some (list, at)
 IsPlainFault cpus p (RowsFault fault) =
-    (first_unknown_of cpus p ≡ None) × IsFirstRowFault fault (rows_said p.rows)
+    (first_unknown_of cpus p ≡ None) × IsFirstRowFault fault (rows_from_c p.rows)
 IsPlainFault cpus p (Twice list at) =
     (first_unknown_of cpus p ≡ None) × AreTakenRows p × IsTwice p list at
 IsPlainFault cpus p (ListsFault fault culprit) =

@@ -17,20 +17,20 @@ use Rattle.ghost_spec.specs.Views.{cpu_in}
 use Rattle.c_states.specs.declared.members.PlainGuest.{PlainGuest}
 use Rattle.c_states.specs.declared.members.PlainLoad.{PlainLoad}
 use Rattle.c_states.specs.declared.members.PlainSlot.{PlainSlot}
-use Rattle.c_states.specs.Lists.{runs_said, tables_said, frames_said, rows_said, slot_listed, slot_said, guest_listed, phase_said, kind_said, cpu_listed, cpu_said}
+use Rattle.c_states.specs.Lists.{runs_from_c, tables_from_c, frames_from_c, rows_from_c, slot_listed, slot_from_c, guest_listed, phase_from_c, kind_from_c, cpu_listed, cpu_from_c}
 use Rattle.c_states.specs.States.{Lists}
 
 -- a tree has the runs and the tables of a number
 pub record IsFilledTree (p : Lists) (tree : ℕ) (t : Tree) : Type 0 where
-  pub runs : t.runs.items ≡ runs_said p.runs tree
-  pub tables : t.tables.items ≡ tables_said p.tables tree
+  pub runs : t.runs.items ≡ runs_from_c p.runs tree
+  pub tables : t.tables.items ≡ tables_from_c p.tables tree
 
 -- the Shared part: pool 1 is the shared one
 pub record IsFilledShared (p : Lists) (s : Shared) : Type 0 where
   pub host : IsFilledTree p 0 s.host
   pub hyp : IsFilledTree p 1 s.hyp
-  pub free : s.free.items ≡ frames_said p.frames 1
-  pub rows : run_map advance_row s.rows.runs ≡ run_map advance_row (rows_said p.rows)
+  pub free : s.free.items ≡ frames_from_c p.frames 1
+  pub rows : run_map advance_row s.rows.runs ≡ run_map advance_row (rows_from_c p.rows)
 
 -- what a guest's lists hold
 pub record GuestLists : Type 0 where
@@ -53,21 +53,21 @@ lists_in g =
     }
 
 -- and what those of a slot say
-abbrev pub guest_lists_said : Lists → ℕ → PlainGuest → GuestLists
-guest_lists_said p slot g = record {
-  phase = phase_said g.phase;
+abbrev pub guest_lists_from_c : Lists → ℕ → PlainGuest → GuestLists
+guest_lists_from_c p slot g = record {
+  phase = phase_from_c g.phase;
   generation = g.generation;
-  kind = kind_said g.kind;
-  runs = runs_said p.runs (2 + slot);
-  tables = tables_said p.tables (2 + slot);
-  free = frames_said p.frames (2 + slot);
+  kind = kind_from_c g.kind;
+  runs = runs_from_c p.runs (2 + slot);
+  tables = tables_from_c p.tables (2 + slot);
+  free = frames_from_c p.frames (2 + slot);
 }
 
 -- the guests, by slot
 abbrev pub AreFilledGuests : Lists → List GhostGuest → Type 0
 AreFilledGuests p guests =
     map lists_in guests
-    ≡ map (λ v. guest_lists_said p v (guest_listed p.guests v)) (range_with_len 0 64)
+    ≡ map (λ v. guest_lists_from_c p v (guest_listed p.guests v)) (range_with_len 0 64)
 
 -- each log has room for one call
 pub record IsRoomy (r : GhostRooms) : Type 0 where
@@ -78,7 +78,7 @@ pub record IsRoomy (r : GhostRooms) : Type 0 where
 
 -- a slot of 8 vCPUs
 abbrev pub slot_filled : List PlainLoad → ℕ → PlainSlot → Slot
-slot_filled loads v s = let said = slot_said loads v s in
+slot_filled loads v s = let said = slot_from_c loads v s in
     record said { loaded = λ vcpu. if nat_lt vcpu 8 then said.loaded vcpu else None }
 
 -- all lists, for `count` CPUs
@@ -88,6 +88,6 @@ pub record IsFilled (count : ℕ) (p : Lists) (l : GhostLists) : Type 0 where
       ≡ map (λ v. slot_filled p.loads v (slot_listed p.slots v)) (range_with_len 0 64)
   pub guests : AreFilledGuests p l.guests.items
   pub cpus : map cpu_in l.cpus.items
-      ≡ map (λ c. cpu_said (cpu_listed p.cpus c)) (range_with_len 0 count)
+      ≡ map (λ c. cpu_from_c (cpu_listed p.cpus c)) (range_with_len 0 count)
   pub rooms : IsRoomy l.rooms
   pub log : l.layout.config.log ≡ 1

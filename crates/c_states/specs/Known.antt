@@ -1,6 +1,6 @@
 -- Which members of plain lists have known numbers, and the first that hasn't.
 use Rattle.std.specs.Prelude.{ℕ, Bool, ◌==◌, ◌&&◌, ◌||◌, nat_lt, nat_le, is_some}
-use Rattle.c_words.specs.Said.{target_said, row_said}
+use Rattle.c_words.specs.Said.{target_from_c, row_from_c}
 use Rattle.c_states.specs.declared.members.PlainRun.{PlainRun}
 use Rattle.c_states.specs.declared.members.PlainTable.{PlainTable}
 use Rattle.c_states.specs.declared.members.PlainFrame.{PlainFrame}
@@ -15,7 +15,7 @@ abbrev pub is_tree : ℕ → Bool
 is_tree n = nat_lt n 66
 
 abbrev pub is_run : PlainRun → Bool
-is_run r = is_tree r.tree && is_some (target_said r.word)
+is_run r = is_tree r.tree && is_some (target_from_c r.word)
 
 abbrev pub is_table : PlainTable → Bool
 is_table t = is_tree t.tree
@@ -42,4 +42,4 @@ abbrev pub is_cpu : ℕ → PlainCpu → Bool
 is_cpu count k = nat_lt k.cpu count && ((k.has_vcpu == 0 || nat_lt k.vcpu 8) && has_known_ticket k)
 
 abbrev pub is_row : PlainRow → Bool
-is_row r = is_some (row_said r.owner)
+is_row r = is_some (row_from_c r.owner)

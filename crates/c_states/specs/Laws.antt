@@ -16,9 +16,9 @@ use Rattle.c_states.specs.declared.layout.PlainRegion.{PlainRegion}
 use Rattle.c_states.specs.declared.state.PlainFault.{PlainFault}
 use Rattle.c_states.specs.declared.state.PlainFault.TheVariants as faults
 use Rattle.c_states.specs.Faults.{first_unknown_of, AreOnce, AreTaken, IsPlainFault}
-use Rattle.c_states.specs.Judged.{IsForetold, IsForetoldState, IsJudged, IsUnjudged, IsUnmade, IsUntold}
+use Rattle.c_states.specs.Judged.{IsReplyPredicted, IsStatePredicted, IsJudged, IsUnjudged, IsUnmade, IsUnpredicted}
 use Rattle.c_states.specs.Layouts.{IsLayoutFault, IsTakenLayout}
-use Rattle.c_states.specs.States.{Lists, contents_said}
+use Rattle.c_states.specs.States.{Lists, contents_from_c}
 
 -- memory ran out, for a layout or a state
 abbrev pub MadeLacksMemory : Unmade → Type 0
@@ -52,21 +52,21 @@ JudgedElse =
     → LacksMemory why
 
 -- so is a call that is predicted
-abbrev pub ForetoldElse : Type 0
-ForetoldElse =
+abbrev pub PredictedElse : Type 0
+PredictedElse =
     (l : PlainLayout) (regions : List PlainRegion) (before : Lists) (cpu : ℕ) (step : PlainStep)
     (reply : PlainReply) (why : Unjudged)
-    → IsForetold l regions before cpu step reply
-    → IsUntold l regions before cpu step why
+    → IsReplyPredicted l regions before cpu step reply
+    → IsUnpredicted l regions before cpu step why
     → LacksMemory why
 
 -- and one whose state after it is
-abbrev pub ForetoldStateElse : Type 0
-ForetoldStateElse =
+abbrev pub PredictedStateElse : Type 0
+PredictedStateElse =
     (l : PlainLayout) (regions : List PlainRegion) (before : Lists) (cpu : ℕ) (step : PlainStep)
     (reply : PlainReply) (after : Lists) (why : Unjudged)
-    → IsForetoldState l regions before cpu step reply after
-    → IsUntold l regions before cpu step why
+    → IsStatePredicted l regions before cpu step reply after
+    → IsUnpredicted l regions before cpu step why
     → LacksMemory why
 
 -- a judgement has one answer
@@ -77,20 +77,22 @@ JudgedOnce =
     → IsJudged l regions before call after f → IsJudged l regions before call after g → f ≡ g
 
 -- so has a prediction
-abbrev pub ForetoldOnce : Type 0
-ForetoldOnce =
+abbrev pub PredictedOnce : Type 0
+PredictedOnce =
     (l : PlainLayout) (regions : List PlainRegion) (before : Lists) (cpu : ℕ) (step : PlainStep)
     (r s : PlainReply)
-    → IsForetold l regions before cpu step r → IsForetold l regions before cpu step s → r ≡ s
+    → IsReplyPredicted l regions before cpu step r
+    → IsReplyPredicted l regions before cpu step s
+    → r ≡ s
 
 -- and the state after a call
-abbrev pub ForetoldStateOnce : Type 0
-ForetoldStateOnce =
+abbrev pub PredictedStateOnce : Type 0
+PredictedStateOnce =
     (l : PlainLayout) (regions : List PlainRegion) (before : Lists) (cpu : ℕ) (step : PlainStep)
     (r s : PlainReply) (a b : Lists)
-    → IsForetoldState l regions before cpu step r a
-    → IsForetoldState l regions before cpu step s b
-    → (r ≡ s) × (contents_said a ≡ contents_said b)
+    → IsStatePredicted l regions before cpu step r a
+    → IsStatePredicted l regions before cpu step s b
+    → (r ≡ s) × (contents_from_c a ≡ contents_from_c b)
 
 -- a layout has at most one fault, aside from memory that runs out
 abbrev pub LayoutFaultOnce : Type 0
@@ -117,12 +119,12 @@ UnmadeOnce =
     → MadeLacksMemory f ⊎ (MadeLacksMemory g ⊎ (f ≡ g))
 
 -- so has a call that isn't predicted
-abbrev pub UntoldOnce : Type 0
-UntoldOnce =
+abbrev pub UnpredictedOnce : Type 0
+UnpredictedOnce =
     (l : PlainLayout) (regions : List PlainRegion) (before : Lists) (cpu : ℕ) (step : PlainStep)
     (f g : Unjudged)
-    → IsUntold l regions before cpu step f
-    → IsUntold l regions before cpu step g
+    → IsUnpredicted l regions before cpu step f
+    → IsUnpredicted l regions before cpu step g
     → LacksMemory f ⊎ (LacksMemory g ⊎ (f ≡ g))
 
 -- and one that isn't judged
@@ -136,11 +138,11 @@ UnjudgedOnce =
 
 -- no member of a state that is predicted has an unknown number, or is there twice, if no vCPU past
 -- the eighth is loaded
-abbrev pub ForetoldKnown : Type 0
-ForetoldKnown =
+abbrev pub PredictedKnown : Type 0
+PredictedKnown =
     (l : PlainLayout) (regions : List PlainRegion) (before : Lists) (cpu : ℕ) (step : PlainStep)
     (reply : PlainReply) (after : Lists)
-    → IsForetoldState l regions before cpu step reply after
+    → IsStatePredicted l regions before cpu step reply after
     → All (λ x. x.vcpu < 8) after.loads
     → All (λ k. IsTrue (k.has_vcpu == 0 || nat_lt k.vcpu 8)) after.cpus
     → (first_unknown_of l.cpus after ≡ None) × AreOnce after

@@ -12,7 +12,7 @@ use Rattle.reference_model.specs.declared.changes.Ticket.{Ticket}
 use Rattle.reference_model.specs.declared.changes.Stage.{Stage}
 use Rattle.reference_model.specs.declared.changes.Stage.TheVariants.{Booked, Installed, Closing, Dying, Finished}
 use Rattle.ghost_trees.specs.declared.tree.Table.{Table}
-use Rattle.c_words.specs.Said.{target_said, row_said as owner_said}
+use Rattle.c_words.specs.Said.{target_from_c, row_from_c as owner_said}
 use Rattle.c_states.specs.declared.members.PlainRun.{PlainRun}
 use Rattle.c_states.specs.declared.members.PlainTable.{PlainTable}
 use Rattle.c_states.specs.declared.members.PlainFrame.{PlainFrame}
@@ -66,66 +66,66 @@ abbrev pub cpu_listed : List PlainCpu → ℕ → PlainCpu
 cpu_listed = listed (λ k. k.cpu) no_plain_cpu
 
 -- a range of pages or of frames
-abbrev pub range_said : ℕ → ℕ → PageRange
-range_said first count = record { first = record { 0 = first }; count = count }
+abbrev pub range_from_c : ℕ → ℕ → PageRange
+range_from_c first count = record { first = record { 0 = first }; count = count }
 
 -- the run that a plain run says of a tree, and those of a list
-abbrev pub run_said : ℕ → PlainRun → Option Run
-run_said tree r =
+abbrev pub run_from_c : ℕ → PlainRun → Option Run
+run_from_c tree r =
     if r.tree == tree
-    then option_map (λ target. record { pages = range_said r.page r.count; target = target })
-    (target_said r.word)
+    then option_map (λ target. record { pages = range_from_c r.page r.count; target = target })
+    (target_from_c r.word)
     else None
 
-abbrev pub runs_said : List PlainRun → ℕ → List Run
-runs_said runs tree = filter_map (run_said tree) runs
+abbrev pub runs_from_c : List PlainRun → ℕ → List Run
+runs_from_c runs tree = filter_map (run_from_c tree) runs
 
 -- the table of a tree: its block is the one of 512 ^ height pages at the index
-abbrev pub table_said : ℕ → PlainTable → Option Table
-table_said tree t =
+abbrev pub table_from_c : ℕ → PlainTable → Option Table
+table_from_c tree t =
     if t.tree == tree then Some (record { block = (t.height, t.index); frame = t.frame }) else None
 
-abbrev pub tables_said : List PlainTable → ℕ → List Table
-tables_said tables tree = filter_map (table_said tree) tables
+abbrev pub tables_from_c : List PlainTable → ℕ → List Table
+tables_from_c tables tree = filter_map (table_from_c tree) tables
 
 -- the free frame of a pool
-abbrev pub frame_said : ℕ → PlainFrame → Option ℕ
-frame_said pool f = if f.pool == pool then Some f.frame else None
+abbrev pub frame_from_c : ℕ → PlainFrame → Option ℕ
+frame_from_c pool f = if f.pool == pool then Some f.frame else None
 
-abbrev pub frames_said : List PlainFrame → ℕ → List ℕ
-frames_said frames pool = filter_map (frame_said pool) frames
+abbrev pub frames_from_c : List PlainFrame → ℕ → List ℕ
+frames_from_c frames pool = filter_map (frame_from_c pool) frames
 
 -- the run of owner rows
-abbrev pub row_said : PlainRow → Option (RowRun Row)
-row_said r =
-    option_map (λ row. record { pages = range_said r.frame r.count; value = row })
+abbrev pub row_from_c : PlainRow → Option (RowRun Row)
+row_from_c r =
+    option_map (λ row. record { pages = range_from_c r.frame r.count; value = row })
     (owner_said r.owner)
 
-abbrev pub rows_said : List PlainRow → List (RowRun Row)
-rows_said rows = filter_map row_said rows
+abbrev pub rows_from_c : List PlainRow → List (RowRun Row)
+rows_from_c rows = filter_map row_from_c rows
 
 -- whether a load is that of a vCPU of a slot
 abbrev pub is_load : ℕ → ℕ → PlainLoad → Bool
 is_load slot vcpu l = l.slot == slot && l.vcpu == vcpu
 
 -- the CPU that has the vCPU of a slot loaded: the first that the list names
-abbrev pub loader_said : List PlainLoad → ℕ → ℕ → Option ℕ
-loader_said loads slot vcpu = option_map (λ l. l.cpu) (find (is_load slot vcpu) loads)
+abbrev pub loader_from_c : List PlainLoad → ℕ → ℕ → Option ℕ
+loader_from_c loads slot vcpu = option_map (λ l. l.cpu) (find (is_load slot vcpu) loads)
 
 -- the stage of a slot, the phase of a guest, the kind of a VM, and the stage of a ticket: the last
 -- for each number that isn't known
-abbrev pub stand_said : ℕ → Stand
-stand_said n =
+abbrev pub stand_from_c : ℕ → Stand
+stand_from_c n =
     if n == 1 then reserved else if n == 2 then opened else if n == 3 then closing else vacant
 
-abbrev pub phase_said : ℕ → Phase
-phase_said n = if n == 1 then live else if n == 2 then dying else empty
+abbrev pub phase_from_c : ℕ → Phase
+phase_from_c n = if n == 1 then live else if n == 2 then dying else empty
 
-abbrev pub kind_said : ℕ → VmKind
-kind_said n = if n == 1 then Protected else Plain
+abbrev pub kind_from_c : ℕ → VmKind
+kind_from_c n = if n == 1 then Protected else Plain
 
-abbrev pub stage_said : ℕ → Stage
-stage_said n =
+abbrev pub stage_from_c : ℕ → Stage
+stage_from_c n =
     if n == 0 then Booked
     else if n == 1 then Installed
     else if n == 2 then Closing
@@ -133,18 +133,18 @@ stage_said n =
     else Finished
 
 -- a slot, by its number
-abbrev pub slot_said : List PlainLoad → ℕ → PlainSlot → Slot
-slot_said loads slot s = record {
-  stand = stand_said s.stand;
+abbrev pub slot_from_c : List PlainLoad → ℕ → PlainSlot → Slot
+slot_from_c loads slot s = record {
+  stand = stand_from_c s.stand;
   generation = s.generation;
-  kind = kind_said s.kind;
+  kind = kind_from_c s.kind;
   vcpus = s.vcpus;
-  loaded = loader_said loads slot;
+  loaded = loader_from_c loads slot;
 }
 
 -- what a CPU has loaded, its hand and its ticket
-abbrev pub loaded_said : PlainCpu → Option Loaded
-loaded_said k =
+abbrev pub loaded_from_c : PlainCpu → Option Loaded
+loaded_from_c k =
     if k.has_vcpu == 0 then None
     else Some
     (record {
@@ -152,18 +152,18 @@ loaded_said k =
       vcpu = k.vcpu;
     })
 
-abbrev pub hand_said : PlainCpu → Option PageRange
-hand_said k = if k.has_hand == 0 then None else Some (range_said k.hand_first k.hand_count)
+abbrev pub hand_from_c : PlainCpu → Option PageRange
+hand_from_c k = if k.has_hand == 0 then None else Some (range_from_c k.hand_first k.hand_count)
 
-abbrev pub ticket_said : PlainCpu → Option Ticket
-ticket_said k =
+abbrev pub ticket_from_c : PlainCpu → Option Ticket
+ticket_from_c k =
     if k.has_ticket == 0 then None
     else Some
     (record {
       vm = record { slot = k.ticket_slot; generation = k.ticket_generation };
-      kind = kind_said k.ticket_kind;
-      stage = stage_said k.ticket_stage;
+      kind = kind_from_c k.ticket_kind;
+      stage = stage_from_c k.ticket_stage;
     })
 
-abbrev pub cpu_said : PlainCpu → Cpu
-cpu_said k = record { loaded = loaded_said k; hand = hand_said k; ticket = ticket_said k }
+abbrev pub cpu_from_c : PlainCpu → Cpu
+cpu_from_c k = record { loaded = loaded_from_c k; hand = hand_from_c k; ticket = ticket_from_c k }

@@ -15,7 +15,7 @@ use Rattle.c_states.specs.declared.members.PlainSlot.{PlainSlot}
 use Rattle.c_states.specs.declared.told.PlainLists.{PlainLists}
 use Rattle.c_states.specs.Faults.{AreOnce}
 use Rattle.c_states.specs.Known.{has_known_ticket, is_frame, is_guest, is_row, is_run, is_slot, is_table}
-use Rattle.c_states.specs.Lists.{kind_said, loader_said, phase_said, stand_said}
+use Rattle.c_states.specs.Lists.{kind_from_c, loader_from_c, phase_from_c, stand_from_c}
 use Rattle.c_states.specs.States.{Lists}
 
 -- the lists
@@ -39,37 +39,37 @@ abbrev pub AreKnown : {X : Type 0} → (X → Bool) → List X → Type 0
 AreKnown known xs = All (λ x. IsTrue (known x)) xs
 
 -- each guest's members are listed under the number of its tree
-abbrev pub TellsGuests : {X : Type 0}
+abbrev pub ReportsGuests : {X : Type 0}
     → (ℕ → List X)
     → (GhostGuest → List X)
     → List GhostGuest
     → Type 0
-TellsGuests told has guests = (v : ℕ) → told (2 + v) ≡ get_or (map has guests) v []
+ReportsGuests told has guests = (v : ℕ) → told (2 + v) ≡ get_or (map has guests) v []
 
 -- these loads are added: a vCPU's loader is the first that is given for it
 abbrev pub AreLoadsAdded : List PlainLoad → List PlainLoad → (ℕ → ℕ → Option ℕ) → Type 0
 AreLoadsAdded old new loader =
     (slot vcpu : ℕ)
-    → loader_said new slot vcpu ≡ option_or (loader_said old slot vcpu) (loader slot vcpu)
+    → loader_from_c new slot vcpu ≡ option_or (loader_from_c old slot vcpu) (loader slot vcpu)
 
 -- loads, whatever the numbers of their vCPUs
 abbrev pub AreLoads : List PlainLoad → Type 0
 AreLoads xs = All (λ l. l.slot < 64) xs
 
 -- and so of CPUs
-abbrev pub is_cpu_told : ℕ → PlainCpu → Bool
-is_cpu_told cpus k = nat_lt k.cpu cpus && has_known_ticket k
+abbrev pub is_cpu_well_formed : ℕ → PlainCpu → Bool
+is_cpu_well_formed cpus k = nat_lt k.cpu cpus && has_known_ticket k
 
 -- the lists given have known numbers, but for those of vCPUs, and no slot, guest or CPU is there
 -- twice. A vCPU may be past the eighth if its slot has more than 8
-pub record AreTold (cpus : ℕ) (p : Lists) : Type 0 where
+pub record AreWellFormed (cpus : ℕ) (p : Lists) : Type 0 where
   pub runs : AreKnown is_run p.runs
   pub tables : AreKnown is_table p.tables
   pub frames : AreKnown is_frame p.frames
   pub slots : AreKnown is_slot p.slots
   pub loads : AreLoads p.loads
   pub guests : AreKnown is_guest p.guests
-  pub cpus_are : AreKnown (is_cpu_told cpus) p.cpus
+  pub cpus_are : AreKnown (is_cpu_well_formed cpus) p.cpus
   pub rows : AreKnown is_row p.rows
   pub once : AreOnce p
 
@@ -92,12 +92,12 @@ abbrev pub slot_head_in : GhostSlot → SlotHead
 slot_head_in s =
     record { stand = stand_in s.stand; generation = s.generation; kind = s.kind; vcpus = s.vcpus }
 
-abbrev pub slot_head_said : PlainSlot → SlotHead
-slot_head_said s =
+abbrev pub slot_head_from_c : PlainSlot → SlotHead
+slot_head_from_c s =
     record {
-      stand = stand_said s.stand;
+      stand = stand_from_c s.stand;
       generation = s.generation;
-      kind = kind_said s.kind;
+      kind = kind_from_c s.kind;
       vcpus = s.vcpus;
     }
 
@@ -110,6 +110,6 @@ pub record GuestHead : Type 0 where
 abbrev pub guest_head_in : GhostGuest → GuestHead
 guest_head_in g = record { phase = phase_in g.phase; generation = g.generation; kind = g.kind }
 
-abbrev pub guest_head_said : PlainGuest → GuestHead
-guest_head_said g =
-    record { phase = phase_said g.phase; generation = g.generation; kind = kind_said g.kind }
+abbrev pub guest_head_from_c : PlainGuest → GuestHead
+guest_head_from_c g =
+    record { phase = phase_from_c g.phase; generation = g.generation; kind = kind_from_c g.kind }

@@ -2,8 +2,8 @@
 use Rattle.c_states.specs.declared.state.PlainState.{PlainState}
 use Rattle.c_states.specs.States.{Lists}
 
-abbrev pub lists_told : PlainState → Lists
-lists_told s =
+abbrev pub lists_from_c : PlainState → Lists
+lists_from_c s =
     record {
       runs = s.runs.now;
       tables = s.tables.now;

@@ -6,17 +6,17 @@ ghost use Rattle.ghost_spec.specs.Filled.{HasTablesApart};
 ghost use Rattle.ghost_spec.specs.Kept.{HasNextGeneration};
 ghost use Rattle.ghost_spec.specs.States.{contents_in, ghost_state};
 ghost use Rattle.c_states.specs.Faults.{AreTaken};
-ghost use Rattle.c_states.specs.Judged.{IsForetold, IsForetoldState, IsJudged, IsUnjudged, IsUnjudgedAfter, IsUnmade, IsUntold};
-ghost use Rattle.c_states.specs.Layouts.{layout_said, IsTakenLayout};
-ghost use Rattle.c_states.specs.States.{contents_said, state_said};
-ghost use Rattle.c_states.specs.Told.{in_pool_order, lists_owned, AreTold};
-ghost use Rattle.c_states.specs.Views.{lists_told};
+ghost use Rattle.c_states.specs.Judged.{IsReplyPredicted, IsStatePredicted, IsJudged, IsUnjudged, IsUnjudgedAfter, IsUnmade, IsUnpredicted};
+ghost use Rattle.c_states.specs.Layouts.{layout_from_c, IsTakenLayout};
+ghost use Rattle.c_states.specs.States.{contents_from_c, state_from_c};
+ghost use Rattle.c_states.specs.Told.{in_pool_order, lists_owned, AreWellFormed};
+ghost use Rattle.c_states.specs.Views.{lists_from_c};
 ghost use Rattle.c_words.specs.Written.{reply_written};
 
 use crate::layout::{PlainLayout, PlainLayoutFault, layout_of};
 use crate::state::{PlainFault, PlainState, state_of};
 use crate::told::{PlainLists, lists_of};
-use c_words::{PlainReply, PlainStep, reply_of, reply_told, step_of};
+use c_words::{PlainReply, PlainStep, reply_of, reply_to_c, step_of};
 use call_table::{Reply, Step};
 use ghost_judge::disagreement::Disagreement;
 use ghost_judge::judge::judge_last;
@@ -65,13 +65,13 @@ pub fn made(
     layout: &PlainLayout<'_>,
     state: &PlainState<'_>,
 ) -> Result<Ghost, Unmade>
-    ensures state { IfOk result (λ g. ghost_state g ≡ state_said (lists_told state.now)) }
-    ensures layout { IfOk result (λ g. layout_of_code g.layout ≡ layout_said layout.now layout.now.regions.now) }
+    ensures state { IfOk result (λ g. ghost_state g ≡ state_from_c (lists_from_c state.now)) }
+    ensures layout { IfOk result (λ g. layout_of_code g.layout ≡ layout_from_c layout.now layout.now.regions.now) }
     ensures cpus { IfOk result (λ g. g.layout.config.cpus ≡ layout.now.cpus) }
     ensures tables { IfOk result HasTablesApart }
     ensures ready { OnOk result (IsTakenLayout layout.now layout.now.regions.now) }
-    ensures taken { OnOk result (AreTaken layout.now.cpus (lists_told state.now)) }
-    ensures fault { IfErr result (IsUnmade layout.now layout.now.regions.now (lists_told state.now)) }
+    ensures taken { OnOk result (AreTaken layout.now.cpus (lists_from_c state.now)) }
+    ensures fault { IfErr result (IsUnmade layout.now layout.now.regions.now (lists_from_c state.now)) }
 {
     let layout = match layout_of(alloc, layout) {
         Ok(layout) => layout,
@@ -94,11 +94,11 @@ pub fn judged(
     after: &PlainState<'_>,
 ) -> Result<Option<Disagreement>, Unjudged>
     ensures judged { IfOk result
-        (IsJudged layout.now layout.now.regions.now (lists_told before.now) call.now
-        (lists_told after.now)) }
+        (IsJudged layout.now layout.now.regions.now (lists_from_c before.now) call.now
+        (lists_from_c after.now)) }
     ensures unjudged { IfErr result
-        (IsUnjudged layout.now layout.now.regions.now (lists_told before.now) call.now
-        (lists_told after.now)) }
+        (IsUnjudged layout.now layout.now.regions.now (lists_from_c before.now) call.now
+        (lists_from_c after.now)) }
 {
     let Some(step) = step_of(call.step) else {
         return Err(Unjudged::Step);
@@ -135,14 +135,14 @@ fn judged_from(
     requires generation { HasNextGeneration ((contents_in pre).cpu cpu).ticket step }
     ensures none { IfOk result
         (λ o. (o ≡ None)
-        ↔ JudgeAgrees (contents_in pre) step reply (contents_said (lists_told after.now))
+        ↔ JudgeAgrees (contents_in pre) step reply (contents_from_c (lists_from_c after.now))
         (told_of pre cpu step)) }
     ensures first { IfOk result
         (λ o. IfSome o
-        (IsFirstJudged (contents_in pre) step reply (contents_said (lists_told after.now))
+        (IsFirstJudged (contents_in pre) step reply (contents_from_c (lists_from_c after.now))
         (told_of pre cpu step))) }
-    ensures taken { OnOk result (AreTaken layout.now.cpus (lists_told after.now)) }
-    ensures unjudged { IfErr result (IsUnjudgedAfter layout.now layout.now.regions.now (lists_told after.now)) }
+    ensures taken { OnOk result (AreTaken layout.now.cpus (lists_from_c after.now)) }
+    ensures unjudged { IfErr result (IsUnjudgedAfter layout.now layout.now.regions.now (lists_from_c after.now)) }
 {
     match made(alloc, layout, after) {
         Ok(post) => match judge_last(alloc, pre, cpu, step, &reply, &post) {
@@ -157,15 +157,17 @@ fn judged_from(
 }
 
 /// The reply that the model gives to a step of a CPU on a state.
-pub fn foretold(
+pub fn predicted(
     alloc: Global,
     layout: &PlainLayout<'_>,
     before: &PlainState<'_>,
     cpu: u64,
     step: PlainStep,
 ) -> Result<PlainReply, Unjudged>
-    ensures told { IfOk result (IsForetold layout.now layout.now.regions.now (lists_told before.now) cpu step) }
-    ensures untold { IfErr result (IsUntold layout.now layout.now.regions.now (lists_told before.now) cpu step) }
+    ensures told { IfOk result
+        (IsReplyPredicted layout.now layout.now.regions.now (lists_from_c before.now) cpu step) }
+    ensures unpredicted { IfErr result
+        (IsUnpredicted layout.now layout.now.regions.now (lists_from_c before.now) cpu step) }
 {
     let Some(step) = step_of(step) else {
         return Err(Unjudged::Step);
@@ -193,7 +195,7 @@ pub struct Predicted {
 }
 
 /// The reply that the model gives to a step of a CPU on a state, and the state after it.
-pub fn foretold_state(
+pub fn predicted_state(
     alloc: Global,
     layout: &PlainLayout<'_>,
     before: &PlainState<'_>,
@@ -201,9 +203,10 @@ pub fn foretold_state(
     step: PlainStep,
 ) -> Result<Predicted, Unjudged>
     ensures told { IfOk result
-        (λ f. IsForetoldState layout.now layout.now.regions.now
-        (lists_told before.now) cpu step f.reply (lists_owned f.after)) }
-    ensures untold { IfErr result (IsUntold layout.now layout.now.regions.now (lists_told before.now) cpu step) }
+        (λ f. IsStatePredicted layout.now layout.now.regions.now
+        (lists_from_c before.now) cpu step f.reply (lists_owned f.after)) }
+    ensures unpredicted { IfErr result
+        (IsUnpredicted layout.now layout.now.regions.now (lists_from_c before.now) cpu step) }
 {
     let Some(step) = step_of(step) else {
         return Err(Unjudged::Step);
@@ -229,10 +232,10 @@ fn state_after(alloc: Global, pre: Ghost, cpu: u64, step: Step) -> Result<Predic
     requires generation { HasNextGeneration ((contents_in pre).cpu cpu).ticket step }
     ensures reply { IfOk result (λ f. f.reply ≡ reply_written (told_of pre cpu step).0) }
     ensures after { IfOk result
-        (λ f. contents_said (lists_owned f.after)
+        (λ f. contents_from_c (lists_owned f.after)
         ≡ in_pool_order (told_of pre cpu step).1.contents) }
-    ensures lists { IfOk result (λ f. AreTold pre.layout.config.cpus (lists_owned f.after)) }
-    ensures untold { IfErr result (λ why. why ≡ Unjudged.NoMemory) }
+    ensures lists { IfOk result (λ f. AreWellFormed pre.layout.config.cpus (lists_owned f.after)) }
+    ensures unpredicted { IfErr result (λ why. why ≡ Unjudged.NoMemory) }
 {
     let Ok((reply, after)) = predict_last(alloc, pre, cpu, step) else {
         return Err(Unjudged::NoMemory);
@@ -241,7 +244,7 @@ fn state_after(alloc: Global, pre: Ghost, cpu: u64, step: Step) -> Result<Predic
     drop(after);
     match lists {
         Ok(after) => Ok(Predicted {
-            reply: reply_told(reply),
+            reply: reply_to_c(reply),
             after,
         }),
         Err(_) => Err(Unjudged::NoMemory),
@@ -253,12 +256,12 @@ fn reply_to(alloc: Global, pre: Ghost, cpu: u64, step: Step) -> Result<PlainRepl
     requires cpu { cpu < pre.layout.config.cpus }
     requires generation { HasNextGeneration ((contents_in pre).cpu cpu).ticket step }
     ensures told { IfOk result (λ r. r ≡ reply_written (told_of pre cpu step).0) }
-    ensures untold { IfErr result (λ why. why ≡ Unjudged.NoMemory) }
+    ensures unpredicted { IfErr result (λ why. why ≡ Unjudged.NoMemory) }
 {
     match predict_last(alloc, pre, cpu, step) {
         Ok((reply, after)) => {
             drop(after);
-            Ok(reply_told(reply))
+            Ok(reply_to_c(reply))
         }
         Err(_) => Err(Unjudged::NoMemory),
     }

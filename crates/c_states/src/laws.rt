@@ -1,10 +1,10 @@
 //! Laws of calls that are judged and predicted.
 ghost use Rattle.c_states.specs.Laws.{
-  ForetoldElse,
-  ForetoldKnown,
-  ForetoldOnce,
-  ForetoldStateElse,
-  ForetoldStateOnce,
+  PredictedElse,
+  PredictedKnown,
+  PredictedOnce,
+  PredictedStateElse,
+  PredictedStateOnce,
   JudgedElse,
   JudgedOnce,
   LayoutFaultOnce,
@@ -12,22 +12,22 @@ ghost use Rattle.c_states.specs.Laws.{
   PlainFaultOnce,
   UnjudgedOnce,
   UnmadeOnce,
-  UntoldOnce,
+  UnpredictedOnce,
 };
 
 /// Lists that are taken, and calls that are judged or predicted, are refused only if memory runs out.
 pub fn no_refusal()
     ensures made { MadeElse }
     ensures judged { JudgedElse }
-    ensures foretold { ForetoldElse }
-    ensures state { ForetoldStateElse }
+    ensures predicted { PredictedElse }
+    ensures state { PredictedStateElse }
 {}
 
 /// A judgement and a prediction have one answer.
 pub fn one_answer()
     ensures judged { JudgedOnce }
-    ensures foretold { ForetoldOnce }
-    ensures state { ForetoldStateOnce }
+    ensures predicted { PredictedOnce }
+    ensures state { PredictedStateOnce }
 {}
 
 /// A refusal has one reason, the first, unless memory ran out.
@@ -35,11 +35,11 @@ pub fn one_reason()
     ensures layout { LayoutFaultOnce }
     ensures lists { PlainFaultOnce }
     ensures made { UnmadeOnce }
-    ensures foretold { UntoldOnce }
+    ensures predicted { UnpredictedOnce }
     ensures judged { UnjudgedOnce }
 {}
 
 /// A state that is predicted has known numbers, and nothing twice, if no vCPU past the eighth is loaded.
-pub fn foretold_known()
-    ensures { ForetoldKnown }
+pub fn predicted_known()
+    ensures { PredictedKnown }
 {}

@@ -3,8 +3,8 @@ ghost use Rattle.std.specs.Prelude.{◌≡◌, ◌≢◌, ◌↔◌, Err, IfErr,
 ghost use Rattle.page_state.specs.Geometries.{geometry_of};
 ghost use Rattle.page_state.specs.LayoutFaults.{IsAccepted, IsFirstFault};
 ghost use Rattle.page_state.specs.LayoutView.{layout_of as layout_of_code};
-ghost use Rattle.c_states.specs.Layouts.{layout_said, memory_said, region_said, IsLayoutFault, IsTakenLayout};
-ghost use Rattle.c_states.specs.Lists.{range_said};
+ghost use Rattle.c_states.specs.Layouts.{layout_from_c, memory_from_c, region_from_c, IsLayoutFault, IsTakenLayout};
+ghost use Rattle.c_states.specs.Lists.{range_from_c};
 
 use page_state::{
     Config, Geometry, Layout, LayoutFault, MemoryMap, Page, PageRange, Region, RegionKind,
@@ -49,7 +49,7 @@ pub enum PlainLayoutFault {
 
 /// The range of these numbers.
 pub(crate) fn range_of(first: u64, count: u64) -> PageRange
-    ensures { result ≡ range_said first count }
+    ensures { result ≡ range_from_c first count }
 {
     PageRange {
         first: Page(first),
@@ -59,7 +59,7 @@ pub(crate) fn range_of(first: u64, count: u64) -> PageRange
 
 /// The region of these numbers.
 fn region_of(region: PlainRegion) -> Region
-    ensures { result ≡ region_said region }
+    ensures { result ≡ region_from_c region }
 {
     Region {
         kind: if region.kind == 0 {
@@ -73,7 +73,7 @@ fn region_of(region: PlainRegion) -> Region
 
 /// The regions of these numbers.
 fn regions_of(alloc: Global, regions: &[PlainRegion]) -> Result<Vec<Region>, AllocError>
-    ensures { IfOk result (λ v. v.items ≡ map region_said regions.now) }
+    ensures { IfOk result (λ v. v.items ≡ map region_from_c regions.now) }
 {
     regions
         .iter()
@@ -83,11 +83,11 @@ fn regions_of(alloc: Global, regions: &[PlainRegion]) -> Result<Vec<Region>, All
 
 /// The memory of these numbers.
 fn memory_of(alloc: Global, layout: &PlainLayout<'_>) -> Result<MemoryMap, PlainLayoutFault>
-    ensures memory { IfOk result (λ m. m ≡ memory_said layout.now layout.now.regions.now) }
+    ensures memory { IfOk result (λ m. m ≡ memory_from_c layout.now layout.now.regions.now) }
     ensures fault { (f : LayoutFault)
         → result ≡ Err (PlainLayoutFault.Memory f)
-        → IsFirstFault f (memory_said layout.now layout.now.regions.now) }
-    ensures accepted { OnOk result (IsAccepted (memory_said layout.now layout.now.regions.now)) }
+        → IsFirstFault f (memory_from_c layout.now layout.now.regions.now) }
+    ensures accepted { OnOk result (IsAccepted (memory_from_c layout.now layout.now.regions.now)) }
     ensures geometry { result ≢ Err PlainLayoutFault.Geometry }
 {
     let Ok(regions) = regions_of(alloc, layout.regions) else {
@@ -103,7 +103,7 @@ fn memory_of(alloc: Global, layout: &PlainLayout<'_>) -> Result<MemoryMap, Plain
 
 /// The layout of these numbers, if its memory is accepted. Each log has room for one call.
 pub fn layout_of(alloc: Global, layout: &PlainLayout<'_>) -> Result<Layout, PlainLayoutFault>
-    ensures layout { IfOk result (λ l. layout_of_code l ≡ layout_said layout.now layout.now.regions.now) }
+    ensures layout { IfOk result (λ l. layout_of_code l ≡ layout_from_c layout.now layout.now.regions.now) }
     ensures config { IfOk result
         (λ l. l.config
         ≡ record { cpus = layout.now.cpus; log = 1; geometry = layout.now.address_bits }) }

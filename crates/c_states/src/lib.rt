@@ -13,7 +13,7 @@ mod state;
 mod text;
 mod told;
 
-pub use judge::{PlainCall, Predicted, Unjudged, Unmade, foretold, foretold_state, judged, made};
+pub use judge::{PlainCall, Predicted, Unjudged, Unmade, judged, made, predicted, predicted_state};
 pub use layout::{PlainLayout, PlainLayoutFault, PlainRegion, layout_of};
 pub use members::{
     PlainCpu, PlainFrame, PlainGuest, PlainLoad, PlainRow, PlainRun, PlainSlot, PlainTable,

@@ -6,26 +6,26 @@ ghost use Rattle.ghost_spec.specs.Views.{cpu_in};
 ghost use Rattle.c_states.specs.Filled.{slot_filled};
 ghost use Rattle.c_states.specs.Lists.{
   cpu_listed,
-  cpu_said,
-  frame_said,
-  frames_said,
+  cpu_from_c,
+  frame_from_c,
+  frames_from_c,
   guest_listed,
-  hand_said,
+  hand_from_c,
   is_load,
-  kind_said,
-  loaded_said,
-  loader_said,
-  phase_said,
-  row_said,
-  rows_said,
-  run_said,
-  runs_said,
+  kind_from_c,
+  loaded_from_c,
+  loader_from_c,
+  phase_from_c,
+  row_from_c,
+  rows_from_c,
+  run_from_c,
+  runs_from_c,
   slot_listed,
-  stage_said,
-  stand_said,
-  table_said,
-  tables_said,
-  ticket_said,
+  stage_from_c,
+  stand_from_c,
+  table_from_c,
+  tables_from_c,
+  ticket_from_c,
 };
 
 use crate::layout::range_of;
@@ -46,7 +46,7 @@ const VCPUS: u64 = 8;
 
 /// The run that a plain run says of a tree.
 fn run_of(tree: u64, run: PlainRun) -> Option<Run>
-    ensures { result ≡ run_said tree run }
+    ensures { result ≡ run_from_c tree run }
 {
     if run.tree != tree {
         return None;
@@ -60,7 +60,7 @@ fn run_of(tree: u64, run: PlainRun) -> Option<Run>
 
 /// The runs of a tree.
 pub(crate) fn runs_of(alloc: Global, runs: &[PlainRun], tree: u64) -> Result<Vec<Run>, AllocError>
-    ensures { IfOk result (λ v. v.items ≡ runs_said runs.now tree) }
+    ensures { IfOk result (λ v. v.items ≡ runs_from_c runs.now tree) }
 {
     runs.iter()
         .filter_map(|run| run_of(tree, *run))
@@ -69,7 +69,7 @@ pub(crate) fn runs_of(alloc: Global, runs: &[PlainRun], tree: u64) -> Result<Vec
 
 /// The table that a plain table says of a tree.
 fn table_of(tree: u64, table: PlainTable) -> Option<Table>
-    ensures { result ≡ table_said tree table }
+    ensures { result ≡ table_from_c tree table }
 {
     if table.tree != tree {
         return None;
@@ -86,7 +86,7 @@ pub(crate) fn tables_of(
     tables: &[PlainTable],
     tree: u64,
 ) -> Result<Vec<Table>, AllocError>
-    ensures { IfOk result (λ v. v.items ≡ tables_said tables.now tree) }
+    ensures { IfOk result (λ v. v.items ≡ tables_from_c tables.now tree) }
 {
     tables
         .iter()
@@ -96,7 +96,7 @@ pub(crate) fn tables_of(
 
 /// The free frame of a pool.
 fn frame_of(pool: u64, frame: PlainFrame) -> Option<u64>
-    ensures { result ≡ frame_said pool frame }
+    ensures { result ≡ frame_from_c pool frame }
 {
     if frame.pool == pool {
         Some(frame.frame)
@@ -111,7 +111,7 @@ pub(crate) fn frames_of(
     frames: &[PlainFrame],
     pool: u64,
 ) -> Result<Vec<u64>, AllocError>
-    ensures { IfOk result (λ v. v.items ≡ frames_said frames.now pool) }
+    ensures { IfOk result (λ v. v.items ≡ frames_from_c frames.now pool) }
 {
     frames
         .iter()
@@ -121,7 +121,7 @@ pub(crate) fn frames_of(
 
 /// The run of owner rows.
 fn row_of(row: PlainRow) -> Option<run_list::Run<Row>>
-    ensures { result ≡ row_said row }
+    ensures { result ≡ row_from_c row }
 {
     let value = owner_row_of(row.owner)?;
     Some(run_list::Run {
@@ -135,14 +135,14 @@ pub(crate) fn row_runs_of(
     alloc: Global,
     rows: &[PlainRow],
 ) -> Result<Vec<run_list::Run<Row>>, AllocError>
-    ensures { IfOk result (λ v. v.items ≡ rows_said rows.now) }
+    ensures { IfOk result (λ v. v.items ≡ rows_from_c rows.now) }
 {
     rows.iter().filter_map(|row| row_of(*row)).collect(alloc)
 }
 
 /// The stage of a slot.
 fn stand_of(number: u64) -> GhostStand
-    ensures { stand_in result ≡ stand_said number }
+    ensures { stand_in result ≡ stand_from_c number }
 {
     match number {
         1 => GhostStand::Reserved,
@@ -154,7 +154,7 @@ fn stand_of(number: u64) -> GhostStand
 
 /// The phase of a guest.
 pub(crate) fn phase_of(number: u64) -> GhostPhase
-    ensures { phase_in result ≡ phase_said number }
+    ensures { phase_in result ≡ phase_from_c number }
 {
     match number {
         1 => GhostPhase::Live,
@@ -165,7 +165,7 @@ pub(crate) fn phase_of(number: u64) -> GhostPhase
 
 /// The kind of a VM.
 pub(crate) fn kind_of(number: u64) -> VmKind
-    ensures { result ≡ kind_said number }
+    ensures { result ≡ kind_from_c number }
 {
     if number == 1 {
         VmKind::Protected
@@ -176,7 +176,7 @@ pub(crate) fn kind_of(number: u64) -> VmKind
 
 /// The stage of a ticket.
 fn stage_of(number: u64) -> Stage
-    ensures { result ≡ stage_said number }
+    ensures { result ≡ stage_from_c number }
 {
     match number {
         0 => Stage::Booked,
@@ -196,7 +196,7 @@ fn is_load_of(slot: u64, vcpu: u64, load: PlainLoad) -> bool
 
 /// The CPU that has a vCPU loaded.
 fn loader_of(loads: &[PlainLoad], slot: u64, vcpu: u64) -> Option<u64>
-    ensures { result ≡ loader_said loads.now slot vcpu }
+    ensures { result ≡ loader_from_c loads.now slot vcpu }
 {
     let load = loads.iter().find(|load| is_load_of(slot, vcpu, **load))?;
     Some(load.cpu)
@@ -207,7 +207,7 @@ fn loaders_of(alloc: Global, loads: &[PlainLoad], slot: u64) -> Result<Vec<Optio
     ensures { IfOk result
         (λ v. (i : ℕ)
         → get_or v.items i None
-        ≡ (if nat_lt i 8 then loader_said loads.now slot i else None)) }
+        ≡ (if nat_lt i 8 then loader_from_c loads.now slot i else None)) }
 {
     let mut loaders = Vec::new(alloc);
     for vcpu in 0..VCPUS {
@@ -282,7 +282,7 @@ fn vm_of(slot: u64, generation: u64) -> VmId
 
 /// What a CPU has loaded.
 fn loaded_of(cpu: PlainCpu) -> Option<Loaded>
-    ensures { result ≡ loaded_said cpu }
+    ensures { result ≡ loaded_from_c cpu }
 {
     if cpu.has_vcpu == 0 {
         return None;
@@ -295,7 +295,7 @@ fn loaded_of(cpu: PlainCpu) -> Option<Loaded>
 
 /// A CPU's hand.
 fn hand_of(cpu: PlainCpu) -> Option<PageRange>
-    ensures { result ≡ hand_said cpu }
+    ensures { result ≡ hand_from_c cpu }
 {
     if cpu.has_hand == 0 {
         return None;
@@ -305,7 +305,7 @@ fn hand_of(cpu: PlainCpu) -> Option<PageRange>
 
 /// A CPU's ticket.
 fn ticket_of(cpu: PlainCpu) -> Option<Ticket>
-    ensures { result ≡ ticket_said cpu }
+    ensures { result ≡ ticket_from_c cpu }
 {
     if cpu.has_ticket == 0 {
         return None;
@@ -319,7 +319,7 @@ fn ticket_of(cpu: PlainCpu) -> Option<Ticket>
 
 /// A CPU's own state.
 fn cpu_of(cpu: PlainCpu) -> GhostCpu
-    ensures { cpu_in result ≡ cpu_said cpu }
+    ensures { cpu_in result ≡ cpu_from_c cpu }
 {
     GhostCpu {
         loaded: loaded_of(cpu),
@@ -364,7 +364,7 @@ pub(crate) fn cpus_of(
 ) -> Result<Vec<GhostCpu>, AllocError>
     ensures { IfOk result
         (λ v. map cpu_in v.items
-        ≡ map (λ c. cpu_said (cpu_listed cpus.now c)) (range_with_len 0 count)) }
+        ≡ map (λ c. cpu_from_c (cpu_listed cpus.now c)) (range_with_len 0 count)) }
 {
     let mut made = Vec::new(alloc);
     for number in 0..count {

@@ -7,7 +7,7 @@ ghost use Rattle.run_list.specs.Runs.{run_map};
 ghost use Rattle.ghost_spec.specs.declared.lists.GhostLists.{GhostLists};
 ghost use Rattle.ghost_spec.specs.Filled.{state_filled, AreLowRows, AreRowsApart, HasTablesApart, IsFirstFault, IsFirstRowFault, MakesState};
 ghost use Rattle.ghost_spec.specs.States.{ghost_state, slot_in};
-ghost use Rattle.c_states.specs.Filled.{AreFilledGuests, IsFilled, IsFilledShared, IsFilledTree, IsRoomy, guest_lists_said, lists_in, slot_filled};
+ghost use Rattle.c_states.specs.Filled.{AreFilledGuests, IsFilled, IsFilledShared, IsFilledTree, IsRoomy, guest_lists_from_c, lists_in, slot_filled};
 ghost use Rattle.c_states.specs.Faults.{
   first_unknown_later,
   first_unknown_of,
@@ -21,9 +21,9 @@ ghost use Rattle.c_states.specs.Faults.{
   IsPlainFault,
   IsTwice,
 };
-ghost use Rattle.c_states.specs.Lists.{rows_said, slot_listed};
-ghost use Rattle.c_states.specs.States.{state_said};
-ghost use Rattle.c_states.specs.Views.{lists_told};
+ghost use Rattle.c_states.specs.Lists.{rows_from_c, slot_listed};
+ghost use Rattle.c_states.specs.States.{state_from_c};
+ghost use Rattle.c_states.specs.Views.{lists_from_c};
 
 use crate::clash::first_clash;
 use crate::known::{first_unknown, first_unknown_cpu};
@@ -76,7 +76,7 @@ pub(crate) const GUESTS: u64 = 2;
 
 /// The tree of a number.
 fn tree_of(alloc: Global, state: &PlainState<'_>, number: u64) -> Result<Tree, AllocError>
-    ensures { IfOk result (IsFilledTree (lists_told state.now) number) }
+    ensures { IfOk result (IsFilledTree (lists_from_c state.now) number) }
 {
     Ok(Tree {
         runs: runs_of(alloc, state.runs, number)?,
@@ -92,7 +92,7 @@ fn guest_of(
     guest: PlainGuest,
 ) -> Result<GhostGuest, AllocError>
     requires { slot < 2 ^ 63 }
-    ensures { IfOk result (λ g. lists_in g ≡ guest_lists_said (lists_told state.now) slot guest) }
+    ensures { IfOk result (λ g. lists_in g ≡ guest_lists_from_c (lists_from_c state.now) slot guest) }
 {
     Ok(GhostGuest {
         phase: phase_of(guest.phase),
@@ -127,7 +127,7 @@ fn slots_of(
 
 /// The guests.
 fn guests_of(alloc: Global, state: &PlainState<'_>) -> Result<Vec<GhostGuest>, AllocError>
-    ensures { IfOk result (λ v. AreFilledGuests (lists_told state.now) v.items) }
+    ensures { IfOk result (λ v. AreFilledGuests (lists_from_c state.now) v.items) }
 {
     let mut made = Vec::new(alloc);
     for slot in 0..SLOTS {
@@ -143,8 +143,8 @@ fn shared_of(
     state: &PlainState<'_>,
     rows: RunList<Row>,
 ) -> Result<Shared, AllocError>
-    requires { run_map advance_row rows.runs ≡ run_map advance_row (rows_said state.now.rows.now) }
-    ensures { IfOk result (IsFilledShared (lists_told state.now)) }
+    requires { run_map advance_row rows.runs ≡ run_map advance_row (rows_from_c state.now.rows.now) }
+    ensures { IfOk result (IsFilledShared (lists_from_c state.now)) }
 {
     let free = frames_of(alloc, state.frames, SHARED_POOL)?;
     let host = tree_of(alloc, state, HOST)?;
@@ -181,9 +181,9 @@ fn filled(
     state: &PlainState<'_>,
     rows: RunList<Row>,
 ) -> Result<GhostLists, AllocError>
-    requires rows { run_map advance_row rows.runs ≡ run_map advance_row (rows_said state.now.rows.now) }
+    requires rows { run_map advance_row rows.runs ≡ run_map advance_row (rows_from_c state.now.rows.now) }
     requires log { layout.config.log ≡ 1 }
-    ensures filled { IfOk result (IsFilled layout.config.cpus (lists_told state.now)) }
+    ensures filled { IfOk result (IsFilled layout.config.cpus (lists_from_c state.now)) }
     ensures layout { IfOk result (λ l. l.layout ≡ layout) }
     ensures guest_rooms { IfOk result (λ l. length l.rooms.guests.items ≡ 64) }
     ensures cpu_rooms { IfOk result (λ l. length l.rooms.cpus.items ≡ layout.config.cpus) }
@@ -250,7 +250,7 @@ pub enum PlainFault {
 
 /// The first member with an unknown number, in the order of the lists.
 fn unknown(state: &PlainState<'_>, cpus: u64) -> Option<(PlainList, usize)>
-    ensures { result ≡ first_unknown_of cpus (lists_told state.now) }
+    ensures { result ≡ first_unknown_of cpus (lists_from_c state.now) }
 {
     if let Some(at) = first_unknown(state.runs) {
         return Some((PlainList::Runs, at));
@@ -269,7 +269,7 @@ fn unknown(state: &PlainState<'_>, cpus: u64) -> Option<(PlainList, usize)>
 
 /// From the loads on.
 fn unknown_later(state: &PlainState<'_>, cpus: u64) -> Option<(PlainList, usize)>
-    ensures { result ≡ first_unknown_later cpus (lists_told state.now) }
+    ensures { result ≡ first_unknown_later cpus (lists_from_c state.now) }
 {
     if let Some(at) = first_unknown(state.loads) {
         return Some((PlainList::Loads, at));
@@ -288,8 +288,8 @@ fn unknown_later(state: &PlainState<'_>, cpus: u64) -> Option<(PlainList, usize)
 
 /// The first of two slots, guests or CPUs that have one number, in the order of the lists: the later one.
 fn twice(state: &PlainState<'_>) -> Option<(PlainList, usize)>
-    ensures { MatchOption result (AreOnce (lists_told state.now))
-        (λ t. IsTwice (lists_told state.now) t.0 t.1) }
+    ensures { MatchOption result (AreOnce (lists_from_c state.now))
+        (λ t. IsTwice (lists_from_c state.now) t.0 t.1) }
 {
     if let Some(at) = first_clash(state.slots) {
         return Some((PlainList::Slots, at));
@@ -305,9 +305,9 @@ fn twice(state: &PlainState<'_>) -> Option<(PlainList, usize)>
 
 /// The owner rows.
 fn rows_from(alloc: Global, rows: &[PlainRow]) -> Result<RunList<Row>, GhostFault>
-    ensures rows { IfOk result (λ r. run_map advance_row r.runs ≡ run_map advance_row (rows_said rows.now)) }
-    ensures fault { IfErr result (λ f. f ≡ GhostFault.NoMemory ⊎ IsFirstRowFault f (rows_said rows.now)) }
-    ensures made { OnOk result (AreLowRows (rows_said rows.now) × AreRowsApart (rows_said rows.now)) }
+    ensures rows { IfOk result (λ r. run_map advance_row r.runs ≡ run_map advance_row (rows_from_c rows.now)) }
+    ensures fault { IfErr result (λ f. f ≡ GhostFault.NoMemory ⊎ IsFirstRowFault f (rows_from_c rows.now)) }
+    ensures made { OnOk result (AreLowRows (rows_from_c rows.now) × AreRowsApart (rows_from_c rows.now)) }
 {
     match row_runs_of(alloc, rows) {
         Ok(runs) => rows_of(alloc, runs.as_slice()),
@@ -329,8 +329,8 @@ fn tested(alloc: Global, lists: &GhostLists) -> Result<Ghost, GhostFault>
 /// The member that makes lists have a fault, if the fault comes from one of two that can't both be there.
 fn culprit(state: &PlainState<'_>, fault: GhostFault) -> Option<(PlainList, usize)>
     ensures { (cpus : ℕ)
-        → IsFirstOfLists cpus (lists_told state.now) fault
-        → IsCulprit (lists_told state.now) fault result }
+        → IsFirstOfLists cpus (lists_from_c state.now) fault
+        → IsCulprit (lists_from_c state.now) fault result }
 {
     match fault {
         GhostFault::Overlap => {
@@ -353,8 +353,8 @@ fn culprit(state: &PlainState<'_>, fault: GhostFault) -> Option<(PlainList, usiz
 fn with_culprit(state: &PlainState<'_>, fault: GhostFault) -> PlainFault
     ensures memory { fault ≡ GhostFault.NoMemory → result ≡ PlainFault.NoMemory }
     ensures fault { (cpus : ℕ)
-        → IsFirstOfLists cpus (lists_told state.now) fault
-        → IsListsFault cpus (lists_told state.now) result }
+        → IsFirstOfLists cpus (lists_from_c state.now) fault
+        → IsListsFault cpus (lists_from_c state.now) result }
 {
     match fault {
         GhostFault::NoMemory => PlainFault::NoMemory,
@@ -369,14 +369,14 @@ fn with_rows(
     state: &PlainState<'_>,
     rows: RunList<Row>,
 ) -> Result<Ghost, PlainFault>
-    requires rows { run_map advance_row rows.runs ≡ run_map advance_row (rows_said state.now.rows.now) }
+    requires rows { run_map advance_row rows.runs ≡ run_map advance_row (rows_from_c state.now.rows.now) }
     requires log { layout.config.log ≡ 1 }
-    requires read { AreRead layout.config.cpus (lists_told state.now) }
-    ensures state { IfOk result (λ g. ghost_state g ≡ state_said (lists_told state.now)) }
+    requires read { AreRead layout.config.cpus (lists_from_c state.now) }
+    ensures state { IfOk result (λ g. ghost_state g ≡ state_from_c (lists_from_c state.now)) }
     ensures layout { IfOk result (λ g. layout_of g.layout ≡ layout_of layout) }
     ensures tables { IfOk result HasTablesApart }
-    ensures taken { OnOk result (AreTaken layout.config.cpus (lists_told state.now)) }
-    ensures fault { IfErr result (IsPlainFault layout.config.cpus (lists_told state.now)) }
+    ensures taken { OnOk result (AreTaken layout.config.cpus (lists_from_c state.now)) }
+    ensures fault { IfErr result (IsPlainFault layout.config.cpus (lists_from_c state.now)) }
 {
     let Ok(lists) = filled(alloc, layout, state, rows) else {
         return Err(PlainFault::NoMemory);
@@ -392,11 +392,11 @@ fn with_rows(
 /// The state that the lists say, on this layout, whose logs have room for one call each.
 pub fn state_of(alloc: Global, layout: Layout, state: &PlainState<'_>) -> Result<Ghost, PlainFault>
     requires { layout.config.log ≡ 1 }
-    ensures state { IfOk result (λ g. ghost_state g ≡ state_said (lists_told state.now)) }
+    ensures state { IfOk result (λ g. ghost_state g ≡ state_from_c (lists_from_c state.now)) }
     ensures layout { IfOk result (λ g. layout_of g.layout ≡ layout_of layout) }
     ensures tables { IfOk result HasTablesApart }
-    ensures taken { OnOk result (AreTaken layout.config.cpus (lists_told state.now)) }
-    ensures fault { IfErr result (IsPlainFault layout.config.cpus (lists_told state.now)) }
+    ensures taken { OnOk result (AreTaken layout.config.cpus (lists_from_c state.now)) }
+    ensures fault { IfErr result (IsPlainFault layout.config.cpus (lists_from_c state.now)) }
 {
     if let Some((list, at)) = unknown(state, layout.config.cpus) {
         return Err(PlainFault::Unknown(list, at));

@@ -4,34 +4,34 @@ ghost use Rattle.std.specs.List.{range_with_len};
 ghost use Rattle.ghost_spec.specs.States.{contents_in, phase_in, stand_in};
 ghost use Rattle.ghost_spec.specs.Views.{cpu_in};
 ghost use Rattle.c_states.specs.Lists.{
-  cpu_said,
-  frame_said,
-  frames_said,
-  hand_said,
-  kind_said,
-  loaded_said,
-  loader_said,
-  phase_said,
-  row_said,
-  rows_said,
-  run_said,
-  runs_said,
-  stage_said,
-  stand_said,
-  table_said,
-  tables_said,
-  ticket_said,
+  cpu_from_c,
+  frame_from_c,
+  frames_from_c,
+  hand_from_c,
+  kind_from_c,
+  loaded_from_c,
+  loader_from_c,
+  phase_from_c,
+  row_from_c,
+  rows_from_c,
+  run_from_c,
+  runs_from_c,
+  stage_from_c,
+  stand_from_c,
+  table_from_c,
+  tables_from_c,
+  ticket_from_c,
 };
-ghost use Rattle.c_states.specs.States.{contents_said};
+ghost use Rattle.c_states.specs.States.{contents_from_c};
 ghost use Rattle.c_states.specs.Known.{has_known_ticket, is_frame, is_guest, is_row, is_run, is_slot, is_table};
-ghost use Rattle.c_states.specs.Told.{guest_head_in, guest_head_said, in_pool_order, is_cpu_told, lists_owned, slot_head_in, slot_head_said, TellsGuests, AreKnown, AreLoads, AreLoadsAdded, AreTold};
-ghost use Rattle.c_states.specs.Views.{lists_told};
+ghost use Rattle.c_states.specs.Told.{guest_head_in, guest_head_from_c, in_pool_order, is_cpu_well_formed, lists_owned, slot_head_in, slot_head_from_c, ReportsGuests, AreKnown, AreLoads, AreLoadsAdded, AreWellFormed};
+ghost use Rattle.c_states.specs.Views.{lists_from_c};
 
 use crate::members::{
     PlainCpu, PlainFrame, PlainGuest, PlainLoad, PlainRow, PlainRun, PlainSlot, PlainTable,
 };
 use crate::state::{GUESTS, HOST, HYP, PlainState, SHARED_POOL, both};
-use c_words::{owner_told, target_told};
+use c_words::{owner_to_c, target_to_c};
 use call_table::VmKind;
 use ghost_spec::cpu::GhostCpu;
 use ghost_spec::lists::GhostLists;
@@ -56,34 +56,34 @@ pub struct PlainLists {
 }
 
 /// The run of a tree as a plain run.
-fn run_told(tree: u64, run: Run) -> PlainRun
-    ensures { (t : ℕ) → run_said t result ≡ (if tree == t then Some run else None) }
+fn run_to_c(tree: u64, run: Run) -> PlainRun
+    ensures { (t : ℕ) → run_from_c t result ≡ (if tree == t then Some run else None) }
 {
     PlainRun {
         tree,
         page: run.pages.first.0,
         count: run.pages.count,
-        word: target_told(run.target),
+        word: target_to_c(run.target),
     }
 }
 
 /// Adds the runs of a tree.
-fn tell_runs(told: &mut Vec<PlainRun>, tree: u64, runs: &[Run]) -> Result<(), AllocError>
+fn push_runs(told: &mut Vec<PlainRun>, tree: u64, runs: &[Run]) -> Result<(), AllocError>
     ensures said { OnOk result
         ((t : ℕ)
-        → runs_said told.new.items t
-        ≡ runs_said told.old.items t ++ (if tree == t then runs.now else [])) }
+        → runs_from_c told.new.items t
+        ≡ runs_from_c told.old.items t ++ (if tree == t then runs.now else [])) }
     ensures known { OnOk result (tree < 66 → AreKnown is_run told.old.items → AreKnown is_run told.new.items) }
 {
     for i in 0..runs.len() {
-        told.push(run_told(tree, runs[i]))?;
+        told.push(run_to_c(tree, runs[i]))?;
     }
     Ok(())
 }
 
 /// The table of a tree as a plain table.
-fn table_told(tree: u64, table: Table) -> PlainTable
-    ensures { (t : ℕ) → table_said t result ≡ (if tree == t then Some table else None) }
+fn table_to_c(tree: u64, table: Table) -> PlainTable
+    ensures { (t : ℕ) → table_from_c t result ≡ (if tree == t then Some table else None) }
 {
     PlainTable {
         tree,
@@ -94,33 +94,33 @@ fn table_told(tree: u64, table: Table) -> PlainTable
 }
 
 /// Adds the tables of a tree.
-fn tell_tables(told: &mut Vec<PlainTable>, tree: u64, tables: &[Table]) -> Result<(), AllocError>
+fn push_tables(told: &mut Vec<PlainTable>, tree: u64, tables: &[Table]) -> Result<(), AllocError>
     ensures said { OnOk result
         ((t : ℕ)
-        → tables_said told.new.items t
-        ≡ tables_said told.old.items t ++ (if tree == t then tables.now else [])) }
+        → tables_from_c told.new.items t
+        ≡ tables_from_c told.old.items t ++ (if tree == t then tables.now else [])) }
     ensures known { OnOk result
         (tree < 66 → AreKnown is_table told.old.items → AreKnown is_table told.new.items) }
 {
     for i in 0..tables.len() {
-        told.push(table_told(tree, tables[i]))?;
+        told.push(table_to_c(tree, tables[i]))?;
     }
     Ok(())
 }
 
 /// The free frame of a pool as a plain frame.
-fn frame_told(pool: u64, frame: u64) -> PlainFrame
-    ensures { (t : ℕ) → frame_said t result ≡ (if pool == t then Some frame else None) }
+fn frame_to_c(pool: u64, frame: u64) -> PlainFrame
+    ensures { (t : ℕ) → frame_from_c t result ≡ (if pool == t then Some frame else None) }
 {
     PlainFrame { pool, frame }
 }
 
 /// Adds the free frames of a pool.
-fn tell_frames(told: &mut Vec<PlainFrame>, pool: u64, frames: &[u64]) -> Result<(), AllocError>
+fn push_frames(told: &mut Vec<PlainFrame>, pool: u64, frames: &[u64]) -> Result<(), AllocError>
     ensures said { OnOk result
         ((t : ℕ)
-        → frames_said told.new.items t
-        ≡ frames_said told.old.items t ++ (if pool == t then frames.now else [])) }
+        → frames_from_c told.new.items t
+        ≡ frames_from_c told.old.items t ++ (if pool == t then frames.now else [])) }
     ensures known { OnOk result
         (1 ≤ pool
         → pool < 66
@@ -128,26 +128,26 @@ fn tell_frames(told: &mut Vec<PlainFrame>, pool: u64, frames: &[u64]) -> Result<
         → AreKnown is_frame told.new.items) }
 {
     for i in 0..frames.len() {
-        told.push(frame_told(pool, frames[i]))?;
+        told.push(frame_to_c(pool, frames[i]))?;
     }
     Ok(())
 }
 
 /// The runs of all trees.
-fn runs_told(alloc: Global, lists: &GhostLists) -> Result<Vec<PlainRun>, AllocError>
+fn runs_to_c(alloc: Global, lists: &GhostLists) -> Result<Vec<PlainRun>, AllocError>
     requires { length lists.now.guests.items ≡ 64 }
-    ensures host { IfOk result (λ v. runs_said v.items 0 ≡ lists.now.shared.host.runs.items) }
-    ensures hyp { IfOk result (λ v. runs_said v.items 1 ≡ lists.now.shared.hyp.runs.items) }
+    ensures host { IfOk result (λ v. runs_from_c v.items 0 ≡ lists.now.shared.host.runs.items) }
+    ensures hyp { IfOk result (λ v. runs_from_c v.items 1 ≡ lists.now.shared.hyp.runs.items) }
     ensures guests { IfOk result
-        (λ v. TellsGuests (runs_said v.items)
+        (λ v. ReportsGuests (runs_from_c v.items)
         (λ (g : GhostGuest). g.tree.runs.items) lists.now.guests.items) }
     ensures known { IfOk result (λ v. AreKnown is_run v.items) }
 {
     let mut told = Vec::new(alloc);
-    tell_runs(&mut told, HOST, lists.shared.host.runs.as_slice())?;
-    tell_runs(&mut told, HYP, lists.shared.hyp.runs.as_slice())?;
+    push_runs(&mut told, HOST, lists.shared.host.runs.as_slice())?;
+    push_runs(&mut told, HYP, lists.shared.hyp.runs.as_slice())?;
     for i in 0..lists.guests.len() {
-        tell_runs(
+        push_runs(
             &mut told,
             GUESTS + i as u64,
             lists.guests[i].tree.runs.as_slice(),
@@ -157,20 +157,20 @@ fn runs_told(alloc: Global, lists: &GhostLists) -> Result<Vec<PlainRun>, AllocEr
 }
 
 /// The tables of all trees.
-fn tables_told(alloc: Global, lists: &GhostLists) -> Result<Vec<PlainTable>, AllocError>
+fn tables_to_c(alloc: Global, lists: &GhostLists) -> Result<Vec<PlainTable>, AllocError>
     requires { length lists.now.guests.items ≡ 64 }
-    ensures host { IfOk result (λ v. tables_said v.items 0 ≡ lists.now.shared.host.tables.items) }
-    ensures hyp { IfOk result (λ v. tables_said v.items 1 ≡ lists.now.shared.hyp.tables.items) }
+    ensures host { IfOk result (λ v. tables_from_c v.items 0 ≡ lists.now.shared.host.tables.items) }
+    ensures hyp { IfOk result (λ v. tables_from_c v.items 1 ≡ lists.now.shared.hyp.tables.items) }
     ensures guests { IfOk result
-        (λ v. TellsGuests (tables_said v.items)
+        (λ v. ReportsGuests (tables_from_c v.items)
         (λ (g : GhostGuest). g.tree.tables.items) lists.now.guests.items) }
     ensures known { IfOk result (λ v. AreKnown is_table v.items) }
 {
     let mut told = Vec::new(alloc);
-    tell_tables(&mut told, HOST, lists.shared.host.tables.as_slice())?;
-    tell_tables(&mut told, HYP, lists.shared.hyp.tables.as_slice())?;
+    push_tables(&mut told, HOST, lists.shared.host.tables.as_slice())?;
+    push_tables(&mut told, HYP, lists.shared.hyp.tables.as_slice())?;
     for i in 0..lists.guests.len() {
-        tell_tables(
+        push_tables(
             &mut told,
             GUESTS + i as u64,
             lists.guests[i].tree.tables.as_slice(),
@@ -180,18 +180,18 @@ fn tables_told(alloc: Global, lists: &GhostLists) -> Result<Vec<PlainTable>, All
 }
 
 /// The free frames of all pools.
-fn frames_told(alloc: Global, lists: &GhostLists) -> Result<Vec<PlainFrame>, AllocError>
+fn frames_to_c(alloc: Global, lists: &GhostLists) -> Result<Vec<PlainFrame>, AllocError>
     requires { length lists.now.guests.items ≡ 64 }
-    ensures shared { IfOk result (λ v. frames_said v.items 1 ≡ lists.now.shared.free.items) }
+    ensures shared { IfOk result (λ v. frames_from_c v.items 1 ≡ lists.now.shared.free.items) }
     ensures guests { IfOk result
-        (λ v. TellsGuests (frames_said v.items)
+        (λ v. ReportsGuests (frames_from_c v.items)
         (λ (g : GhostGuest). g.free.items) lists.now.guests.items) }
     ensures known { IfOk result (λ v. AreKnown is_frame v.items) }
 {
     let mut told = Vec::new(alloc);
-    tell_frames(&mut told, SHARED_POOL, lists.shared.free.as_slice())?;
+    push_frames(&mut told, SHARED_POOL, lists.shared.free.as_slice())?;
     for i in 0..lists.guests.len() {
-        tell_frames(
+        push_frames(
             &mut told,
             GUESTS + i as u64,
             lists.guests[i].free.as_slice(),
@@ -202,7 +202,7 @@ fn frames_told(alloc: Global, lists: &GhostLists) -> Result<Vec<PlainFrame>, All
 
 /// The number of a slot's stage.
 fn stand_number(stand: GhostStand) -> u64
-    ensures said { stand_said result ≡ stand_in stand }
+    ensures said { stand_from_c result ≡ stand_in stand }
     ensures known { result < 4 }
 {
     match stand {
@@ -215,7 +215,7 @@ fn stand_number(stand: GhostStand) -> u64
 
 /// The number of a phase.
 fn phase_number(phase: GhostPhase) -> u64
-    ensures said { phase_said result ≡ phase_in phase }
+    ensures said { phase_from_c result ≡ phase_in phase }
     ensures known { result < 3 }
 {
     match phase {
@@ -227,7 +227,7 @@ fn phase_number(phase: GhostPhase) -> u64
 
 /// The number of a kind of VMs.
 fn kind_number(kind: VmKind) -> u64
-    ensures said { kind_said result ≡ kind }
+    ensures said { kind_from_c result ≡ kind }
     ensures known { result < 2 }
 {
     match kind {
@@ -238,7 +238,7 @@ fn kind_number(kind: VmKind) -> u64
 
 /// The number of a stage.
 fn stage_number(stage: Stage) -> u64
-    ensures said { stage_said result ≡ stage }
+    ensures said { stage_from_c result ≡ stage }
     ensures known { result < 5 }
 {
     match stage {
@@ -251,10 +251,10 @@ fn stage_number(stage: Stage) -> u64
 }
 
 /// The slot of a number, but for its loaded vCPUs.
-fn slot_told(number: u64, slot: &GhostSlot) -> PlainSlot
+fn slot_to_c(number: u64, slot: &GhostSlot) -> PlainSlot
     ensures number { result.slot ≡ number }
     ensures known { number < 64 → IsTrue (is_slot result) }
-    ensures head { slot_head_said result ≡ slot_head_in slot.now }
+    ensures head { slot_head_from_c result ≡ slot_head_in slot.now }
 {
     PlainSlot {
         slot: number,
@@ -266,22 +266,22 @@ fn slot_told(number: u64, slot: &GhostSlot) -> PlainSlot
 }
 
 /// All slots, but for their loaded vCPUs.
-fn slots_told(alloc: Global, slots: &[GhostSlot]) -> Result<Vec<PlainSlot>, AllocError>
+fn slots_to_c(alloc: Global, slots: &[GhostSlot]) -> Result<Vec<PlainSlot>, AllocError>
     ensures numbers { IfOk result
         (λ v. map (λ (s : PlainSlot). s.slot) v.items
         ≡ map (λ n. n) (range_with_len 0 (length slots.now))) }
-    ensures heads { IfOk result (λ v. map slot_head_said v.items ≡ map slot_head_in slots.now) }
+    ensures heads { IfOk result (λ v. map slot_head_from_c v.items ≡ map slot_head_in slots.now) }
     ensures known { IfOk result (λ v. length slots.now ≤ 64 → AreKnown is_slot v.items) }
 {
     let mut told = Vec::new(alloc);
     for i in 0..slots.len() {
-        told.push(slot_told(i as u64, &slots[i]))?;
+        told.push(slot_to_c(i as u64, &slots[i]))?;
     }
     Ok(told)
 }
 
 /// Adds a load, if a CPU has the vCPU loaded.
-fn tell_load(
+fn push_load(
     told: &mut Vec<PlainLoad>,
     slot: u64,
     vcpu: u64,
@@ -299,7 +299,7 @@ fn tell_load(
 }
 
 /// Adds the loads of a slot's vCPUs.
-fn tell_loads(
+fn push_loads(
     told: &mut Vec<PlainLoad>,
     slot: u64,
     loaded: &[Option<u64>],
@@ -310,32 +310,32 @@ fn tell_loads(
     ensures known { OnOk result (slot < 64 → AreLoads told.old.items → AreLoads told.new.items) }
 {
     for i in 0..loaded.len() {
-        tell_load(told, slot, i as u64, loaded[i])?;
+        push_load(told, slot, i as u64, loaded[i])?;
     }
     Ok(())
 }
 
 /// The loads of all slots.
-fn loads_told(alloc: Global, slots: &[GhostSlot]) -> Result<Vec<PlainLoad>, AllocError>
+fn loads_to_c(alloc: Global, slots: &[GhostSlot]) -> Result<Vec<PlainLoad>, AllocError>
     ensures said { IfOk result
         (λ v. (s k : ℕ)
-        → loader_said v.items s k
+        → loader_from_c v.items s k
         ≡ get_or
         (get_or (map (λ (x : GhostSlot). x.loaded.items) slots.now) s []) k None) }
     ensures known { IfOk result (λ v. length slots.now ≤ 64 → AreLoads v.items) }
 {
     let mut told = Vec::new(alloc);
     for i in 0..slots.len() {
-        tell_loads(&mut told, i as u64, slots[i].loaded.as_slice())?;
+        push_loads(&mut told, i as u64, slots[i].loaded.as_slice())?;
     }
     Ok(told)
 }
 
 /// The guest of a slot, but for its tree and its pool.
-fn guest_told(slot: u64, guest: &GhostGuest) -> PlainGuest
+fn guest_to_c(slot: u64, guest: &GhostGuest) -> PlainGuest
     ensures number { result.slot ≡ slot }
     ensures known { slot < 64 → IsTrue (is_guest result) }
-    ensures head { guest_head_said result ≡ guest_head_in guest.now }
+    ensures head { guest_head_from_c result ≡ guest_head_in guest.now }
 {
     PlainGuest {
         slot,
@@ -346,27 +346,27 @@ fn guest_told(slot: u64, guest: &GhostGuest) -> PlainGuest
 }
 
 /// All guests, but for their trees and pools.
-fn guests_told(alloc: Global, guests: &[GhostGuest]) -> Result<Vec<PlainGuest>, AllocError>
+fn guests_to_c(alloc: Global, guests: &[GhostGuest]) -> Result<Vec<PlainGuest>, AllocError>
     ensures numbers { IfOk result
         (λ v. map (λ (g : PlainGuest). g.slot) v.items
         ≡ map (λ n. n) (range_with_len 0 (length guests.now))) }
-    ensures heads { IfOk result (λ v. map guest_head_said v.items ≡ map guest_head_in guests.now) }
+    ensures heads { IfOk result (λ v. map guest_head_from_c v.items ≡ map guest_head_in guests.now) }
     ensures known { IfOk result (λ v. length guests.now ≤ 64 → AreKnown is_guest v.items) }
 {
     let mut told = Vec::new(alloc);
     for i in 0..guests.len() {
-        told.push(guest_told(i as u64, &guests[i]))?;
+        told.push(guest_to_c(i as u64, &guests[i]))?;
     }
     Ok(told)
 }
 
 /// A CPU's number, and nothing else of it.
-fn idle_told(number: u64) -> PlainCpu
+fn idle_to_c(number: u64) -> PlainCpu
     ensures number { result.cpu ≡ number }
     ensures known { IsTrue (has_known_ticket result) }
-    ensures loaded { loaded_said result ≡ None }
-    ensures hand { hand_said result ≡ None }
-    ensures ticket { ticket_said result ≡ None }
+    ensures loaded { loaded_from_c result ≡ None }
+    ensures hand { hand_from_c result ≡ None }
+    ensures ticket { ticket_from_c result ≡ None }
 {
     PlainCpu {
         cpu: number,
@@ -387,12 +387,12 @@ fn idle_told(number: u64) -> PlainCpu
 
 /// What a CPU that says nothing has loaded.
 fn with_loaded(told: PlainCpu, loaded: Option<Loaded>) -> PlainCpu
-    requires { loaded_said told ≡ None }
+    requires { loaded_from_c told ≡ None }
     ensures number { result.cpu ≡ told.cpu }
     ensures known { IsTrue (has_known_ticket told) → IsTrue (has_known_ticket result) }
-    ensures loaded { loaded_said result ≡ loaded }
-    ensures hand { hand_said result ≡ hand_said told }
-    ensures ticket { ticket_said result ≡ ticket_said told }
+    ensures loaded { loaded_from_c result ≡ loaded }
+    ensures hand { hand_from_c result ≡ hand_from_c told }
+    ensures ticket { ticket_from_c result ≡ ticket_from_c told }
 {
     match loaded {
         None => told,
@@ -408,12 +408,12 @@ fn with_loaded(told: PlainCpu, loaded: Option<Loaded>) -> PlainCpu
 
 /// The hand of a CPU that says none.
 fn with_hand(told: PlainCpu, hand: Option<PageRange>) -> PlainCpu
-    requires { hand_said told ≡ None }
+    requires { hand_from_c told ≡ None }
     ensures number { result.cpu ≡ told.cpu }
     ensures known { IsTrue (has_known_ticket told) → IsTrue (has_known_ticket result) }
-    ensures loaded { loaded_said result ≡ loaded_said told }
-    ensures hand { hand_said result ≡ hand }
-    ensures ticket { ticket_said result ≡ ticket_said told }
+    ensures loaded { loaded_from_c result ≡ loaded_from_c told }
+    ensures hand { hand_from_c result ≡ hand }
+    ensures ticket { ticket_from_c result ≡ ticket_from_c told }
 {
     match hand {
         None => told,
@@ -428,12 +428,12 @@ fn with_hand(told: PlainCpu, hand: Option<PageRange>) -> PlainCpu
 
 /// The ticket of a CPU that says none.
 fn with_ticket(told: PlainCpu, ticket: Option<Ticket>) -> PlainCpu
-    requires { ticket_said told ≡ None }
+    requires { ticket_from_c told ≡ None }
     ensures number { result.cpu ≡ told.cpu }
     ensures known { IsTrue (has_known_ticket told) → IsTrue (has_known_ticket result) }
-    ensures loaded { loaded_said result ≡ loaded_said told }
-    ensures hand { hand_said result ≡ hand_said told }
-    ensures ticket { ticket_said result ≡ ticket }
+    ensures loaded { loaded_from_c result ≡ loaded_from_c told }
+    ensures hand { hand_from_c result ≡ hand_from_c told }
+    ensures ticket { ticket_from_c result ≡ ticket }
 {
     match ticket {
         None => told,
@@ -449,49 +449,49 @@ fn with_ticket(told: PlainCpu, ticket: Option<Ticket>) -> PlainCpu
 }
 
 /// A CPU's own state.
-fn cpu_told(number: u64, cpu: GhostCpu) -> PlainCpu
+fn cpu_to_c(number: u64, cpu: GhostCpu) -> PlainCpu
     ensures number { result.cpu ≡ number }
     ensures known { IsTrue (has_known_ticket result) }
-    ensures said { cpu_said result ≡ cpu_in cpu }
+    ensures said { cpu_from_c result ≡ cpu_in cpu }
 {
-    let loaded = with_loaded(idle_told(number), cpu.loaded);
+    let loaded = with_loaded(idle_to_c(number), cpu.loaded);
     with_ticket(with_hand(loaded, cpu.hand), cpu.ticket)
 }
 
 /// All CPUs' own states.
-fn cpus_told(alloc: Global, cpus: &[GhostCpu]) -> Result<Vec<PlainCpu>, AllocError>
+fn cpus_to_c(alloc: Global, cpus: &[GhostCpu]) -> Result<Vec<PlainCpu>, AllocError>
     ensures numbers { IfOk result
         (λ v. map (λ (k : PlainCpu). k.cpu) v.items
         ≡ map (λ n. n) (range_with_len 0 (length cpus.now))) }
-    ensures said { IfOk result (λ v. map cpu_said v.items ≡ map cpu_in cpus.now) }
-    ensures known { IfOk result (λ v. AreKnown (is_cpu_told (length cpus.now)) v.items) }
+    ensures said { IfOk result (λ v. map cpu_from_c v.items ≡ map cpu_in cpus.now) }
+    ensures known { IfOk result (λ v. AreKnown (is_cpu_well_formed (length cpus.now)) v.items) }
 {
     let mut told = Vec::new(alloc);
     for i in 0..cpus.len() {
-        told.push(cpu_told(i as u64, cpus[i]))?;
+        told.push(cpu_to_c(i as u64, cpus[i]))?;
     }
     Ok(told)
 }
 
 /// A run of owner rows.
-fn row_told(run: run_list::Run<Row>) -> PlainRow
-    ensures { row_said result ≡ Some run }
+fn row_to_c(run: run_list::Run<Row>) -> PlainRow
+    ensures { row_from_c result ≡ Some run }
 {
     PlainRow {
         frame: run.pages.first.0,
         count: run.pages.count,
-        owner: owner_told(run.value),
+        owner: owner_to_c(run.value),
     }
 }
 
 /// All runs of owner rows.
-fn rows_told(alloc: Global, runs: &[run_list::Run<Row>]) -> Result<Vec<PlainRow>, AllocError>
-    ensures said { IfOk result (λ v. rows_said v.items ≡ runs.now) }
+fn rows_to_c(alloc: Global, runs: &[run_list::Run<Row>]) -> Result<Vec<PlainRow>, AllocError>
+    ensures said { IfOk result (λ v. rows_from_c v.items ≡ runs.now) }
     ensures known { IfOk result (λ v. AreKnown is_row v.items) }
 {
     let mut told = Vec::new(alloc);
     for i in 0..runs.len() {
-        told.push(row_told(runs[i]))?;
+        told.push(row_to_c(runs[i]))?;
     }
     Ok(told)
 }
@@ -499,18 +499,18 @@ fn rows_told(alloc: Global, runs: &[run_list::Run<Row>]) -> Result<Vec<PlainRow>
 /// The lists that say a state: all 64 slots and guests and all CPUs, by number, and of each map the coarsest runs. The
 /// free frames of each pool are listed as they are kept; read again, they are in order.
 pub fn lists_of(alloc: Global, state: &Ghost) -> Result<PlainLists, AllocError>
-    ensures said { IfOk result (λ p. contents_said (lists_owned p) ≡ in_pool_order (contents_in state.now)) }
-    ensures told { IfOk result (λ p. AreTold state.now.layout.config.cpus (lists_owned p)) }
+    ensures said { IfOk result (λ p. contents_from_c (lists_owned p) ≡ in_pool_order (contents_in state.now)) }
+    ensures told { IfOk result (λ p. AreWellFormed state.now.layout.config.cpus (lists_owned p)) }
 {
     let lists = state.lists();
-    let runs = runs_told(alloc, lists);
-    let tables = tables_told(alloc, lists);
-    let frames = frames_told(alloc, lists);
-    let slots = slots_told(alloc, lists.vms.as_slice());
-    let loads = loads_told(alloc, lists.vms.as_slice());
-    let guests = guests_told(alloc, lists.guests.as_slice());
-    let cpus = cpus_told(alloc, lists.cpus.as_slice());
-    let rows = rows_told(alloc, lists.shared.rows.runs());
+    let runs = runs_to_c(alloc, lists);
+    let tables = tables_to_c(alloc, lists);
+    let frames = frames_to_c(alloc, lists);
+    let slots = slots_to_c(alloc, lists.vms.as_slice());
+    let loads = loads_to_c(alloc, lists.vms.as_slice());
+    let guests = guests_to_c(alloc, lists.guests.as_slice());
+    let cpus = cpus_to_c(alloc, lists.cpus.as_slice());
+    let rows = rows_to_c(alloc, lists.shared.rows.runs());
     let ((runs, (tables, frames)), ((slots, loads), (guests, (cpus, rows)))) = both(
         both(runs, both(tables, frames)),
         both(both(slots, loads), both(guests, both(cpus, rows))),
@@ -529,11 +529,11 @@ pub fn lists_of(alloc: Global, state: &Ghost) -> Result<PlainLists, AllocError>
 
 impl PlainLists {
     ghost use Rattle.c_states.specs.Told.{lists_owned};
-    ghost use Rattle.c_states.specs.Views.{lists_told};
+    ghost use Rattle.c_states.specs.Views.{lists_from_c};
 
     /// As a state that can be handed in.
     pub fn state(&self) -> PlainState<'_>
-        ensures { lists_told result ≡ lists_owned self.now }
+        ensures { lists_from_c result ≡ lists_owned self.now }
     {
         PlainState {
             runs: self.runs.as_slice(),

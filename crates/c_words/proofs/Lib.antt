@@ -1,1 +1,1 @@
-mod WrittenSays
+mod RoundTrips

@@ -14,8 +14,8 @@ use Rattle.call_table.specs.declared.step.VmKind.{VmKind}
 use Rattle.call_table.specs.declared.step.VmKind.TheVariants.{Protected, Plain}
 
 -- levels, by the architecture's numbers
-abbrev pub level_said : ℕ → Option Level
-level_said n =
+abbrev pub level_from_c : ℕ → Option Level
+level_from_c n =
     if n == 0 then Some Zero
     else if n == 1 then Some One
     else if n == 2 then Some Two
@@ -23,8 +23,8 @@ level_said n =
     else None
 
 -- rights: the sum of 4 for read, 2 for write and 1 for execute
-abbrev pub rights_said : ℕ → Option Prot
-rights_said n =
+abbrev pub rights_from_c : ℕ → Option Prot
+rights_from_c n =
     if n == 4 then Some R
     else if n == 5 then Some RX
     else if n == 6 then Some RW
@@ -38,16 +38,16 @@ rights_written RW = 6
 rights_written RWX = 7
 
 -- kinds of memory
-abbrev pub kind_said : ℕ → Option Kind
-kind_said n = if n == 0 then Some Normal else if n == 1 then Some Device else None
+abbrev pub kind_from_c : ℕ → Option Kind
+kind_from_c n = if n == 0 then Some Normal else if n == 1 then Some Device else None
 
 abbrev pub kind_written : Kind → ℕ
 kind_written Normal = 0
 kind_written Device = 1
 
 -- states of a page, as in bits 56:55 of a word
-abbrev pub state_said : ℕ → Option State
-state_said n =
+abbrev pub state_from_c : ℕ → Option State
+state_from_c n =
     if n == 0 then Some Owned
     else if n == 1 then Some SharedOwned
     else if n == 2 then Some SharedBorrowed
@@ -59,12 +59,12 @@ state_written SharedOwned = 1
 state_written SharedBorrowed = 2
 
 -- kinds of VMs
-abbrev pub vm_kind_said : ℕ → Option VmKind
-vm_kind_said n = if n == 0 then Some Plain else if n == 1 then Some Protected else None
+abbrev pub vm_kind_from_c : ℕ → Option VmKind
+vm_kind_from_c n = if n == 0 then Some Plain else if n == 1 then Some Protected else None
 
 -- refusals, by their numbers without the sign
-abbrev pub refusal_said : ℕ → Option Refusal
-refusal_said n =
+abbrev pub refusal_from_c : ℕ → Option Refusal
+refusal_from_c n =
     if n == 1 then Some Perm
     else if n == 2 then Some NoVm
     else if n == 11 then Some Contended

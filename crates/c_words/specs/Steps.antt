@@ -9,19 +9,19 @@ use Rattle.call_table.specs.Made.{step_by}
 use Rattle.call_table.specs.Named.{blank}
 use Rattle.call_table.specs.Rows.{numbered, row}
 use Rattle.c_words.specs.declared.step.PlainStep.{PlainStep}
-use Rattle.c_words.specs.Numbers.{rights_said, vm_kind_said}
+use Rattle.c_words.specs.Numbers.{rights_from_c, vm_kind_from_c}
 
 -- arguments, of which that of a form is what the first number says, of a VM the first two
-abbrev pub argument_said : Form → PlainStep → Arguments → Option Arguments
-argument_said Frame s a = Some (record a { frame = s.first })
-argument_said Page s a = Some (record a { page = s.first })
-argument_said Count s a = Some (record a { count = s.first })
-argument_said LastCount s a = Some (record a { count = s.first })
-argument_said Vcpus s a = Some (record a { vcpus = s.first })
-argument_said Vcpu s a = Some (record a { vcpu = s.first })
-argument_said Vm s a = Some (record a { vm = record { slot = s.first; generation = s.second } })
-argument_said Kind s a = option_map (λ k. record a { kind = k }) (vm_kind_said s.first)
-argument_said Rights s a = option_map (λ r. record a { rights = r }) (rights_said s.first)
+abbrev pub argument_from_c : Form → PlainStep → Arguments → Option Arguments
+argument_from_c Frame s a = Some (record a { frame = s.first })
+argument_from_c Page s a = Some (record a { page = s.first })
+argument_from_c Count s a = Some (record a { count = s.first })
+argument_from_c LastCount s a = Some (record a { count = s.first })
+argument_from_c Vcpus s a = Some (record a { vcpus = s.first })
+argument_from_c Vcpu s a = Some (record a { vcpu = s.first })
+argument_from_c Vm s a = Some (record a { vm = record { slot = s.first; generation = s.second } })
+argument_from_c Kind s a = option_map (λ k. record a { kind = k }) (vm_kind_from_c s.first)
+argument_from_c Rights s a = option_map (λ r. record a { rights = r }) (rights_from_c s.first)
 
 -- the numbers after those of such an argument
 abbrev pub numbers_behind : Form → PlainStep → PlainStep
@@ -30,13 +30,13 @@ numbers_behind other s =
     record s { first = s.second; second = s.third; third = s.fourth; fourth = 0 }
 
 -- arguments, of which those of these forms are what the numbers say in order
-abbrev pub arguments_said : List Form → PlainStep → Arguments → Option Arguments
-arguments_said [] s a = Some a
-arguments_said (form ∷ more) s a =
-    option_and_then (arguments_said more (numbers_behind form s)) (argument_said form s a)
+abbrev pub arguments_from_c : List Form → PlainStep → Arguments → Option Arguments
+arguments_from_c [] s a = Some a
+arguments_from_c (form ∷ more) s a =
+    option_and_then (arguments_from_c more (numbers_behind form s)) (argument_from_c form s a)
 
 -- the step of the call of a number
-unfoldable pub step_said : PlainStep → Option Step
-step_said s =
-    option_and_then (λ call. option_map (step_by call) (arguments_said (row call).forms s blank))
+unfoldable pub step_from_c : PlainStep → Option Step
+step_from_c s =
+    option_and_then (λ call. option_map (step_by call) (arguments_from_c (row call).forms s blank))
     (numbered s.call)

@@ -12,7 +12,7 @@ pub use numbers::{
     kind_number, kind_of, level_of, refusal_number, refusal_of, rights_number, rights_of,
     state_number, state_of, vm_kind_number, vm_kind_of,
 };
-pub use owner::{PlainOwner, owner_told, row_of};
-pub use reply::{PlainReply, reply_of, reply_told};
+pub use owner::{PlainOwner, owner_to_c, row_of};
+pub use reply::{PlainReply, reply_of, reply_to_c};
 pub use step::{PlainStep, step_of};
-pub use word::{PlainWord, desc_of, desc_told, entry_of, entry_told, target_of, target_told};
+pub use word::{PlainWord, desc_of, desc_to_c, entry_of, entry_to_c, target_of, target_to_c};

@@ -1,16 +1,16 @@
 //! The numbers of the variants.
 ghost use Rattle.std.specs.Prelude.{◌≡◌, Some};
 ghost use Rattle.c_words.specs.Numbers.{
-  kind_said,
+  kind_from_c,
   kind_written,
-  level_said,
-  refusal_said,
+  level_from_c,
+  refusal_from_c,
   refusal_written,
-  rights_said,
+  rights_from_c,
   rights_written,
-  state_said,
+  state_from_c,
   state_written,
-  vm_kind_said,
+  vm_kind_from_c,
 };
 
 use call_table::{Refusal, VmKind};
@@ -18,7 +18,7 @@ use descriptor::{Kind, Level, Prot, State};
 
 /// The level of a number, 0 to 3 (Arm DDI 0487, D8.2).
 pub fn level_of(number: u64) -> Option<Level>
-    ensures { result ≡ level_said number }
+    ensures { result ≡ level_from_c number }
 {
     match number {
         0 => Some(Level::Zero),
@@ -31,7 +31,7 @@ pub fn level_of(number: u64) -> Option<Level>
 
 /// The rights of a number: the sum of 4 for read, 2 for write and 1 for execute.
 pub fn rights_of(number: u64) -> Option<Prot>
-    ensures { result ≡ rights_said number }
+    ensures { result ≡ rights_from_c number }
 {
     match number {
         4 => Some(Prot::R),
@@ -44,7 +44,7 @@ pub fn rights_of(number: u64) -> Option<Prot>
 
 /// The number of rights.
 pub fn rights_number(prot: Prot) -> u64
-    ensures said { rights_said result ≡ Some prot }
+    ensures said { rights_from_c result ≡ Some prot }
     ensures written { result ≡ rights_written prot }
 {
     match prot {
@@ -57,7 +57,7 @@ pub fn rights_number(prot: Prot) -> u64
 
 /// The kind of memory of a number: 0 Normal, 1 Device.
 pub fn kind_of(number: u64) -> Option<Kind>
-    ensures { result ≡ kind_said number }
+    ensures { result ≡ kind_from_c number }
 {
     match number {
         0 => Some(Kind::Normal),
@@ -68,7 +68,7 @@ pub fn kind_of(number: u64) -> Option<Kind>
 
 /// The number of a kind of memory.
 pub fn kind_number(kind: Kind) -> u64
-    ensures said { kind_said result ≡ Some kind }
+    ensures said { kind_from_c result ≡ Some kind }
     ensures written { result ≡ kind_written kind }
 {
     match kind {
@@ -79,7 +79,7 @@ pub fn kind_number(kind: Kind) -> u64
 
 /// The state of a number: 0 Owned, 1 SharedOwned, 2 SharedBorrowed.
 pub fn state_of(number: u64) -> Option<State>
-    ensures { result ≡ state_said number }
+    ensures { result ≡ state_from_c number }
 {
     match number {
         0 => Some(State::Owned),
@@ -91,7 +91,7 @@ pub fn state_of(number: u64) -> Option<State>
 
 /// The number of a state.
 pub fn state_number(state: State) -> u64
-    ensures said { state_said result ≡ Some state }
+    ensures said { state_from_c result ≡ Some state }
     ensures written { result ≡ state_written state }
 {
     match state {
@@ -103,7 +103,7 @@ pub fn state_number(state: State) -> u64
 
 /// The kind of VMs of a number: 0 Plain, 1 Protected.
 pub fn vm_kind_of(number: u64) -> Option<VmKind>
-    ensures { result ≡ vm_kind_said number }
+    ensures { result ≡ vm_kind_from_c number }
 {
     match number {
         0 => Some(VmKind::Plain),
@@ -114,7 +114,7 @@ pub fn vm_kind_of(number: u64) -> Option<VmKind>
 
 /// The number of a kind of VMs.
 pub fn vm_kind_number(kind: VmKind) -> u64
-    ensures { vm_kind_said result ≡ Some kind }
+    ensures { vm_kind_from_c result ≡ Some kind }
 {
     match kind {
         VmKind::Plain => 0,
@@ -124,7 +124,7 @@ pub fn vm_kind_number(kind: VmKind) -> u64
 
 /// The refusal of a number, which is the reply's without its sign (profile).
 pub fn refusal_of(number: u64) -> Option<Refusal>
-    ensures { result ≡ refusal_said number }
+    ensures { result ≡ refusal_from_c number }
 {
     match number {
         1 => Some(Refusal::Perm),
@@ -141,7 +141,7 @@ pub fn refusal_of(number: u64) -> Option<Refusal>
 
 /// The number of a refusal. It isn't 0.
 pub fn refusal_number(refusal: Refusal) -> u64
-    ensures said { refusal_said result ≡ Some refusal }
+    ensures said { refusal_from_c result ≡ Some refusal }
     ensures written { result ≡ refusal_written refusal }
 {
     match refusal {

@@ -1,6 +1,6 @@
 //! Owner rows.
 ghost use Rattle.std.specs.Prelude.{◌≡◌, Some};
-ghost use Rattle.c_words.specs.Said.{lent_said, row_said, usage_said};
+ghost use Rattle.c_words.specs.Said.{lent_from_c, row_from_c, usage_from_c};
 ghost use Rattle.c_words.specs.Written.{row_written, usage_written};
 
 use descriptor::Owner;
@@ -26,7 +26,7 @@ pub struct PlainOwner {
 
 /// To whom a frame is lent.
 fn lent_of(owner: PlainOwner) -> Option<Lent>
-    ensures { result ≡ lent_said owner }
+    ensures { result ≡ lent_from_c owner }
 {
     if owner.is_lent == 0 {
         return None;
@@ -39,7 +39,7 @@ fn lent_of(owner: PlainOwner) -> Option<Lent>
 
 /// What holds a frame beside the maps.
 fn usage_of(owner: PlainOwner) -> Option<Usage>
-    ensures { result ≡ usage_said owner }
+    ensures { result ≡ usage_from_c owner }
 {
     match owner.usage {
         0 => Some(Usage::Plain),
@@ -52,7 +52,7 @@ fn usage_of(owner: PlainOwner) -> Option<Usage>
 
 /// The row that the numbers say. None if the usage is unknown.
 pub fn row_of(owner: PlainOwner) -> Option<Row>
-    ensures { result ≡ row_said owner }
+    ensures { result ≡ row_from_c owner }
 {
     let usage = usage_of(owner)?;
     Some(Row {
@@ -63,8 +63,8 @@ pub fn row_of(owner: PlainOwner) -> Option<Row>
 }
 
 /// A use in numbers, with 0 in the fields of the owner and of the loan.
-fn usage_told(usage: Usage) -> PlainOwner
-    ensures said { usage_said result ≡ Some usage }
+fn usage_to_c(usage: Usage) -> PlainOwner
+    ensures said { usage_from_c result ≡ Some usage }
     ensures written { result ≡ usage_written usage }
 {
     let (usage, user) = match usage {
@@ -84,11 +84,11 @@ fn usage_told(usage: Usage) -> PlainOwner
 }
 
 /// A row in numbers.
-pub fn owner_told(row: Row) -> PlainOwner
-    ensures said { row_said result ≡ Some row }
+pub fn owner_to_c(row: Row) -> PlainOwner
+    ensures said { row_from_c result ≡ Some row }
     ensures written { result ≡ row_written row }
 {
-    let told = usage_told(row.usage);
+    let told = usage_to_c(row.usage);
     match row.lent {
         None => PlainOwner {
             owner: row.owner.0,

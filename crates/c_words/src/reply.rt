@@ -1,11 +1,11 @@
 //! Replies.
 ghost use Rattle.std.specs.Prelude.{◌≡◌, Some};
-ghost use Rattle.c_words.specs.Said.{reply_said, value_said};
+ghost use Rattle.c_words.specs.Said.{reply_from_c, value_from_c};
 ghost use Rattle.c_words.specs.Written.{reply_written, value_written};
 
 use crate::numbers::{refusal_number, refusal_of};
-use crate::owner::{PlainOwner, owner_told, row_of};
-use crate::word::{BLANK, PlainWord, entry_of, entry_told};
+use crate::owner::{PlainOwner, owner_to_c, row_of};
+use crate::word::{BLANK, PlainWord, entry_of, entry_to_c};
 use call_table::{Reply, Value, VmId};
 use descriptor::Frame;
 
@@ -49,7 +49,7 @@ const DONE: PlainReply = PlainReply {
 
 /// The value that a call gives. None if a number is unknown.
 fn value_of(reply: PlainReply) -> Option<Value>
-    ensures { result ≡ value_said reply }
+    ensures { result ≡ value_from_c reply }
 {
     match reply.gives {
         0 => Some(Value::Nothing),
@@ -66,7 +66,7 @@ fn value_of(reply: PlainReply) -> Option<Value>
 
 /// The reply that the numbers say. None if one is unknown.
 pub fn reply_of(reply: PlainReply) -> Option<Reply>
-    ensures { result ≡ reply_said reply }
+    ensures { result ≡ reply_from_c reply }
 {
     if reply.refusal == 0 {
         value_of(reply).map(Reply::Done)
@@ -76,8 +76,8 @@ pub fn reply_of(reply: PlainReply) -> Option<Reply>
 }
 
 /// A value in numbers.
-fn value_told(value: Value) -> PlainReply
-    ensures said { reply_said result ≡ Some (Reply.Done value) }
+fn value_to_c(value: Value) -> PlainReply
+    ensures said { reply_from_c result ≡ Some (Reply.Done value) }
     ensures written { result ≡ value_written value }
 {
     match value {
@@ -95,24 +95,24 @@ fn value_told(value: Value) -> PlainReply
         },
         Value::Entry(entry) => PlainReply {
             gives: 3,
-            entry: entry_told(entry),
+            entry: entry_to_c(entry),
             ..DONE
         },
         Value::Row(row) => PlainReply {
             gives: 4,
-            row: owner_told(row),
+            row: owner_to_c(row),
             ..DONE
         },
     }
 }
 
 /// A reply in numbers.
-pub fn reply_told(reply: Reply) -> PlainReply
-    ensures said { reply_said result ≡ Some reply }
+pub fn reply_to_c(reply: Reply) -> PlainReply
+    ensures said { reply_from_c result ≡ Some reply }
     ensures written { result ≡ reply_written reply }
 {
     match reply {
-        Reply::Done(value) => value_told(value),
+        Reply::Done(value) => value_to_c(value),
         Reply::Refused(refusal) => PlainReply {
             refusal: refusal_number(refusal),
             ..DONE

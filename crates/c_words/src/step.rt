@@ -1,7 +1,7 @@
 //! Steps.
 ghost use Rattle.std.specs.Prelude.{◌≡◌};
 ghost use Rattle.call_table.specs.Named.{blank};
-ghost use Rattle.c_words.specs.Steps.{argument_said, arguments_said, numbers_behind, step_said};
+ghost use Rattle.c_words.specs.Steps.{argument_from_c, arguments_from_c, numbers_behind, step_from_c};
 
 use crate::numbers::{rights_of, vm_kind_of};
 use call_table::{Arguments, CallName, Form, Step, VmId};
@@ -19,9 +19,9 @@ pub struct PlainStep {
 }
 
 /// The step that the numbers say. None if the call, the rights or the kind of VMs is unknown.
-#[tactic(auto, unfolding(crate::specs::Steps::step_said))]
+#[tactic(auto, unfolding(crate::specs::Steps::step_from_c))]
 pub fn step_of(step: PlainStep) -> Option<Step>
-    ensures { result ≡ step_said step }
+    ensures { result ≡ step_from_c step }
 {
     let call = CallName::of_number(step.call)?;
     let arguments = arguments_of(call.row().forms, step)?;
@@ -30,7 +30,7 @@ pub fn step_of(step: PlainStep) -> Option<Step>
 
 /// The arguments of these forms.
 fn arguments_of(forms: &[Form], step: PlainStep) -> Option<Arguments>
-    ensures { result ≡ arguments_said forms.now step blank }
+    ensures { result ≡ arguments_from_c forms.now step blank }
 {
     let mut left = step;
     let mut arguments = Arguments::BLANK;
@@ -43,7 +43,7 @@ fn arguments_of(forms: &[Form], step: PlainStep) -> Option<Arguments>
 
 /// The arguments, with that of this form as the first number says it, of a VM the first two.
 fn argument_of(form: Form, step: PlainStep, arguments: Arguments) -> Option<Arguments>
-    ensures { result ≡ argument_said form step arguments }
+    ensures { result ≡ argument_from_c form step arguments }
 {
     let mut with = arguments;
     match form {

@@ -1,6 +1,6 @@
 //! Words of tables, and entries of maps.
 ghost use Rattle.std.specs.Prelude.{◌≡◌, Some};
-ghost use Rattle.c_words.specs.Said.{desc_of_entry as desc_of_entry_in, desc_said, entry_said, leaf_said, target_said};
+ghost use Rattle.c_words.specs.Said.{desc_of_entry as desc_of_entry_in, desc_from_c, entry_from_c, leaf_from_c, target_from_c};
 ghost use Rattle.c_words.specs.Written.{desc_written, entry_written, leaf_written, target_written};
 
 use crate::numbers::{kind_number, kind_of, rights_number, rights_of, state_number, state_of};
@@ -37,7 +37,7 @@ pub(crate) const BLANK: PlainWord = PlainWord {
 
 /// The leaf that a word's fields say. None if one of its rights, kind and state is unknown.
 fn leaf_of(word: PlainWord) -> Option<Entry>
-    ensures { result ≡ leaf_said word }
+    ensures { result ≡ leaf_from_c word }
 {
     let prot = rights_of(word.rights)?;
     let kind = kind_of(word.kind)?;
@@ -52,7 +52,7 @@ fn leaf_of(word: PlainWord) -> Option<Entry>
 
 /// The entry that a word says. None if it says a table or an unknown number.
 pub fn entry_of(word: PlainWord) -> Option<Entry>
-    ensures { result ≡ entry_said word }
+    ensures { result ≡ entry_from_c word }
 {
     match word.says {
         0 => Some(Entry::Malformed),
@@ -65,15 +65,15 @@ pub fn entry_of(word: PlainWord) -> Option<Entry>
 
 /// The target that a word says. None also if it says unmapped.
 pub fn target_of(word: PlainWord) -> Option<Target>
-    ensures { result ≡ target_said word }
+    ensures { result ≡ target_from_c word }
 {
     let entry = entry_of(word)?;
     entry.target()
 }
 
 /// A leaf in numbers.
-fn leaf_told(frame: Frame, prot: Prot, kind: Kind, state: State) -> PlainWord
-    ensures said { entry_said result ≡ Some (Entry.Leaf frame prot kind state) }
+fn leaf_to_c(frame: Frame, prot: Prot, kind: Kind, state: State) -> PlainWord
+    ensures said { entry_from_c result ≡ Some (Entry.Leaf frame prot kind state) }
     ensures written { result ≡ leaf_written frame prot kind state }
 {
     PlainWord {
@@ -87,8 +87,8 @@ fn leaf_told(frame: Frame, prot: Prot, kind: Kind, state: State) -> PlainWord
 }
 
 /// The word of an entry.
-pub fn entry_told(entry: Entry) -> PlainWord
-    ensures said { entry_said result ≡ Some entry }
+pub fn entry_to_c(entry: Entry) -> PlainWord
+    ensures said { entry_from_c result ≡ Some entry }
     ensures written { result ≡ entry_written entry }
 {
     match entry {
@@ -104,13 +104,13 @@ pub fn entry_told(entry: Entry) -> PlainWord
             prot,
             kind,
             state,
-        } => leaf_told(frame, prot, kind, state),
+        } => leaf_to_c(frame, prot, kind, state),
     }
 }
 
 /// The word of a target.
-pub fn target_told(target: Target) -> PlainWord
-    ensures said { target_said result ≡ Some target }
+pub fn target_to_c(target: Target) -> PlainWord
+    ensures said { target_from_c result ≡ Some target }
     ensures written { result ≡ target_written target }
 {
     match target {
@@ -125,7 +125,7 @@ pub fn target_told(target: Target) -> PlainWord
             prot,
             kind,
             state,
-        } => leaf_told(frame, prot, kind, state),
+        } => leaf_to_c(frame, prot, kind, state),
     }
 }
 
@@ -153,7 +153,7 @@ fn desc_of_entry(entry: Entry) -> Desc
 
 /// The descriptor that a word says. None if a number is unknown.
 pub fn desc_of(word: PlainWord) -> Option<Desc>
-    ensures { result ≡ desc_said word }
+    ensures { result ≡ desc_from_c word }
 {
     if word.says == 4 {
         return Some(Desc::Table(Frame(word.frame)));
@@ -163,8 +163,8 @@ pub fn desc_of(word: PlainWord) -> Option<Desc>
 }
 
 /// The word of a descriptor.
-pub fn desc_told(desc: Desc) -> PlainWord
-    ensures said { desc_said result ≡ Some desc }
+pub fn desc_to_c(desc: Desc) -> PlainWord
+    ensures said { desc_from_c result ≡ Some desc }
     ensures written { result ≡ desc_written desc }
 {
     match desc {
@@ -180,7 +180,7 @@ pub fn desc_told(desc: Desc) -> PlainWord
             prot,
             kind,
             state,
-        } => leaf_told(frame, prot, kind, state),
+        } => leaf_to_c(frame, prot, kind, state),
         Desc::Table(frame) => PlainWord {
             says: 4,
             frame: frame.0,

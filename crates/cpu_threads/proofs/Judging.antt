@@ -11,7 +11,7 @@ use Rattle.page_state.specs.LayoutView.{layout_of}
 use Rattle.page_state.specs.Layouts.{Layout}
 use Rattle.reference_model.specs.claims.Laws.{AgreeBeside}
 use Rattle.reference_model.specs.model.State.{Contents, Cpu, Guest, Reference, no_cpu, no_guest, no_shared, no_vms}
-use Rattle.reference_model.specs.model.Step.{foretell}
+use Rattle.reference_model.specs.model.Step.{predict_step}
 use Rattle.reference_model.proofs.Steps.{first-same, step_changes}
 use Rattle.part_types.specs.declared.parts.VmPart.{VmPart}
 use Rattle.part_types.specs.declared.parts.SharedPart.{SharedPart}
@@ -241,7 +241,7 @@ module _ {A : Type 0} (l : Layout) where
       let post_is : contents_in post ≡ t.0.contents = ap (λ (r : Reference). r.contents) last.state ∙ sym same in
       subst
       (λ (z : Reference × (Contents × (Layout × ℕ))). JudgeAgrees z.0.contents c.step c.reply z.1.0
-      (foretell z.1.1.0 z.0 z.1.1.1 c.step))
+      (predict_step z.1.1.0 z.0 z.1.1.1 c.step))
       (λ i. (sym first.state i, (sym post_is i, (sym first.layout i, by i)))) (law l s t.0 c t.1)
 
 -- parts by number, as they are given to a record

@@ -34,8 +34,8 @@ abbrev pub shown : ℕ → Step → Reply → GhostLists → GhostLists → Aske
 shown cpu step reply pre post =
     record { cpu = cpu; step = step; reply = reply; states = Some (pre, post) }
 
-abbrev pub untold : ℕ → Step → Reply → Asked
-untold cpu step reply = record { cpu = cpu; step = step; reply = reply; states = None }
+abbrev pub unshown : ℕ → Step → Reply → Asked
+unshown cpu step reply = record { cpu = cpu; step = step; reply = reply; states = None }
 
 -- both records, if memory was refused to neither
 abbrev pub both_in : {E : Type 0}

@@ -16,7 +16,7 @@ use Rattle.reference_model.specs.model.History.{IsStored, calls_by, calls_on}
 use Rattle.part_types.specs.declared.parts.CpuState.{CpuState}
 use Rattle.part_types.specs.Logs.{StoredCalls}
 use Rattle.ghost_spec.specs.States.{contents_in}
-use Rattle.ghost_judge.specs.Judgements.{IsAsTold, told_of}
+use Rattle.ghost_judge.specs.Judgements.{IsAsPredicted, told_of}
 use Rattle.part_table.specs.declared.slot.Slot.{Slot}
 use Rattle.part_table.specs.Answered.{FindsAway, FindsLogFull, MeetsAnother, MakesCall, used_by}
 use Rattle.part_table.specs.Endings.{IsEndFor, IsEndOf}
@@ -129,7 +129,7 @@ ShowsModel A {J = J} takes =
     (h : IsJudged A takes step reply v w from to)
     → reply ≢ Refused NoMemory
     → IfSome h.made.makes.told.asked.states
-    (λ s. IsAsTold reply (contents_in s.1) (told_of s.0 v.cpu step))
+    (λ s. IsAsPredicted reply (contents_in s.1) (told_of s.0 v.cpu step))
 
 -- a CPU's list has these steps and replies more, in this order
 abbrev pub HasMore : List (Step × Reply) → Known → Known → Type 0

@@ -7,7 +7,7 @@ ghost use Rattle.page_state.specs.LayoutView.{layout_of};
 ghost use Rattle.part_table.specs.Does.{Does, IsCalled, none_at, only_at, pair_at};
 ghost use Rattle.part_table.specs.Parts.{parts};
 ghost use Rattle.part_table.specs.Trying.{CanMake};
-ghost use Rattle.cpu_threads.specs.Judged.{AsksOnce, CanRecord, IsRecordOf, both_in, lent_guest, lent_shared, lent_vms, shown, untold};
+ghost use Rattle.cpu_threads.specs.Judged.{AsksOnce, CanRecord, IsRecordOf, both_in, lent_guest, lent_shared, lent_vms, shown, unshown};
 
 use call_table::{Call, Reply, Step};
 use ghost_oracle::record::record;
@@ -34,7 +34,7 @@ pub trait Judge {
 
     /// A call of a CPU was made, and memory was refused to a record.
     fn unjudged(&mut self, cpu: u64, step: &Step, reply: &Reply)
-        ensures { takes self.old (untold cpu step.now reply.now) self.new };
+        ensures { takes self.old (unshown cpu step.now reply.now) self.new };
 }
 
 /// Makes the step of a call, records what it uses before and after it, and asks a judge.

@@ -26,17 +26,17 @@ use Rattle.reference_model.specs.model.Parts.{lacks_slot, uses_shared}
 use Rattle.reference_model.specs.model.Rule.{Rule}
 use Rattle.reference_model.specs.model.Rules.{rule, names, guest_slot}
 use Rattle.reference_model.specs.model.State.{Contents, Reference, Rooms, no_shared, no_guest}
-use Rattle.reference_model.specs.model.Step.{answer, changed, fails, first_test, foretell, guest_after, guest_need, is_full, is_short, is_touched, made, or_else, own_row, refusal, rule_of, shared_after, shared_need, stored, with_rows}
+use Rattle.reference_model.specs.model.Step.{answer, changed, fails, first_test, predict_step, guest_after, guest_need, is_full, is_short, is_touched, made, or_else, own_row, refusal, rule_of, shared_after, shared_need, stored, with_rows}
 use Rattle.reference_model.specs.model.Used.{Used, used_of, put_back, put_rooms, rooms_of, guest_at}
-use Rattle.freedoms.specs.Ample.{answer_amply, asks_pool, foretell_amply, rule_fails}
+use Rattle.freedoms.specs.Ample.{answer_amply, asks_pool, predict_step_amply, rule_fails}
 use Rattle.freedoms.specs.OwnTables.{bare_used, without_tables}
 use Rattle.freedoms.proofs.Bare.{changed-bare, put-bare, rule-bare}
 use Rattle.freedoms.proofs.Gone.{IsApart, after-brings, guest_holds, still-apart}
 use Rattle.freedoms.proofs.OwnRows.{bare-apart, bare-clear, choose, own-alike, used-apart, with_row}
 use Rattle.freedoms.proofs.Twins.{used-alike}
 use Rattle.ghost_spec.specs.Kept.{IsLowSlot}
-use Rattle.ghost_spec.proofs.Foretold.{foretold-answer}
-use Rattle.free_judge.specs.Asked.{asked_by, asked_guest, asked_of, filled_by, filled_guest, filled_shared, most_needed, IsToldAmply}
+use Rattle.ghost_spec.proofs.Predictions.{predicted-answer}
+use Rattle.free_judge.specs.Asked.{asked_by, asked_guest, asked_of, filled_by, filled_guest, filled_shared, most_needed, IsPredictedAmply}
 use Rattle.free_judge.proofs.Fills.{filled-alike}
 
 choose-same : (b : Bool) (x y z w : Row) → z ≡ w → (b ≡ true → x ≡ y) → choose b x z ≡ choose b y w
@@ -383,7 +383,7 @@ module _ (l : Layout) (fs : List ℕ) (outside : (f : ℕ) → is_memory l f ≡
   given = answer l cpu slot_at step (used_of (names step) slot_at cpu start.contents)
 
   module _ (room : is_full (names step) slot_at (rooms_of (names step) slot_at cpu rooms) ≡ false) where
-    foretold-is : foretell l start cpu step
+    predicted-is : predict_step l start cpu step
         ≡ (
           given.0,
           record {
@@ -391,18 +391,18 @@ module _ (l : Layout) (fs : List ℕ) (outside : (f : ℕ) → is_memory l f ≡
             rooms = put_rooms (names step) slot_at cpu rooms (stored (rooms_of (names step) slot_at cpu rooms));
           },
         )
-    foretold-is = foretold-answer l start cpu step slot_at refl given.0 given.1 room refl
+    predicted-is = predicted-answer l start cpu step slot_at refl given.0 given.1 room refl
 
     module _ (reply : Reply) (after : Reference)
-        (is : ◌≡◌ {A = Reply × Reference} (reply, after) (foretell l start cpu step)) where
+        (is : ◌≡◌ {A = Reply × Reference} (reply, after) (predict_step l start cpu step)) where
       reply-given : reply ≡ given.0
-      reply-given = ap (λ (p : Reply × Reference). p.0) (is ∙ foretold-is)
+      reply-given = ap (λ (p : Reply × Reference). p.0) (is ∙ predicted-is)
 
       after-given : after.contents ≡ put_back (names step) slot_at cpu start.contents given.1
-      after-given = ap (λ (p : Reply × Reference). p.1.contents) (is ∙ foretold-is)
+      after-given = ap (λ (p : Reply × Reference). p.1.contents) (is ∙ predicted-is)
 
-      pub told-amply : reply ≢ Refused NoPool → IsToldAmply l s cpu step reply after.contents
-      unfolding foretell_amply
+      pub told-amply : reply ≢ Refused NoPool → IsPredictedAmply l s cpu step reply after.contents
+      unfolding predict_step_amply
       told-amply h =
           let a = answered l fs outside s cpu slot_at low step (λ e. h (reply-given ∙ e)) in
           let n = names step in
@@ -428,16 +428,17 @@ module _ (l m : Layout) (fs : List ℕ) (outside : (f : ℕ) → is_memory l f �
     (rooms_of (names step) (guest_slot (s.cpu cpu) step) cpu b.rooms)
     ≡ false)
     (reply : Reply) (after : Reference)
-    (is : ◌≡◌ {A = Reply × Reference} (reply, after) (foretell m b cpu step)) where
+    (is : ◌≡◌ {A = Reply × Reference} (reply, after) (predict_step m b cpu step)) where
   abbrev begun : Contents → Reference
   begun c = record { contents = c; rooms = b.rooms }
 
-  is-start : ◌≡◌ {A = Reply × Reference} (reply, after) (foretell l (begun (filled_by (asks_pool step) fs s)) cpu step)
+  is-start : ◌≡◌ {A = Reply × Reference} (reply, after)
+      (predict_step l (begun (filled_by (asks_pool step) fs s)) cpu step)
   is-start =
-      is ∙ ap (λ (k : Layout). foretell k b cpu step) layout
-      ∙ ap (λ (c : Contents). foretell l (begun c) cpu step) contents
+      is ∙ ap (λ (k : Layout). predict_step k b cpu step) layout
+      ∙ ap (λ (c : Contents). predict_step l (begun c) cpu step) contents
 
-  pub told-at : reply ≢ Refused NoPool → IsToldAmply l s cpu step reply after.contents
+  pub told-at : reply ≢ Refused NoPool → IsPredictedAmply l s cpu step reply after.contents
   told-at h = told-amply l fs outside s b.rooms cpu step low room reply after is-start h
 
   pub few-at : reply ≡ Refused NoPool → length fs < most_needed l s cpu step

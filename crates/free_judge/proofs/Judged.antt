@@ -9,7 +9,7 @@ use Rattle.page_state.specs.Layouts.{Layout}
 use Rattle.reference_model.specs.help.Conditions.{IsUsable}
 use Rattle.reference_model.specs.model.State.{Contents}
 use Rattle.freedoms.specs.declared.Freedoms.{Freedoms}
-use Rattle.freedoms.specs.Ample.{asks_pool, foretell_amply}
+use Rattle.freedoms.specs.Ample.{asks_pool, predict_step_amply}
 use Rattle.freedoms.specs.AnyTrees.{LegalInAnyTrees}
 use Rattle.freedoms.specs.Freedoms.{Alike, JudgedWith, Touches, is_read, reads_host, view}
 use Rattle.freedoms.specs.OwnTables.{OwnTables, without_tables}
@@ -17,7 +17,7 @@ use Rattle.freedoms.proofs.Aborts.{abort_in_view}
 use Rattle.freedoms.proofs.Judged.{ample_steps, any-trees, steps_judged}
 use Rattle.freedoms.proofs.More.{judged_in_view, more_lets_through, viewed}
 use Rattle.freedoms.proofs.OtherAborts.{abort_of_any_kind}
-use Rattle.freedoms.proofs.Seen.{reads_seen, seen_by_told}
+use Rattle.freedoms.proofs.Seen.{reads_seen, seen_by_predicted}
 use Rattle.ghost_judge.specs.declared.disagreement.Disagreement.{Disagreement}
 use Rattle.free_judge.specs.Freely.{stepped_from, AgreesBy, AgreesFreely, IsFirstBy}
 use Rattle.free_judge.specs.Laws.{FoundWhere, NoFalseAlarm}
@@ -98,7 +98,7 @@ module _ (w : Freedoms) (l : Layout) (before legal : Contents) (cpu : ℕ) (repl
   by-read : (step : Step)
       → is_read step ≡ true
       → OwnTables before legal
-      → AgreesFreely w l before step reply after (foretell_amply l (without_tables before) cpu step)
+      → AgreesFreely w l before step reply after (predict_step_amply l (without_tables before) cpu step)
       ↔ JudgedWith w l before cpu step reply after
   by-read step read own =
       let law = reads_seen w l before legal cpu step reply after own is read in
@@ -108,27 +108,27 @@ module _ (w : Freedoms) (l : Layout) (before legal : Contents) (cpu : ℕ) (repl
       → asks_pool step ≡ false
       → reads_host step ≡ false
       → is_read step ≡ false
-      → AgreesFreely w l before step reply after (foretell_amply l (view w l before) cpu step)
+      → AgreesFreely w l before step reply after (predict_step_amply l (view w l before) cpu step)
       ↔ JudgedWith w l before cpu step reply after
   by-view step asks reads read =
       let law = judged_in_view w l before legal cpu step reply after begins is asks reads read in
-      let told = seen_by_told w l before cpu step reply after in
+      let told = seen_by_predicted w l before cpu step reply after in
       (λ h. law.1 (told.1 h.agrees), λ j. record { agrees = told.0 (law.0 j); mapped = λ lazy. no-abort step reads })
 
   by-abort : (p : ℕ) (b : Bool)
       → w.lazy_host ≡ b
-      → AgreesFreely w l before (HostAbort p) reply after (foretell_amply l (view w l before) cpu (HostAbort p))
+      → AgreesFreely w l before (HostAbort p) reply after (predict_step_amply l (view w l before) cpu (HostAbort p))
       ↔ JudgedWith w l before cpu (HostAbort p) reply after
   by-abort p true lazy =
       let law = abort_in_view w l before legal cpu p reply after lazy usable begins is in
-      let told = seen_by_told w l before cpu (HostAbort p) reply after in (
+      let told = seen_by_predicted w l before cpu (HostAbort p) reply after in (
         λ h. law.1 (told.1 h.agrees, h.mapped lazy),
         λ j. let k = law.0 j in
             record { agrees = told.0 k.0; mapped = λ z. k.1 },
       )
   by-abort p false lazy =
       let law = abort_of_any_kind w l before legal cpu p reply after lazy begins is in
-      let told = seen_by_told w l before cpu (HostAbort p) reply after in (
+      let told = seen_by_predicted w l before cpu (HostAbort p) reply after in (
         λ h. law.1 (told.1 h.agrees),
         λ j. record { agrees = told.0 (law.0 j); mapped = λ z. let bad : false ≡ true = sym lazy ∙ z in cc },
       )
@@ -136,7 +136,7 @@ module _ (w : Freedoms) (l : Layout) (before legal : Contents) (cpu : ℕ) (repl
   each : (step : Step)
       → (is_read step ≡ true → OwnTables before legal)
       → asks_pool step ≡ false
-      → AgreesFreely w l before step reply after (foretell_amply l (stepped_from w l before step) cpu step)
+      → AgreesFreely w l before step reply after (predict_step_amply l (stepped_from w l before step) cpu step)
       ↔ JudgedWith w l before cpu step reply after
   each (HostTranslate p) own asks = by-read (HostTranslate p) refl (own refl)
   each (HypTranslate p) own asks = by-read (HypTranslate p) refl (own refl)
@@ -151,7 +151,7 @@ found_where w l before legal cpu step reply after found usable begins own is ask
     both-ways
     (subst
     (λ (s : Contents). (found ≡ None)
-    ↔ AgreesFreely w l before step reply after (foretell_amply l s cpu step)) ready j.none)
+    ↔ AgreesFreely w l before step reply after (predict_step_amply l s cpu step)) ready j.none)
     (each w l before legal cpu reply after usable begins is step own asks)
 
 pub no_false_alarm : NoFalseAlarm

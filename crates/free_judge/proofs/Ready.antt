@@ -10,8 +10,8 @@ use Rattle.freedoms.specs.declared.Freedoms.{Freedoms}
 use Rattle.freedoms.specs.Ample.{asks_pool}
 use Rattle.freedoms.specs.Freedoms.{is_read, view}
 use Rattle.freedoms.specs.OwnTables.{OwnTables, without_tables}
-use Rattle.free_judge.specs.Asked.{asked_by, asked_of, IsToldAmply}
-use Rattle.free_judge.specs.Freely.{stepped_from, IsReady, IsToldFreely}
+use Rattle.free_judge.specs.Asked.{asked_by, asked_of, IsPredictedAmply}
+use Rattle.free_judge.specs.Freely.{stepped_from, IsReady, IsPredictedFreely}
 use Rattle.free_judge.proofs.Fills.{asked-alike}
 
 bare-asked : (b : Bool) (s : Contents) → b ≡ false → asked_by b s ≡ without_tables s
@@ -43,8 +43,8 @@ pub told-freely : (w : Freedoms) (l m : Layout) (s b : Contents) (cpu : ℕ) (st
     (after : Contents)
     → m ≡ l
     → IsReady w l s step (asked_of step b)
-    → IsToldAmply m b cpu step reply after
-    → IsToldFreely w l s cpu step reply after
+    → IsPredictedAmply m b cpu step reply after
+    → IsPredictedFreely w l s cpu step reply after
 told-freely w l m s b cpu step reply after e from told =
-    let t = subst (λ (k : Layout). IsToldAmply k b cpu step reply after) e told in
+    let t = subst (λ (k : Layout). IsPredictedAmply k b cpu step reply after) e told in
     record { ready = asked_of step b; from = from; reply_is = t.reply_is; contents_are = t.contents_are }

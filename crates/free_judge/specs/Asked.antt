@@ -10,7 +10,7 @@ use Rattle.reference_model.specs.model.Step.{rule_of, shared_need, guest_need}
 use Rattle.reference_model.specs.model.Used.{Used, used_of}
 use Rattle.freedoms.specs.declared.Freedoms.{Freedoms}
 use Rattle.freedoms.specs.Freedoms.{kind_entry}
-use Rattle.freedoms.specs.Ample.{asks_pool, foretell_amply}
+use Rattle.freedoms.specs.Ample.{asks_pool, predict_step_amply}
 use Rattle.freedoms.specs.OwnTables.{OwnTables, bare_guest, bare_shared}
 
 -- a guest without tables and free frames, or one whose pool is asked
@@ -64,10 +64,10 @@ most_needed l s cpu step =
 
 -- the reply, and all but tables and free frames of the state after it, are the model's for the
 -- state from which the step is made
-pub record IsToldAmply (l : Layout) (s : Contents) (cpu : ℕ) (step : Step) (reply : Reply)
+pub record IsPredictedAmply (l : Layout) (s : Contents) (cpu : ℕ) (step : Step) (reply : Reply)
     (after : Contents) : Type 0 where
-  pub reply_is : reply ≡ (foretell_amply l (asked_of step s) cpu step).0
-  pub contents_are : OwnTables after (foretell_amply l (asked_of step s) cpu step).1
+  pub reply_is : reply ≡ (predict_step_amply l (asked_of step s) cpu step).0
+  pub contents_are : OwnTables after (predict_step_amply l (asked_of step s) cpu step).1
 
 -- the host's entry of a page, as a device's if its kind may be free
 abbrev pub kind_seen : Freedoms → Layout → ℕ → Entry → Entry

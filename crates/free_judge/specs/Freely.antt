@@ -9,8 +9,8 @@ use Rattle.page_state.specs.EntryTests.{is_unmapped}
 use Rattle.page_state.specs.Layouts.{Layout}
 use Rattle.reference_model.specs.model.State.{Contents}
 use Rattle.freedoms.specs.declared.Freedoms.{Freedoms}
-use Rattle.freedoms.specs.Ample.{WantsAnyMemory, asks_pool, foretell_amply}
-use Rattle.freedoms.specs.Freedoms.{SaysAs, Touches, is_read, view}
+use Rattle.freedoms.specs.Ample.{WantsAnyMemory, asks_pool, predict_step_amply}
+use Rattle.freedoms.specs.Freedoms.{CountsAs, Touches, is_read, view}
 use Rattle.freedoms.specs.OwnTables.{OwnTables, without_tables}
 use Rattle.freedoms.specs.Seen.{AgreesSeen}
 use Rattle.ghost_judge.specs.declared.disagreement.Disagreement.{Disagreement}
@@ -34,12 +34,12 @@ pub record IsReady (w : Freedoms) (l : Layout) (before : Contents) (step : Step)
 
 -- the reply and the state after it, apart from tables and free frames, are the model's for such a
 -- state
-pub record IsToldFreely (w : Freedoms) (l : Layout) (before : Contents) (cpu : ℕ) (step : Step)
+pub record IsPredictedFreely (w : Freedoms) (l : Layout) (before : Contents) (cpu : ℕ) (step : Step)
     (reply : Reply) (after : Contents) : Type 0 where
   pub ready : Contents
   pub from : IsReady w l before step ready
-  pub reply_is : reply ≡ (foretell_amply l ready cpu step).0
-  pub contents_are : OwnTables after (foretell_amply l ready cpu step).1
+  pub reply_is : reply ≡ (predict_step_amply l ready cpu step).0
+  pub contents_are : OwnTables after (predict_step_amply l ready cpu step).1
 
 -- the reply and the state after it agree with the model's; and a lazy host maps the page that it
 -- touched
@@ -81,7 +81,7 @@ IsFirstUnwanted w step reply after wanted post d =
 -- after itself
 pub record AgreesBy (w : Freedoms) (step : Step) (reply told : Reply)
     (before after wanted post : Contents) : Type 0 where
-  pub agrees : (SaysAs w told reply × (after ≡ wanted))
+  pub agrees : (CountsAs w told reply × (after ≡ wanted))
       ⊎ (WantsAnyMemory step reply told × (after ≡ before))
   pub mapped : w.lazy_host ≡ true → Touches step reply post
 
@@ -90,7 +90,7 @@ pub record AgreesBy (w : Freedoms) (step : Step) (reply told : Reply)
 pub record IsOtherReply (w : Freedoms) (step : Step) (reply told said spec : Reply) : Type 0 where
   pub said_is : said ≡ reply
   pub spec_is : spec ≡ told
-  pub differ : SaysAs w told reply → ⊥
+  pub differ : CountsAs w told reply → ⊥
   pub is_no_want : WantsAnyMemory step reply told → ⊥
 
 -- memory ran out, and the state changed: the first difference from the one before. Or the reply
@@ -100,8 +100,8 @@ abbrev pub IsFirstSeen : Freedoms → Step → Reply → Reply → Contents → 
     → Disagreement → Type 0
 IsFirstSeen w step reply told before after wanted post d =
     (WantsAnyMemory step reply told × IsFirstOfState after before d)
-    ⊎ ((SaysAs w told reply × IsFirstOfState after wanted d)
-    ⊎ (SaysAs w told reply × (after ≡ wanted) × IsUntouchedBy w step reply post wanted d))
+    ⊎ ((CountsAs w told reply × IsFirstOfState after wanted d)
+    ⊎ (CountsAs w told reply × (after ≡ wanted) × IsUntouchedBy w step reply post wanted d))
 
 -- the first difference
 abbrev pub IsFirstBy : Freedoms → Step → Reply → Reply → Contents → Contents → Contents → Contents
@@ -131,7 +131,7 @@ pub record IsJudgedFreely (w : Freedoms) (l : Layout) (before : Contents) (cpu :
   pub ready : Contents
   pub from : IsReady w l before step ready
   pub none : (found ≡ None)
-      ↔ AgreesFreely w l before step reply after (foretell_amply l ready cpu step)
+      ↔ AgreesFreely w l before step reply after (predict_step_amply l ready cpu step)
   pub first : IfSome found
-      (IsFirstBy w step reply (foretell_amply l ready cpu step).0 (view w l before)
-      (view w l after) (view w l (foretell_amply l ready cpu step).1) after)
+      (IsFirstBy w step reply (predict_step_amply l ready cpu step).0 (view w l before)
+      (view w l after) (view w l (predict_step_amply l ready cpu step).1) after)

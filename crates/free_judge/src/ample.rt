@@ -4,7 +4,7 @@ ghost use Rattle.page_state.specs.LayoutView.{layout_of};
 ghost use Rattle.freedoms.specs.Ample.{asks_pool as asks_pool_of};
 ghost use Rattle.ghost_spec.specs.Kept.{HasNextGeneration};
 ghost use Rattle.ghost_spec.specs.States.{contents_in, ghost_state};
-ghost use Rattle.free_judge.specs.Asked.{filled_by, most_needed, AreOutside, IsOpen, IsToldAmply};
+ghost use Rattle.free_judge.specs.Asked.{filled_by, most_needed, AreOutside, IsOpen, IsPredictedAmply};
 
 use crate::bare::{bare, with_frames};
 use crate::same::asks_pool;
@@ -76,7 +76,7 @@ fn attempted(
     requires frames { AreOutside frames.now }
     ensures told { IfOk result
         (λ o. IfSome o
-        (λ r. IsToldAmply (layout_of state.now.layout) (contents_in state.now) cpu step r.0
+        (λ r. IsPredictedAmply (layout_of state.now.layout) (contents_in state.now) cpu step r.0
         (contents_in r.1))) }
     ensures layout { IfOk result (λ o. IfSome o (λ r. layout_of r.1.layout ≡ layout_of state.now.layout)) }
     ensures short { IfOk result
@@ -106,7 +106,7 @@ pub fn predict_amply(
     requires cpu { cpu < state.now.layout.config.cpus }
     requires generation { HasNextGeneration ((contents_in state.now).cpu cpu).ticket step }
     ensures told { IfOk result
-        (λ r. IsToldAmply (layout_of state.now.layout) (contents_in state.now) cpu step r.0
+        (λ r. IsPredictedAmply (layout_of state.now.layout) (contents_in state.now) cpu step r.0
         (contents_in r.1)) }
     ensures layout { IfOk result (λ r. layout_of r.1.layout ≡ layout_of state.now.layout) }
 {

@@ -6,7 +6,7 @@ ghost use Rattle.freedoms.specs.Freedoms.{Touches};
 ghost use Rattle.ghost_spec.specs.Kept.{HasNextGeneration};
 ghost use Rattle.ghost_spec.specs.States.{contents_in};
 ghost use Rattle.free_judge.specs.Asked.{asked_of};
-ghost use Rattle.free_judge.specs.Freely.{page_touched, AgreesIn, IsFirstIn, IsFirstUnwanted, IsJudgedFreely, IsMissing, IsReady, IsToldFreely, IsUntouchedBy, IsWanted};
+ghost use Rattle.free_judge.specs.Freely.{page_touched, AgreesIn, IsFirstIn, IsFirstUnwanted, IsJudgedFreely, IsMissing, IsReady, IsPredictedFreely, IsUntouchedBy, IsWanted};
 
 use crate::ample::predict_amply;
 use crate::asked::asked;
@@ -150,7 +150,7 @@ fn ready(
 /// The model's reply to a step of a CPU in the view that the freedoms leave of a state, and the state after it, apart
 /// from tables and free frames. If a call was made and names a frame of a guest's pool, the model gives that frame if
 /// its row has the pool as its use.
-pub fn told_freely(
+pub fn predicted_freely(
     alloc: Global,
     freedoms: Freedoms,
     pre: &Ghost,
@@ -161,7 +161,7 @@ pub fn told_freely(
     requires cpu { cpu < pre.now.layout.config.cpus }
     requires generation { HasNextGeneration ((contents_in pre.now).cpu cpu).ticket step }
     ensures told { IfOk result
-        (λ r. IsToldFreely freedoms (layout_of pre.now.layout)
+        (λ r. IsPredictedFreely freedoms (layout_of pre.now.layout)
         (contents_in pre.now) cpu step r.0 (contents_in r.1)) }
 {
     let ready = ready(alloc, freedoms, pre, cpu, step, reply)?;
@@ -189,7 +189,7 @@ pub fn judge_freely(
         (contents_in pre.now) cpu step reply.now (contents_in post.now)) }
 {
     let layout = &pre.lists().layout;
-    let (told, made) = told_freely(alloc, freedoms, pre, cpu, step, *reply)?;
+    let (told, made) = predicted_freely(alloc, freedoms, pre, cpu, step, *reply)?;
     let wanted = viewed(alloc, freedoms, layout, &made)?;
     let before = viewed(alloc, freedoms, layout, pre)?;
     let after = viewed(alloc, freedoms, layout, post)?;

@@ -2,7 +2,7 @@
 ghost use Rattle.std.specs.Prelude.{◌≡◌, ◌↔◌, IsTrue};
 ghost use Rattle.reference_model.specs.model.Rules.{may_grow as may_grow_of};
 ghost use Rattle.freedoms.specs.Ample.{asks_pool as asks_pool_of, IsWant, WantsAnyMemory};
-ghost use Rattle.freedoms.specs.Freedoms.{is_read as is_read_of, is_test, SaysAs};
+ghost use Rattle.freedoms.specs.Freedoms.{is_read as is_read_of, is_test, CountsAs};
 
 use call_table::{Refusal, Reply, Step};
 use freedoms::Freedoms;
@@ -80,7 +80,7 @@ fn is_rule(why: Refusal) -> bool
 
 /// Whether a reply counts as the model's under the freedoms.
 pub(crate) fn says(freedoms: Freedoms, told: Reply, said: Reply) -> bool
-    ensures { IsTrue result ↔ SaysAs freedoms told said }
+    ensures { IsTrue result ↔ CountsAs freedoms told said }
 {
     if said == told {
         return true;

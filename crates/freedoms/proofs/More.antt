@@ -9,7 +9,7 @@ use Rattle.page_state.specs.Layouts.{Layout}
 use Rattle.reference_model.specs.model.State.{Contents}
 use Rattle.freedoms.specs.Ample.{is_done, StepsAmply}
 use Rattle.freedoms.specs.declared.Freedoms.{Freedoms}
-use Rattle.freedoms.specs.Freedoms.{view, Alike, SaysAs, Touches, reads_host, no_more}
+use Rattle.freedoms.specs.Freedoms.{view, Alike, CountsAs, Touches, reads_host, no_more}
 use Rattle.freedoms.specs.Laws.{NoMoreIsOwn, MoreLetsThrough, JudgedInView, RefusalsStay}
 use Rattle.freedoms.specs.OwnTables.{OwnTables}
 
@@ -17,7 +17,7 @@ use Rattle.freedoms.specs.OwnTables.{OwnTables}
 pub viewed : (w : Freedoms) (l : Layout) (s t : Contents) → OwnTables s t → Alike w l s t
 viewed w l s t e = ap (view w l) e
 
-said-same : (told said : Reply) → SaysAs no_more told said → said ≡ told
+said-same : (told said : Reply) → CountsAs no_more told said → said ≡ told
 said-same told said (inl e) = e
 said-same told said (inr h) = let bad = h.0 in cc
 

@@ -16,10 +16,10 @@ use Rattle.reference_model.specs.model.State.{Contents, all_rooms}
 use Rattle.reference_model.specs.model.Step.{rule_of, made}
 use Rattle.reference_model.specs.model.Used.{Used, used_of, put_back}
 use Rattle.freedoms.specs.declared.Freedoms.{Freedoms}
-use Rattle.freedoms.specs.Ample.{asks_pool, is_done, IsWant, rule_fails, answer_amply, foretell_amply, StepsAmply}
-use Rattle.freedoms.specs.Freedoms.{Alike, SaysAs, Touches, is_read, is_test, view}
+use Rattle.freedoms.specs.Ample.{asks_pool, is_done, IsWant, rule_fails, answer_amply, predict_step_amply, StepsAmply}
+use Rattle.freedoms.specs.Freedoms.{Alike, CountsAs, Touches, is_read, is_test, view}
 use Rattle.freedoms.specs.OwnTables.{bare_shared, without_tables}
-use Rattle.freedoms.specs.Seen.{AgreesSeen, SeenByTold, ReadsSeen}
+use Rattle.freedoms.specs.Seen.{AgreesSeen, SeenByPredicted, ReadsSeen}
 use Rattle.freedoms.proofs.Judged.{alike}
 use Rattle.freedoms.proofs.More.{viewed}
 use Rattle.freedoms.proofs.Views.{view-twice}
@@ -37,7 +37,7 @@ unfolding by_test
 want-no-test told (inl e) = ap by_test e
 want-no-test told (inr e) = ap by_test e
 
-said-want : (w : Freedoms) (told said : Reply) → IsWant told → SaysAs w told said → IsWant said
+said-want : (w : Freedoms) (told said : Reply) → IsWant told → CountsAs w told said → IsWant said
 unfolding by_test
 said-want w told said want (inl e) = subst IsWant (sym e) want
 said-want w told said want (inr h) =
@@ -67,8 +67,10 @@ module _ (w : Freedoms) (l : Layout) (before s : Contents) (cpu : ℕ) (step : S
   abbrev back : Reply × Used → Reply × Contents
   back p = (p.0, put p.1)
 
-  told-is : (o : Option Refusal) → rule_fails l cpu slot_at step x ≡ o → foretell_amply l s cpu step ≡ back (told_for o)
-  unfolding foretell_amply answer_amply
+  told-is : (o : Option Refusal)
+      → rule_fails l cpu slot_at step x ≡ o
+      → predict_step_amply l s cpu step ≡ back (told_for o)
+  unfolding predict_step_amply answer_amply
   told-is o e = ap (λ (q : Option Refusal). back (told_for q)) e
 
   own : put x ≡ s
@@ -79,14 +81,14 @@ module _ (w : Freedoms) (l : Layout) (before s : Contents) (cpu : ℕ) (step : S
   pub Agrees : Reply × Contents → Type 0
   Agrees told = AgreesSeen w l before step reply after told
 
-  says-so : (a b : Reply) → a ≡ b → SaysAs w a reply → SaysAs w b reply
-  says-so a b e h = subst (λ (r : Reply). SaysAs w r reply) e h
+  says-so : (a b : Reply) → a ≡ b → CountsAs w a reply → CountsAs w b reply
+  says-so a b e h = subst (λ (r : Reply). CountsAs w r reply) e h
 
   pub down : (next : Contents) (told : Reply)
       → StepsAmply l s cpu step told next
-      → SaysAs w told reply
+      → CountsAs w told reply
       → Alike w l next after
-      → Agrees (foretell_amply l s cpu step)
+      → Agrees (predict_step_amply l s cpu step)
   unfolding Agrees
   down next told steps says ends = elim (steps.answers) [
     | inl p ↦ subst Agrees (sym (told-is None p.passes))
@@ -120,7 +122,7 @@ module _ (w : Freedoms) (l : Layout) (before s : Contents) (cpu : ℕ) (step : S
     pub next : Contents
     pub told : Reply
     pub steps : StepsAmply l s cpu step told next
-    pub says : SaysAs w told reply
+    pub says : CountsAs w told reply
     pub ends : Alike w l next after
 
   up-by : (o : Option Refusal) → rule_fails l cpu slot_at step x ≡ o → Agrees (back (told_for o)) → IsStep
@@ -170,7 +172,7 @@ module _ (w : Freedoms) (l : Layout) (before s : Contents) (cpu : ℕ) (step : S
             ∙ sym same ∙ a.contents_are;
       }
 
-  pub up : Agrees (foretell_amply l s cpu step) → IsStep
+  pub up : Agrees (predict_step_amply l s cpu step) → IsStep
   up a = up-by (rule_fails l cpu slot_at step x) refl (subst Agrees (told-is (rule_fails l cpu slot_at step x) refl) a)
 
 -- what the freedoms leave of a state, seen again
@@ -181,9 +183,9 @@ seen-twice w l s =
     { shared = record (bare_shared s.shared) { host = record { map = m; table = no_tree.table } } })
     (fun_ext (λ p. sym (view-twice w l p (s.shared.host.map p))))
 
-pub seen_by_told : SeenByTold
+pub seen_by_predicted : SeenByPredicted
 unfolding Agrees
-seen_by_told w l before cpu step reply after =
+seen_by_predicted w l before cpu step reply after =
     let same = seen-twice w l before in (
       λ j. down w l before (view w l before) cpu step reply after same j.next j.told j.steps j.says j.ends,
       λ a. let k = up w l before (view w l before) cpu step reply after same a in

@@ -11,8 +11,8 @@ use Rattle.reference_model.specs.model.Rules.{names, guest_slot}
 use Rattle.reference_model.specs.model.State.{Contents, all_rooms}
 use Rattle.reference_model.specs.model.Step.{rule_of, made}
 use Rattle.reference_model.specs.model.Used.{Used, used_of, put_back}
-use Rattle.freedoms.specs.Ample.{is_done, rule_fails, answer_amply, foretell_amply, IsJudgedByMaps, told_bare, AgreesBare}
-use Rattle.freedoms.specs.Laws.{JudgedByTold}
+use Rattle.freedoms.specs.Ample.{is_done, rule_fails, answer_amply, predict_step_amply, IsJudgedByMaps, predicted_bare, AgreesBare}
+use Rattle.freedoms.specs.Laws.{JudgedByPredicted}
 use Rattle.freedoms.specs.OwnTables.{without_tables}
 
 refused-done : {P : Type 0} (why : Refusal) → is_done (Refused why) ≡ true → P
@@ -41,8 +41,10 @@ module _ (l : Layout) (before : Contents) (cpu : ℕ) (step : Step) (reply : Rep
   abbrev back : Reply × Used → Reply × Contents
   back p = (p.0, put p.1)
 
-  told-is : (o : Option Refusal) → rule_fails l cpu slot_at step x ≡ o → told_bare l before cpu step ≡ back (told_for o)
-  unfolding foretell_amply answer_amply
+  told-is : (o : Option Refusal)
+      → rule_fails l cpu slot_at step x ≡ o
+      → predicted_bare l before cpu step ≡ back (told_for o)
+  unfolding predict_step_amply answer_amply
   told-is o e = ap (λ (q : Option Refusal). back (told_for q)) e
 
   own : put x ≡ s
@@ -53,7 +55,7 @@ module _ (l : Layout) (before : Contents) (cpu : ℕ) (step : Step) (reply : Rep
   Agrees : Reply × Contents → Type 0
   Agrees told = AgreesBare before step reply after told
 
-  down : IsJudgedByMaps l before cpu step reply after → Agrees (told_bare l before cpu step)
+  down : IsJudgedByMaps l before cpu step reply after → Agrees (predicted_bare l before cpu step)
   unfolding Agrees
   down j = elim (j.steps.answers) [
     | inl p ↦ subst Agrees (sym (told-is None p.passes))
@@ -124,9 +126,9 @@ module _ (l : Layout) (before : Contents) (cpu : ℕ) (step : Step) (reply : Rep
             ∙ a.contents_are;
       }
 
-  up : Agrees (told_bare l before cpu step) → IsJudgedByMaps l before cpu step reply after
+  up : Agrees (predicted_bare l before cpu step) → IsJudgedByMaps l before cpu step reply after
   up a = up-by (rule_fails l cpu slot_at step x) refl (subst Agrees (told-is (rule_fails l cpu slot_at step x) refl) a)
 
-pub judged_by_told : JudgedByTold
+pub judged_by_told : JudgedByPredicted
 unfolding Agrees
 judged_by_told l before cpu step reply after = (down l before cpu step reply after, up l before cpu step reply after)

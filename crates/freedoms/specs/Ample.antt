@@ -76,8 +76,8 @@ module _ (l : Layout) (cpu : ℕ) (slot : Option ℕ) (step : Step) where
 
 -- the reply of a step, unless memory runs out, and the state after it, if the pools may hold any
 -- number of frames and logs are ignored
-unfoldable pub foretell_amply : Layout → Contents → ℕ → Step → Reply × Contents
-foretell_amply l s cpu step =
+unfoldable pub predict_step_amply : Layout → Contents → ℕ → Step → Reply × Contents
+predict_step_amply l s cpu step =
     let n = names step in
     let slot = guest_slot (s.cpu cpu) step in
     let r = answer_amply l cpu slot step (used_of n slot cpu s) in
@@ -111,8 +111,8 @@ pub record IsJudgedByMaps (l : Layout) (before : Contents) (cpu : ℕ) (step : S
   pub ends : OwnTables next after
 
 -- the model's reply and next state for a step from a state without tables and free frames
-abbrev pub told_bare : Layout → Contents → ℕ → Step → Reply × Contents
-told_bare l before cpu step = foretell_amply l (without_tables before) cpu step
+abbrev pub predicted_bare : Layout → Contents → ℕ → Step → Reply × Contents
+predicted_bare l before cpu step = predict_step_amply l (without_tables before) cpu step
 
 -- a reply is a lack of memory, the step may allocate, and the model makes it
 pub record WantsAnyMemory (step : Step) (reply told : Reply) : Type 0 where
@@ -121,7 +121,8 @@ pub record WantsAnyMemory (step : Step) (reply told : Reply) : Type 0 where
   pub made : is_done told ≡ true
 
 -- the reply is the model's, and so is the state after it apart from tables and free frames
-pub record IsAsToldBare (reply : Reply) (after : Contents) (told : Reply × Contents) : Type 0 where
+pub record IsAsPredictedBare (reply : Reply) (after : Contents)
+    (told : Reply × Contents) : Type 0 where
   pub reply_is : reply ≡ told.0
   pub contents_are : OwnTables told.1 after
 
@@ -134,4 +135,4 @@ pub record IsUnchangedBare (before : Contents) (step : Step) (reply : Reply) (af
 -- one of both
 abbrev pub AgreesBare : Contents → Step → Reply → Contents → Reply × Contents → Type 0
 AgreesBare before step reply after told =
-    IsAsToldBare reply after told ⊎ IsUnchangedBare before step reply after told
+    IsAsPredictedBare reply after told ⊎ IsUnchangedBare before step reply after told

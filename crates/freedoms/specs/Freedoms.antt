@@ -74,8 +74,8 @@ is_test other = false
 
 -- a given reply counts as the model's: it is the same, or, with the freedom of names, any refusal
 -- if a rule's test refuses
-abbrev pub SaysAs : Freedoms → Reply → Reply → Type 0
-SaysAs w told said =
+abbrev pub CountsAs : Freedoms → Reply → Reply → Type 0
+CountsAs w told said =
     (said ≡ told)
     ⊎ ((w.any_refusal ≡ true)
     × ((why : Refusal) × (told ≡ Refused why) × (is_test why ≡ true))
@@ -115,7 +115,7 @@ pub record JudgedWith (w : Freedoms) (l : Layout) (before : Contents) (cpu : ℕ
   pub itself : is_read step ≡ true → OwnTables before state
   pub legal : LegalInAnyTrees l state
   pub steps : StepsAmply l state cpu step told next
-  pub says : SaysAs w told reply
+  pub says : CountsAs w told reply
   pub ends : Alike w l next after
   pub mapped : w.lazy_host ≡ true → Touches step reply after
 
@@ -126,7 +126,7 @@ pub record IsJudgedInView (w : Freedoms) (l : Layout) (before : Contents) (cpu :
   pub next : Contents
   pub told : Reply
   pub steps : StepsAmply l (view w l before) cpu step told next
-  pub says : SaysAs w told reply
+  pub says : CountsAs w told reply
   pub ends : Alike w l next after
 
 -- no freedom but own tables

@@ -21,10 +21,10 @@ use Rattle.reference_model.specs.model.Parts.{slot_of, ticket_slot}
 use Rattle.reference_model.specs.declared.changes.Stage.TheVariants.{Dying as dying_vm}
 use Rattle.reference_model.specs.model.State.{Guest, Contents, Reference, empty, put_at}
 use Rattle.reference_model.specs.model.Step.{Steps}
-use Rattle.freedoms.specs.Ample.{is_done, asks_pool, is_by_order, StepsAmply, JudgedWithOwnTables, IsJudgedByMaps, told_bare, AgreesBare}
+use Rattle.freedoms.specs.Ample.{is_done, asks_pool, is_by_order, StepsAmply, JudgedWithOwnTables, IsJudgedByMaps, predicted_bare, AgreesBare}
 use Rattle.freedoms.specs.AnyTrees.{LegalInAnyTrees}
 use Rattle.freedoms.specs.declared.Freedoms.{Freedoms}
-use Rattle.freedoms.specs.Freedoms.{SaysAs, JudgedWith, Touches, no_more, view, Alike, reads_host, is_read, IsJudgedInView}
+use Rattle.freedoms.specs.Freedoms.{CountsAs, JudgedWith, Touches, no_more, view, Alike, reads_host, is_read, IsJudgedInView}
 use Rattle.freedoms.specs.OwnTables.{OwnTables, without_tables}
 
 -- each stored step of the model is also a step without the test of the pools
@@ -79,11 +79,11 @@ StepsJudged =
 
 -- the judgement by maps follows from the model's step of the state before without tables and free
 -- frames
-abbrev pub JudgedByTold : Type 0
-JudgedByTold =
+abbrev pub JudgedByPredicted : Type 0
+JudgedByPredicted =
     (l : Layout) (before : Contents) (cpu : ℕ) (step : Step) (reply : Reply) (after : Contents)
     → IsJudgedByMaps l before cpu step reply after
-    ↔ AgreesBare before step reply after (told_bare l before cpu step)
+    ↔ AgreesBare before step reply after (predicted_bare l before cpu step)
 
 -- the row of a frame of a guest's pool, free or a table
 abbrev pub pool_row : ℕ → Row
@@ -286,4 +286,5 @@ AbortOfAnyKind =
 
 -- with no freedom does a refused step count as made, or a made step as refused
 abbrev pub RefusalsStay : Type 0
-RefusalsStay = (w : Freedoms) (told said : Reply) → SaysAs w told said → is_done said ≡ is_done told
+RefusalsStay =
+    (w : Freedoms) (told said : Reply) → CountsAs w told said → is_done said ≡ is_done told

@@ -1,6 +1,6 @@
 //! Laws of judges with freedoms. Each function does nothing, and its contract is the law.
-ghost use Rattle.freedoms.specs.Laws.{AbortInView, AbortOfAnyKind, AmpleSteps, BareSteps, FinishesRoot, HoldsAsMany, JudgedByMaps, JudgedByTold, JudgedFromAny, JudgedInView, MoreLetsThrough, NoMoreIsOwn, PoolsByRows, ReclaimsByRows, ReclaimsOfAny, ReclaimsSpare, RefusalsStay, StepsJudged, StepsOfAny, ViewSteps};
-ghost use Rattle.freedoms.specs.Seen.{ReadsSeen, SeenByTold};
+ghost use Rattle.freedoms.specs.Laws.{AbortInView, AbortOfAnyKind, AmpleSteps, BareSteps, FinishesRoot, HoldsAsMany, JudgedByMaps, JudgedByPredicted, JudgedFromAny, JudgedInView, MoreLetsThrough, NoMoreIsOwn, PoolsByRows, ReclaimsByRows, ReclaimsOfAny, ReclaimsSpare, RefusalsStay, StepsJudged, StepsOfAny, ViewSteps};
+ghost use Rattle.freedoms.specs.Seen.{ReadsSeen, SeenByPredicted};
 
 /// A step of the model is also a step without the test of the pools, and such a step gives the same without tables and
 /// free frames.
@@ -15,7 +15,7 @@ pub fn ample_steps()
 pub fn judged_by_maps()
     ensures maps { JudgedByMaps }
     ensures steps { StepsJudged }
-    ensures told { JudgedByTold }
+    ensures told { JudgedByPredicted }
 {}
 
 /// The frames of a guest's pool that steps give back, whatever the pool's order and the tree's tables: their rows have
@@ -50,7 +50,7 @@ pub fn more_freedoms()
 
 /// A judgement with freedoms follows from the model's step in the view that they leave of the state before, and that of
 /// a read from its step of the state itself without tables.
-pub fn seen_by_told()
-    ensures seen { SeenByTold }
+pub fn seen_by_predicted()
+    ensures seen { SeenByPredicted }
     ensures reads { ReadsSeen }
 {}

@@ -30,7 +30,7 @@ use Rattle.ghost_judge.specs.declared.disagreement.Disagreement.TheVariants.{Map
 use Rattle.ghost_judge.specs.declared.disagreement.TreeOf.{TreeOf}
 use Rattle.ghost_judge.specs.declared.disagreement.TreeOf.TheVariants.{Host, Hyp, Guest}
 use Rattle.ghost_judge.specs.Apart.{IsFirstApart}
-use Rattle.ghost_judge.specs.Audits.{MapsAgreeBelow, MapsAgree, AuditAgrees, IsTold, IsFirstDifference}
+use Rattle.ghost_judge.specs.Audits.{MapsAgreeBelow, MapsAgree, AuditAgrees, DiffersFirstAt, IsFirstDifference}
 use Rattle.ghost_judge.specs.inner.Found.{IsFound, IsMapDifference, IsRowDifference, IsGuestDifference, guest_map}
 use Rattle.ghost_judge.specs.inner.Parted.{IsFoundApart}
 
@@ -260,7 +260,7 @@ module _ (a b : Contents) where
 
   tell : (tree : TreeOf) (m n : Map) (d : Disagreement)
       → ((page : ℕ)
-      → IsTold m n page (m page) (n page)
+      → DiffersFirstAt m n page (m page) (n page)
       → IsFirstDifference a b (MapDiffers tree page (m page) (n page)))
       → IsMapDifference tree m n d
       → IsFirstDifference a b d

@@ -1,4 +1,4 @@
--- The judgement agrees with each step of the model: its reply and its state are those that are foretold, or it wanted
+-- The judgement agrees with each step of the model: its reply and its state are those that are predicted, or it wanted
 -- memory and changed nothing.
 use Rattle.std.proofs.Common.{◌≡◌, ℕ, sym, ap, ◌∙◌, inl, inr, true, false, Option, Some, None}
 use Rattle.std.specs.Prelude.{◌⊎◌}
@@ -11,11 +11,11 @@ use Rattle.call_table.specs.declared.step.Step.{Step}
 use Rattle.page_state.specs.Layouts.{Layout}
 use Rattle.reference_model.specs.model.Rules.{names, guest_slot}
 use Rattle.reference_model.specs.model.State.{Reference}
-use Rattle.reference_model.specs.model.Step.{is_full, fails, rule_of, made, answer, stored, foretell, used_by, rooms_by, with_used, FindsFull, IsWanting, IsStoredAnswer, Steps}
+use Rattle.reference_model.specs.model.Step.{is_full, fails, rule_of, made, answer, stored, predict_step, used_by, rooms_by, with_used, FindsFull, IsWanting, IsStoredAnswer, Steps}
 use Rattle.reference_model.specs.model.Used.{Used, used_of}
 use Rattle.reference_model.proofs.Steps.{log_full_keeps, refusal_keeps}
-use Rattle.ghost_spec.proofs.Foretold.{foretold-full, foretold-answer}
-use Rattle.ghost_judge.specs.Judgements.{is_done, IsAsTold, IsUnchanged, JudgeAgrees, StepsAgree}
+use Rattle.ghost_spec.proofs.Predictions.{predicted-full, predicted-answer}
+use Rattle.ghost_judge.specs.Judgements.{is_done, IsAsPredicted, IsUnchanged, JudgeAgrees, StepsAgree}
 
 module _ (l : Layout) (cpu : ℕ) (slot : Option ℕ) (step : Step) (x : Used) where
   abbrev answer_by : Option Refusal → Reply × Used
@@ -37,16 +37,16 @@ module _ (l : Layout) (s t : Reference) (c : Call) (h : Steps l s c t) where
   x = used_by c s
 
   abbrev told : Reply × Reference
-  told = foretell l s c.cpu c.step
+  told = predict_step l s c.cpu c.step
 
   slot_is : c.slot ≡ guest_slot (s.contents.cpu c.cpu) c.step
   unfolding used_of
   slot_is = h.on.slot
 
   -- a log is full
-  full : FindsFull c x (rooms_by c s) h.after h.left → IsAsTold c.reply t.contents told
+  full : FindsFull c x (rooms_by c s) h.after h.left → IsAsPredicted c.reply t.contents told
   full p =
-      let e = foretold-full l s c.cpu c.step c.slot slot_is p.full in
+      let e = predicted-full l s c.cpu c.step c.slot slot_is p.full in
       record {
         reply_is = p.reply ∙ sym (ap (λ (q : Reply × Reference). q.0) e);
         contents_are =
@@ -54,21 +54,21 @@ module _ (l : Layout) (s t : Reference) (c : Call) (h : Steps l s c t) where
             ∙ sym (ap (λ (q : Reply × Reference). q.1.contents) e);
       }
 
-  -- what is foretold where the call is stored
+  -- what is predicted where the call is stored
   stored_told : is_full (names c.step) c.slot (rooms_by c s) ≡ false
       → (o : Option Refusal)
       → fails l c.cpu c.slot c.step x ≡ o
       → let a = answer_by l c.cpu c.slot c.step x o in
       ◌≡◌ {A = Reply × Reference} told (a.0, with_used c s a.1 (stored (rooms_by c s)))
   stored_told room o e = let a = answer_by l c.cpu c.slot c.step x o in
-      foretold-answer l s c.cpu c.step c.slot slot_is a.0 a.1 room (answer_is l c.cpu c.slot c.step x o e)
+      predicted-answer l s c.cpu c.step c.slot slot_is a.0 a.1 room (answer_is l c.cpu c.slot c.step x o e)
 
   -- made, or refused by a test
   as_told : (reply : Reply) (y : Used)
       → ◌≡◌ {A = Reply × Reference} told (reply, with_used c s y (stored (rooms_by c s)))
       → c.reply ≡ reply
       → h.after ≡ y
-      → IsAsTold c.reply t.contents told
+      → IsAsPredicted c.reply t.contents told
   as_told reply y e r n = record {
     reply_is = r ∙ sym (ap (λ (q : Reply × Reference). q.0) e);
     contents_are =

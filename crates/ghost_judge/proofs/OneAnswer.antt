@@ -12,7 +12,7 @@ use Rattle.ghost_judge.specs.declared.disagreement.Disagreement.TheVariants.{Map
 use Rattle.ghost_judge.specs.declared.disagreement.TreeOf.{TreeOf}
 use Rattle.ghost_judge.specs.declared.disagreement.TreeOf.TheVariants.{Host, Hyp, Guest}
 use Rattle.ghost_judge.specs.Apart.{IsFirstApart}
-use Rattle.ghost_judge.specs.Audits.{IsFirstMap, IsTold, MapsAgree}
+use Rattle.ghost_judge.specs.Audits.{IsFirstMap, DiffersFirstAt, MapsAgree}
 use Rattle.ghost_judge.specs.Judgements.{IsFirstChange, IsFirstJudged, IsFirstOfState, IsFirstUntold, IsOtherReply, JudgeAgrees, WantsMemory, is_done}
 use Rattle.ghost_judge.specs.OneAnswer.{AuditElse, AuditOnce, JudgedElse, JudgedOnce, StateElse, StateOnce}
 
@@ -29,8 +29,8 @@ apart_else f g n e a = a.differ (ap (λ h. h n) e)
 -- maps
 
 map_once : (tree : TreeOf) (f g : ℕ → Entry) (n m : ℕ) (x y z w : Entry)
-    → IsTold f g n x y
-    → IsTold f g m z w
+    → DiffersFirstAt f g n x y
+    → DiffersFirstAt f g m z w
     → MapDiffers tree n x y ≡ MapDiffers tree m z w
 map_once tree f g n m x y z w a b =
     let e = apart_once f g n m a.first b.first in
@@ -38,8 +38,8 @@ map_once tree f g n m x y z w a b =
     ∙ ap (λ u. MapDiffers tree m z u) (a.walked_is ∙ ap g e ∙ sym b.walked_is)
 
 row_once : (f g : ℕ → Row) (n m : ℕ) (x y z w : Row)
-    → IsTold f g n x y
-    → IsTold f g m z w
+    → DiffersFirstAt f g n x y
+    → DiffersFirstAt f g m z w
     → OwnerDiffers n x y ≡ OwnerDiffers m z w
 row_once f g n m x y z w a b =
     let e = apart_once f g n m a.first b.first in

@@ -31,25 +31,27 @@ pub record AuditAgrees (kept walked : Contents) : Type 0 where
   pub rows : kept.shared.row ≡ walked.shared.row
 
 -- two functions first differ at a number, and the value of each there
-pub record IsTold {X : Type 0} (kept walked : ℕ → X) (n : ℕ) (x y : X) : Type 0 where
+pub record DiffersFirstAt {X : Type 0} (kept walked : ℕ → X) (n : ℕ) (x y : X) : Type 0 where
   pub first : IsFirstApart kept walked n
   pub kept_is : x ≡ kept n
   pub walked_is : y ≡ walked n
 
 -- the first difference is one of this tree's map
 abbrev pub IsFirstMap : Contents → Contents → TreeOf → ℕ → Entry → Entry → Type 0
-IsFirstMap kept walked Host page x y = IsTold kept.shared.host.map walked.shared.host.map page x y
+IsFirstMap kept walked Host page x y =
+    DiffersFirstAt kept.shared.host.map walked.shared.host.map page x y
 IsFirstMap kept walked Hyp page x y =
     (kept.shared.host.map ≡ walked.shared.host.map)
-    × IsTold kept.shared.hyp.map walked.shared.hyp.map page x y
+    × DiffersFirstAt kept.shared.hyp.map walked.shared.hyp.map page x y
 IsFirstMap kept walked (Guest v) page x y =
-    MapsAgreeBelow kept walked v × IsTold (kept.guest v).tree.map (walked.guest v).tree.map page x y
+    MapsAgreeBelow kept walked v
+    × DiffersFirstAt (kept.guest v).tree.map (walked.guest v).tree.map page x y
 
 -- the first difference: all that comes before it is equal
 abbrev pub IsFirstDifference : Contents → Contents → Disagreement → Type 0
 IsFirstDifference kept walked (MapDiffers tree page x y) = IsFirstMap kept walked tree page x y
 IsFirstDifference kept walked (OwnerDiffers frame x y) =
-    MapsAgree kept walked × IsTold kept.shared.row walked.shared.row frame x y
+    MapsAgree kept walked × DiffersFirstAt kept.shared.row walked.shared.row frame x y
 IsFirstDifference kept walked other = ⊥
 
 -- the maps are coarsest lists of runs of small numbers, of 64 guests, and the rows' numbers are

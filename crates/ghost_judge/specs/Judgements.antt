@@ -13,7 +13,7 @@ use Rattle.page_state.specs.LayoutView.{layout_of}
 use Rattle.page_state.specs.Trees.{no_tree}
 use Rattle.reference_model.specs.model.Rules.{may_grow}
 use Rattle.reference_model.specs.model.State.{Contents, Guest, Reference, Shared}
-use Rattle.reference_model.specs.model.Step.{foretell, Steps}
+use Rattle.reference_model.specs.model.Step.{predict_step, Steps}
 use Rattle.ghost_spec.specs.declared.state.Ghost.{Ghost}
 use Rattle.ghost_spec.specs.States.{ghost_state}
 use Rattle.ghost_judge.specs.declared.disagreement.Disagreement.{Disagreement}
@@ -74,7 +74,7 @@ pub record WantsMemory (step : Step) (reply told : Reply) : Type 0 where
   pub made : is_done told ≡ true
 
 -- the reply and all contents are the model's
-pub record IsAsTold (reply : Reply) (post : Contents) (told : Reply × Reference) : Type 0 where
+pub record IsAsPredicted (reply : Reply) (post : Contents) (told : Reply × Reference) : Type 0 where
   pub reply_is : reply ≡ told.0
   pub contents_are : post ≡ told.1.contents
 
@@ -87,7 +87,7 @@ pub record IsUnchanged (pre : Contents) (step : Step) (reply : Reply) (post : Co
 -- one of both
 abbrev pub JudgeAgrees : Contents → Step → Reply → Contents → Reply × Reference → Type 0
 JudgeAgrees pre step reply post told =
-    IsAsTold reply post told ⊎ IsUnchanged pre step reply post told
+    IsAsPredicted reply post told ⊎ IsUnchanged pre step reply post told
 
 -- the judgement agrees with each step of the model: with its reply, the contents before it and
 -- those after it
@@ -95,7 +95,7 @@ abbrev pub StepsAgree : Type 0
 StepsAgree =
     (l : Layout) (s t : Reference) (c : Call)
     → Steps l s c t
-    → JudgeAgrees s.contents c.step c.reply t.contents (foretell l s c.cpu c.step)
+    → JudgeAgrees s.contents c.step c.reply t.contents (predict_step l s c.cpu c.step)
 
 -- a step that ran out of memory changed something: the first difference from the state before
 pub record IsFirstChange (pre : Contents) (step : Step) (reply : Reply) (post : Contents)
@@ -128,4 +128,4 @@ IsFirstJudged pre step reply post told d =
 
 -- the model's reply and next state for a step from a state
 abbrev pub told_of : Ghost → ℕ → Step → Reply × Reference
-told_of pre cpu step = foretell (layout_of pre.layout) (ghost_state pre) cpu step
+told_of pre cpu step = predict_step (layout_of pre.layout) (ghost_state pre) cpu step

@@ -3,8 +3,8 @@ ghost use Rattle.ghost_judge.specs.Judgements.{StepsAgree};
 ghost use Rattle.ghost_judge.specs.OneAnswer.{AuditElse, AuditOnce, JudgedElse, JudgedOnce, StateElse, StateOnce};
 ghost use Rattle.ghost_judge.specs.TextRows.{FreeWritten, JudgementWritten, MapWritten, OwnerWritten, ReplyWritten};
 
-/// The judgement agrees with each step of the model: the reply and the state after it are the ones that `foretell`
-/// predicts, or the call ran out of memory in a step that `foretell` makes, and nothing changed.
+/// The judgement agrees with each step of the model: the reply and the state after it are the ones that `predict_step`
+/// predicts, or the call ran out of memory in a step that `predict_step` makes, and nothing changed.
 pub fn steps_agree()
     ensures agree { StepsAgree }
 {}

@@ -7,7 +7,7 @@ use Rattle.page_state.specs.declared.row.Row.{Row}
 use Rattle.page_state.specs.declared.row.Usage.TheVariants.{Plain}
 use Rattle.page_state.specs.Entries.{advance}
 use Rattle.page_state.specs.Rows.{advance_row, advance_lent}
-use Rattle.reference_model.specs.help.Conditions.{Condition, outside, hosts, with_hyp, hyps, with_guest, guests, lent_back, hyp_says, row_in, HostFits}
+use Rattle.reference_model.specs.help.Conditions.{Condition, outside, hosts, with_hyp, hyps, with_guest, guests, lent_back, hyp_entry_by, row_in, HostFits}
 use Rattle.ghost_legal.specs.declared.finding.Facts.{Facts}
 use Rattle.ghost_legal.specs.declared.finding.Holder.{Holder}
 use Rattle.ghost_legal.specs.declared.finding.Holder.TheVariants.{SharedPool, VmPool, Table, Hand, Guest}
@@ -56,7 +56,7 @@ host-later f (with_guest v g) e n h = ap (λ e. advance e n) h
 host-later f (guests v g) e n h = ap (λ e. advance e n) h
 host-later f (lent_back v g) e n h = ap (λ e. advance e n) h
 
-hyp-later : (f : ℕ) (c : Condition) (n : ℕ) → advance (hyp_says f c) n ≡ hyp_says (f + n) (condition_later c n)
+hyp-later : (f : ℕ) (c : Condition) (n : ℕ) → advance (hyp_entry_by f c) n ≡ hyp_entry_by (f + n) (condition_later c n)
 hyp-later f outside n = refl
 hyp-later f hosts n = refl
 hyp-later f with_hyp n = refl

@@ -5,7 +5,7 @@ use Rattle.page_state.specs.declared.row.Usage.{Usage}
 use Rattle.page_state.specs.declared.row.Usage.TheVariants.{Plain, SharedPool, VmPool, InHand}
 use Rattle.page_state.specs.Entries.{advance}
 use Rattle.page_state.specs.Rows.{advance_row}
-use Rattle.reference_model.specs.help.Conditions.{Condition, outside, hosts, with_hyp, hyps, with_guest, guests, lent_back, guest_condition, hyp_says, row_in, HostFits}
+use Rattle.reference_model.specs.help.Conditions.{Condition, outside, hosts, with_hyp, hyps, with_guest, guests, lent_back, guest_condition, hyp_entry_by, row_in, HostFits}
 use Rattle.ghost_legal.specs.declared.condition.Condition.{Condition as ConditionOf}
 use Rattle.ghost_legal.specs.declared.condition.Condition.TheVariants.{Outside, Hosts, WithHyp, Hyps, WithGuest, Guests, LentBack}
 use Rattle.ghost_legal.specs.declared.finding.Facts.{Facts}
@@ -49,7 +49,7 @@ condition_by x =
 -- the facts of the parts about a frame fit the condition
 pub record Fits (f : ℕ) (c : Condition) (x : Facts) : Type 0 where
   pub host : HostFits f c x.host
-  pub hyp : x.hyp ≡ hyp_says f c
+  pub hyp : x.hyp ≡ hyp_entry_by f c
   pub row : x.memory ≡ true → x.row ≡ row_in f c
 
 -- only a memory frame is held

@@ -24,7 +24,7 @@ IsIllegalBy false g x = IsIllegalButForTrees g x
 
 -- why contents aren't legal: some lists say them, with each tree's tables at other blocks, and it
 -- is told of these
-pub record IsToldOf (trees : Bool) (l : Layout) (s : Contents) (x : Illegal) : Type 0 where
+pub record IsWhyIllegal (trees : Bool) (l : Layout) (s : Contents) (x : Illegal) : Type 0 where
   pub lists : GhostLists
   pub kept : IsKept lists
   pub blocks : TreesHaveFirstBlocks lists

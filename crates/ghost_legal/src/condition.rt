@@ -1,7 +1,7 @@
 //! The condition of a frame, from the facts of the parts about it.
 ghost use Rattle.std.specs.Prelude.{◌≡◌, ◌+◌, ◌<◌, ◌^◌, ◌↔◌, IsTrue, Some};
 ghost use Rattle.page_state.specs.EntryTests.{leaf as leaf_of};
-ghost use Rattle.reference_model.specs.help.Conditions.{row_in as row_in_of, hyp_says as hyp_says_of, HostFits};
+ghost use Rattle.reference_model.specs.help.Conditions.{row_in as row_in_of, hyp_entry_by as hyp_entry_by_of, HostFits};
 ghost use Rattle.page_state.specs.declared.row.Usage.TheVariants.{Plain};
 ghost use Rattle.ghost_legal.specs.Facts.{IsLowCondition, IsLowHolder, condition_in, condition_by, held_in, unheld_in, Fits, IsCondition};
 
@@ -124,8 +124,8 @@ fn host_fits(page: u64, condition: Condition, host: Entry) -> bool
 }
 
 /// The hypervisor's entry of a frame's page.
-fn hyp_says(frame: u64, condition: Condition) -> Entry
-    ensures { result ≡ hyp_says_of frame (condition_in condition) }
+fn hyp_entry_by(frame: u64, condition: Condition) -> Entry
+    ensures { result ≡ hyp_entry_by_of frame (condition_in condition) }
 {
     match condition {
         Condition::WithHyp => leaf(Prot::RW, frame, State::SharedBorrowed),
@@ -198,7 +198,7 @@ fn fits_in(frame: u64, condition: Condition, facts: Facts) -> bool
     if !host_fits(frame, condition, facts.host) {
         return false;
     }
-    if facts.hyp != hyp_says(frame, condition) {
+    if facts.hyp != hyp_entry_by(frame, condition) {
         return false;
     }
     !facts.memory || facts.row == row_in(frame, condition)

@@ -11,7 +11,7 @@ use Rattle.table_tree.specs.Raw.{BeginsWith, IsPoked, IsPokedMap}
 use Rattle.ghost_oracle.specs.declared.raw.Which.{Which}
 use Rattle.ghost_oracle.specs.declared.raw.Which.TheVariants.{Host, Hyp, Guest}
 use Rattle.ghost_oracle.specs.Poked.{Beside}
-use Rattle.ghost_oracle.specs.PokedLaws.{BesideOnce, PokedOnce, SaysTheSame}
+use Rattle.ghost_oracle.specs.PokedLaws.{BesideOnce, PokedOnce, HasSameWords}
 use Rattle.ghost_oracle.specs.Seen.{SeenTree}
 
 -- tests
@@ -75,14 +75,14 @@ map_once block words before x y path word a b page = elim (stands_or_not (words 
 
 pub poked_once : PokedOnce
 poked_once block before x y which path word a b tree = elim (is_or_not tree which) [
-  | inl e ↦ subst (λ w. SaysTheSame (x w) (y w)) (sym e) (record {
+  | inl e ↦ subst (λ w. HasSameWords (x w) (y w)) (sym e) (record {
     words = words_once (before which).words (x which).words (y which).words path word a.poked.words b.poked.words;
     map =
         map_once block (before which).words (before which).tree.map (x which).tree.map
         (y which).tree.map path word a.poked.map b.poked.map;
   })
   | inr n ↦ let e : x tree ≡ y tree = a.others tree n ∙ sym (b.others tree n) in
-      subst (λ (t : SeenTree). SaysTheSame (x tree) t) e (record { words = λ q. refl; map = λ page. refl })
+      subst (λ (t : SeenTree). HasSameWords (x tree) t) e (record { words = λ q. refl; map = λ page. refl })
 ]
 
 -- beside them

@@ -13,7 +13,7 @@ use Rattle.ghost_spec.specs.declared.lists.GhostLists.{GhostLists}
 use Rattle.ghost_spec.specs.States.{ghost_state, slot_in}
 use Rattle.ghost_spec.specs.Used.{guests_in, rooms_of}
 use Rattle.ghost_spec.specs.Views.{cpu_in, shared_in_lists}
-use Rattle.ghost_spec.proofs.Foretold.{put-items, put-list}
+use Rattle.ghost_spec.proofs.Predictions.{put-items, put-list}
 use Rattle.ghost_spec.proofs.Starts.{all-equal, all-same}
 use Rattle.ghost_oracle.specs.Recorded.{Given, put_given, recorded, rooms_given, used_given, RecordsUsed}
 use Rattle.ghost_oracle.proofs.Reached.{state_same}

@@ -32,15 +32,15 @@ abbrev pub walked_state : Layout → Reference → Reference
 walked_state l s = found_state (scratch_rows l s.contents) s
 
 -- its runs are those that the maplets of the parts keep
-pub record SaysMaplets {A : Type 0} (p : Parts A) (g : GhostLists) : Type 0 where
+pub record HasSameMaplets {A : Type 0} (p : Parts A) (g : GhostLists) : Type 0 where
   pub host : g.shared.host.runs.items ≡ p.shared.host.maplets.runs
   pub hyp : g.shared.hyp.runs.items ≡ p.shared.hyp.maplets.runs
   pub guests : map (λ x. x.tree.runs.items) g.guests.items
       ≡ map (λ x. runs_of x.guest.body) p.guests.items
 
 -- its rows are those that the owner table of the parts keeps
-abbrev pub SaysRows : {A : Type 0} → Parts A → GhostLists → Type 0
-SaysRows p g = run_map advance_row g.shared.rows.runs ≡ run_map advance_row p.shared.owners
+abbrev pub HasSameRows : {A : Type 0} → Parts A → GhostLists → Type 0
+HasSameRows p g = run_map advance_row g.shared.rows.runs ≡ run_map advance_row p.shared.owners
 
 -- a frame has a row if and only if it is a memory frame
 abbrev pub HasRowsOf : Layout → GhostLists → Type 0

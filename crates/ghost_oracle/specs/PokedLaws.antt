@@ -8,7 +8,7 @@ use Rattle.ghost_oracle.specs.Poked.{Beside, IsBeside, IsPokedTree}
 use Rattle.ghost_oracle.specs.Seen.{SeenTree}
 
 -- two trees have the same words at all paths, and map the same
-pub record SaysTheSame (x y : SeenTree) : Type 0 where
+pub record HasSameWords (x y : SeenTree) : Type 0 where
   pub words : (path : List ℕ) → x.words path ≡ y.words path
   pub map : (page : ℕ) → x.tree.map page ≡ y.tree.map page
 
@@ -19,7 +19,7 @@ PokedOnce =
     → IsPokedTree b before x which path word
     → IsPokedTree b before y which path word
     → (tree : Which)
-    → SaysTheSame (x tree) (y tree)
+    → HasSameWords (x tree) (y tree)
 
 -- all the state beside the trees
 abbrev pub BesideOnce : Type 0 → Type 0

@@ -97,5 +97,5 @@ pub record IsRawFound {A : Type 0} (source : Source) (p : RawParts A)
   pub rooms : AreRoomsFound p g.rooms
 
 -- its rows are those that the owner table keeps
-abbrev pub SaysRawRows : {A : Type 0} → RawParts A → GhostLists → Type 0
-SaysRawRows p g = run_map advance_row g.shared.rows.runs ≡ run_map advance_row p.shared.owners
+abbrev pub HasSameRawRows : {A : Type 0} → RawParts A → GhostLists → Type 0
+HasSameRawRows p g = run_map advance_row g.shared.rows.runs ≡ run_map advance_row p.shared.owners

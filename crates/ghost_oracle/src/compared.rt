@@ -2,7 +2,7 @@
 ghost use Rattle.std.specs.Prelude.{◌≡◌, ◌↔◌, IfSome, IsTrue, None, length, map};
 ghost use Rattle.ghost_judge.specs.Audits.{AuditAgrees, IsFirstDifference};
 ghost use Rattle.ghost_oracle.specs.Compared.{walked_in};
-ghost use Rattle.ghost_oracle.specs.Found.{SaysMaplets};
+ghost use Rattle.ghost_oracle.specs.Found.{HasSameMaplets};
 ghost use Rattle.ghost_spec.specs.States.{contents_in};
 ghost use Rattle.guest_component.specs.View.{runs_of};
 
@@ -92,7 +92,7 @@ fn is_shared_kept<A: Allocator>(found: &Shared, part: &SharedPart<A>) -> bool
 /// Whether all parts were.
 pub(crate) fn is_kept<A: Allocator>(found: &GhostLists, parts: &Parts<A>) -> bool
     requires { length found.now.guests.items ≡ 64 }
-    ensures { IsTrue result ↔ SaysMaplets parts.now found.now }
+    ensures { IsTrue result ↔ HasSameMaplets parts.now found.now }
 {
     is_shared_kept(&found.shared, &parts.shared)
         && are_guests_kept(found.guests.as_slice(), parts.guests.as_slice())

@@ -15,7 +15,7 @@ ghost use Rattle.ghost_spec.specs.Views.{row_in, shared_in_lists};
 ghost use Rattle.hypercalls.specs.Stands.{parts_layout, state_of, HasHistory};
 ghost use Rattle.ghost_oracle.specs.Compared.{IsCompared};
 ghost use Rattle.ghost_oracle.specs.Counted.{HasRead, shared_tables, tables_of_parts};
-ghost use Rattle.ghost_oracle.specs.Found.{found_state, walked_state, with_row, HasRowsOf, SaysMaplets, SaysRows};
+ghost use Rattle.ghost_oracle.specs.Found.{found_state, walked_state, with_row, HasRowsOf, HasSameMaplets, HasSameRows};
 ghost use Rattle.ghost_oracle.specs.Low.{IsLowCpu};
 ghost use Rattle.ghost_oracle.specs.inner.Trees.{AreTreesKept, IsFoundWith};
 
@@ -169,8 +169,8 @@ pub(crate) fn with_kept<A: Allocator>(
     ensures state { IfOk result (λ g. ghost_state g ≡ state_of parts.now) }
     ensures layout { IfOk result (λ g. layout_of g.layout ≡ parts_layout parts.now) }
     ensures kept { IfOk result IsKept }
-    ensures maplets { IfOk result (SaysMaplets parts.now) }
-    ensures rows { IfOk result (SaysRows parts.now) }
+    ensures maplets { IfOk result (HasSameMaplets parts.now) }
+    ensures rows { IfOk result (HasSameRows parts.now) }
     ensures frames { IfOk result (HasRowsOf (parts_layout parts.now)) }
 {
     let guests = guests_with_maplets(alloc, found.guests.as_slice(), parts.guests.as_slice())?;
@@ -208,8 +208,8 @@ pub fn kept<A: Allocator>(alloc: Global, parts: &Parts<A>) -> Result<Ghost, Allo
     requires history { ∥ HasHistory parts.now ∥₁ }
     ensures state { IfOk result (λ g. ghost_state g ≡ state_of parts.now) }
     ensures layout { IfOk result (λ g. layout_of g.layout ≡ parts_layout parts.now) }
-    ensures maplets { IfOk result (SaysMaplets parts.now) }
-    ensures rows { IfOk result (SaysRows parts.now) }
+    ensures maplets { IfOk result (HasSameMaplets parts.now) }
+    ensures rows { IfOk result (HasSameRows parts.now) }
     ensures frames { IfOk result (HasRowsOf (parts_layout parts.now)) }
 {
     let found = found(alloc, parts, &mut Reads::new())?;

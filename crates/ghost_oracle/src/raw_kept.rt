@@ -9,7 +9,7 @@ ghost use Rattle.ghost_spec.specs.Views.{cpu_in};
 ghost use Rattle.ghost_trees.specs.Trees.{tree_in_lists};
 ghost use Rattle.ghost_judge.specs.Audits.{AreMapsKept};
 ghost use Rattle.ghost_oracle.specs.Found.{scratch_rows, HasRowsOf};
-ghost use Rattle.ghost_oracle.specs.RawFound.{AreRoomsFound, AreSlotsFound, IsRawFound, IsSlotFound, SaysRawRows};
+ghost use Rattle.ghost_oracle.specs.RawFound.{AreRoomsFound, AreSlotsFound, IsRawFound, IsSlotFound, HasSameRawRows};
 ghost use Rattle.ghost_oracle.specs.Seen.{raw_seen};
 
 use crate::parts::{SlotsAndCpus, cpu_rooms, cpus_from, guest_rooms, slots_from};
@@ -198,7 +198,7 @@ fn raw_from<A: Allocator>(
 /// What the parts keep: the runs of their maplets, poked or not, and of the owner table, and all else as it is.
 pub fn kept_raw<A: Allocator>(alloc: Global, parts: &RawParts<A>) -> Result<GhostLists, AllocError>
     ensures found { IfOk result (IsRawFound Source.Maplets parts.now) }
-    ensures rows { IfOk result (SaysRawRows parts.now) }
+    ensures rows { IfOk result (HasSameRawRows parts.now) }
     ensures frames { IfOk result (HasRowsOf (layout_of parts.now.layout)) }
     ensures ready { IfOk result AreMapsKept }
 {

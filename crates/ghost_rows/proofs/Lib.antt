@@ -4,6 +4,6 @@ mod RowsKept
 mod RowsLaid
 mod RowsPages
 mod RowsPushed
-mod RowsTold
+mod ListedRows
 mod RowsWhole
 pub mod TableFrames

@@ -22,7 +22,7 @@ use Rattle.ghost_spec.specs.States.{contents_in}
 use Rattle.ghost_trees.specs.Trees.{tree_in_lists}
 use Rattle.ghost_spec.specs.Views.{shared_in_lists}
 use Rattle.ghost_rows.specs.RowsLaid.{first_some, guests_in, cpus_in, annotated_row, loan_at, guest_loan, guests_loan, any_loan, used_row, used_if, guest_use, hand_use, guests_use, hands_use, any_use}
-use Rattle.ghost_rows.specs.RowsTold.{lent_told, usage_told, number_told, is_of_host, owner_told, row_told}
+use Rattle.ghost_rows.specs.ListedRows.{lent_told, usage_told, number_told, is_of_host, owner_told, row_told}
 
 -- the first that a test takes
 

@@ -12,7 +12,7 @@ use Rattle.run_list.specs.Runs.{run_end, run_map, value_on, IsCoarsest}
 use Rattle.run_list.proofs.Maps.{none_low, run_high, run_in, starts_behind}
 use Rattle.ghost_trees.proofs.Overlaid.{within_means}
 use Rattle.ghost_rows.specs.declared.rows.pieces.Lists.{Lists}
-use Rattle.ghost_rows.specs.RowsTold.{told, IsTold}
+use Rattle.ghost_rows.specs.ListedRows.{told, IsListedAs}
 
 -- one piece more of a run, whose frames are told from one on
 pub told-more : (x : Lists) (r : Run Row) (from low high : ℕ)
@@ -38,7 +38,7 @@ some-of a b h = cc
 
 -- what is told of each run is told of each frame that has a row
 pub told-map : (x : Lists) (rs : List (Run Row))
-    → All (IsTold x) rs
+    → All (IsListedAs x) rs
     → (f : ℕ)
     → is_some (run_map advance_row rs f) ≡ true
     → run_map advance_row rs f ≡ Some (told x f)
@@ -53,7 +53,7 @@ told-map x (r ∷ rs) h f some = by_test (is_in_range r.pages f)
 pub map-told : (x : Lists) (rs : List (Run Row))
     → IsCoarsest advance_row rs
     → ((f : ℕ) → is_some (run_map advance_row rs f) ≡ true → run_map advance_row rs f ≡ Some (told x f))
-    → All (IsTold x) rs
+    → All (IsListedAs x) rs
 map-told x [] c h i d less = absurd (omega (arith, less))
 map-told x (r ∷ rs) c h zero d less = λ f a b.
     let here : run_map advance_row (r ∷ rs) f ≡ Some (value_on advance_row r f) = run_in advance_row r rs f a b in
@@ -74,15 +74,15 @@ map-told x (r ∷ rs) c h (suc i) d less = map-told x rs c.2 behind i d (omega (
 -- what is told of the runs before a place, and of one more
 pub told-one-more : (x : Lists) (rs : List (Run Row)) (i : ℕ) (e : Run Row)
     → i < length rs
-    → ((j : ℕ) (d : Run Row) → j < i → IsTold x (get_or rs j d))
-    → IsTold x (get_or rs i e)
+    → ((j : ℕ) (d : Run Row) → j < i → IsListedAs x (get_or rs j d))
+    → IsListedAs x (get_or rs i e)
     → (j : ℕ) (d : Run Row)
     → j < i + 1
-    → IsTold x (get_or rs j d)
+    → IsListedAs x (get_or rs j d)
 told-one-more x rs i e within before here j d less = by_lt j i
     (λ h. before j d h)
     (λ h. let same : i ≡ j = omega (arith, h, less) in
-    subst (λ (k : ℕ). IsTold x (get_or rs k d)) same (subst (IsTold x) (get_or_default rs i e d within) here))
+    subst (λ (k : ℕ). IsListedAs x (get_or rs k d)) same (subst (IsListedAs x) (get_or_default rs i e d within) here))
 
 -- a run ends before the next one begins, or where it does
 ends-first : (rs : List (Run Row)) (i : ℕ) (d e : Run Row)

@@ -18,8 +18,8 @@ use Rattle.ghost_rows.specs.declared.rows.pieces.Lists.{Lists}
 use Rattle.ghost_rows.specs.declared.rows.pieces.Stand.{Stand}
 use Rattle.ghost_rows.specs.declared.rows.pieces.Stands.{Stands}
 use Rattle.ghost_rows.specs.declared.rows.pieces.Steady.{Steady}
-use Rattle.ghost_rows.specs.RowsTold.{lender, lent_told, number_told, quiet_to, row_told, row_with, usage_told, AreCarried, AreNear, AreSteady, IsAnnotatedOn, IsCarried, IsLentOn, IsNear, IsOn, IsPassed, IsStanding, IsSteady}
-use Rattle.ghost_rows.proofs.RowsTold.{all-later, from_place, one-more, skipped, stand-on}
+use Rattle.ghost_rows.specs.ListedRows.{lender, lent_told, number_told, quiet_to, row_told, row_with, usage_told, AreCarried, AreNear, AreSteady, IsAnnotatedOn, IsCarried, IsLentOn, IsNear, IsOn, IsPassed, IsStanding, IsSteady}
+use Rattle.ghost_rows.proofs.ListedRows.{all-later, from_place, one-more, skipped, stand-on}
 
 -- a list between two frames, from a place on before which its runs have ended: none begins there, or one has them all
 

@@ -1,2 +1,2 @@
 pub mod RowsLaid
-pub mod RowsTold
+pub mod ListedRows

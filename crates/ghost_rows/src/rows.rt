@@ -15,10 +15,10 @@ ghost use Rattle.run_list.specs.Runs.{run_map, IsCoarsest, AreInReach};
 ghost use Rattle.ghost_trees.specs.KeptTrees.{IsKeptTree};
 ghost use Rattle.ghost_spec.specs.States.{contents_in};
 ghost use Rattle.ghost_rows.specs.RowsLaid.{HaveKeptTrees, HasRows, rows_of};
-ghost use Rattle.ghost_rows.specs.RowsTold.{told, AreReached, IsRegionAdded};
+ghost use Rattle.ghost_rows.specs.ListedRows.{told, AreReached, IsRegionAdded};
 
 use ghost_spec::lists::GhostLists;
-use kept::are_told;
+use kept::are_listed;
 use loans::{all_loans, annotated, guest_loans};
 use overlay::{lay, lay_all, put_last};
 use page_state::{Layout, Page, PageRange, Region, RegionKind, Row, State};
@@ -152,5 +152,5 @@ pub fn are_from_scratch(
 {
     is_low_memory(&state.layout);
     let lists = lists_of(alloc, state)?;
-    Ok(are_told(&lists, rows))
+    Ok(are_listed(&lists, rows))
 }

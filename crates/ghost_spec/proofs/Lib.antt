@@ -3,7 +3,7 @@ pub mod BootLists
 pub mod Changed
 pub mod Copied
 pub mod FilledIn
-pub mod Foretold
+pub mod Predictions
 pub mod FoundPages
 pub mod FoundTables
 pub mod Guests

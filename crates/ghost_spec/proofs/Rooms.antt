@@ -7,7 +7,7 @@ use Rattle.reference_model.specs.model.State.{Rooms}
 use Rattle.reference_model.specs.model.Step.{is_full, stored}
 use Rattle.reference_model.specs.model.Used.{put_rooms, put_room, room_at, rooms_of}
 use Rattle.reference_model.specs.model.State.{put_at}
-use Rattle.ghost_spec.proofs.Foretold.{rooms-same}
+use Rattle.ghost_spec.proofs.Predictions.{rooms-same}
 
 full-used : (u : Bool) (n : ℕ) → (u && (if u then n else 0) == 0) ≡ (u && n == 0)
 full-used true n = refl

@@ -7,7 +7,7 @@ use Rattle.reference_model.specs.model.State.{Slot, put_at, no_slot}
 use Rattle.ghost_spec.specs.declared.parts.GhostSlot.{GhostSlot}
 use Rattle.ghost_spec.specs.States.{slot_in}
 use Rattle.ghost_spec.specs.Used.{vms_in}
-use Rattle.ghost_spec.proofs.Foretold.{put-list, put-items}
+use Rattle.ghost_spec.proofs.Predictions.{put-list, put-items}
 
 -- one slot becomes what a function makes of it
 pub slot-changed : (xs : List GhostSlot) (v : ℕ) (new : GhostSlot) (f : Slot → Slot)

@@ -16,7 +16,7 @@ use Rattle.ghost_spec.specs.RowsFound.{row_found}
 use Rattle.ghost_spec.specs.States.{slot_in, guest_in, ghost_state}
 use Rattle.ghost_spec.specs.Views.{cpu_in, row_in, shared_in_lists}
 use Rattle.ghost_spec.proofs.RowsAgain.{alone, row-is}
-use Rattle.ghost_spec.proofs.Foretold.{put-own, state-same}
+use Rattle.ghost_spec.proofs.Predictions.{put-own, state-same}
 
 -- the region of a memory frame, and its place
 pub record HasRegion (m : Memory) (f : ℕ) : Type 0 where

@@ -1,7 +1,7 @@
 //! The content of a reference state as plain lists, and the reference step on them.
 ghost use Rattle.std.specs.Prelude.{◌≡◌, ℕ, ◌-◌, ◌<◌, ◌&&◌, ◌||◌, ◌==◌, IfOk, OnOk, if◌then◌else◌, is_some, length};
 ghost use Rattle.page_state.specs.LayoutView.{layout_of};
-ghost use Rattle.reference_model.specs.model.Step.{foretell};
+ghost use Rattle.reference_model.specs.model.Step.{predict_step};
 
 use crate::answer::answer;
 use crate::both::both;
@@ -115,7 +115,7 @@ impl GhostLists {
     ghost use Rattle.page_state.specs.LayoutView.{layout_of};
     ghost use Rattle.reference_model.specs.model.Parts.{uses_vms as uses_vms_of};
     ghost use Rattle.reference_model.specs.model.Rules.{names};
-    ghost use Rattle.reference_model.specs.model.Step.{foretell, is_full as is_full_of};
+    ghost use Rattle.reference_model.specs.model.Step.{predict_step, is_full as is_full_of};
     ghost use Rattle.reference_model.specs.model.Used.{
       put_back as put_back_of,
       rooms_of as rooms_of_state,
@@ -254,9 +254,9 @@ impl GhostLists {
         requires cpu { cpu < self.old.layout.config.cpus }
         requires kept { IsKept self.old }
         requires generation { HasNextGeneration ((contents_in self.old).cpu cpu).ticket step }
-        ensures foretold { IfOk result
+        ensures predicted { IfOk result
             (λ reply. (reply, ghost_state self.new)
-            ≡ foretell (layout_of self.old.layout) (ghost_state self.old) cpu step) }
+            ≡ predict_step (layout_of self.old.layout) (ghost_state self.old) cpu step) }
         ensures layout { self.new.layout ≡ self.old.layout }
         ensures kept { OnOk result (IsKept self.new) }
     {

@@ -1,7 +1,7 @@
 //! The reference state, and the reference step of it.
 ghost use Rattle.std.specs.Prelude.{◌≡◌, ◌<◌, ◌↔◌, IfOk, IsTrue};
 ghost use Rattle.page_state.specs.LayoutView.{layout_of};
-ghost use Rattle.reference_model.specs.model.Step.{foretell};
+ghost use Rattle.reference_model.specs.model.Step.{predict_step};
 ghost use Rattle.ghost_spec.specs.Kept.{HasNextGeneration};
 ghost use Rattle.ghost_spec.specs.States.{contents_in, ghost_state, IsKept};
 
@@ -86,9 +86,9 @@ pub fn predict_last(
 ) -> Result<(Reply, Ghost), AllocError>
     requires cpu { cpu < state.layout.config.cpus }
     requires generation { HasNextGeneration ((contents_in state).cpu cpu).ticket step }
-    ensures foretold { IfOk result
+    ensures predicted { IfOk result
         (λ r. (r.0, ghost_state r.1)
-        ≡ foretell (layout_of state.layout) (ghost_state state) cpu step) }
+        ≡ predict_step (layout_of state.layout) (ghost_state state) cpu step) }
     ensures layout { IfOk result (λ r. r.1.layout ≡ state.layout) }
 {
     let mut lists = state.into_lists();
@@ -109,9 +109,9 @@ pub fn predict(
 ) -> Result<(Reply, Ghost), AllocError>
     requires cpu { cpu < state.now.layout.config.cpus }
     requires generation { HasNextGeneration ((contents_in state.now).cpu cpu).ticket step }
-    ensures foretold { IfOk result
+    ensures predicted { IfOk result
         (λ r. (r.0, ghost_state r.1)
-        ≡ foretell (layout_of state.now.layout) (ghost_state state.now) cpu step) }
+        ≡ predict_step (layout_of state.now.layout) (ghost_state state.now) cpu step) }
     ensures layout { IfOk result (λ r. layout_of r.1.layout ≡ layout_of state.now.layout) }
 {
     let after = state.copied(alloc)?;

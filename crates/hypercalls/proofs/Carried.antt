@@ -19,7 +19,7 @@ use Rattle.reference_model.specs.help.ChangeLaws.{AllFit, FitsWhere, OnlyUses, P
 use Rattle.reference_model.specs.model.Rules.{may_grow}
 use Rattle.reference_model.specs.model.Changes.{edit_of, touched, cpu_by, vms_by}
 use Rattle.reference_model.specs.model.Owner.{is_in_hand}
-use Rattle.reference_model.specs.help.RowChanges.{first_of, told_row, with_told}
+use Rattle.reference_model.specs.help.RowChanges.{first_of, touched_row, with_touched_rows}
 use Rattle.reference_model.specs.model.State.{Vms, Shared, Guest, Cpu, no_vms, no_shared, no_guest}
 use Rattle.reference_model.specs.model.Step.{shared_need, shared_after, guest_need, guest_after, is_short, changed}
 use Rattle.reference_model.specs.model.Used.{Used}
@@ -46,7 +46,7 @@ use Rattle.part_types.specs.View.{vm_slots, shared_of, guest_held, cpu_of, depth
 use Rattle.reference_model.specs.declared.changes.SlotChange.TheVariants.{Keep as KeepSlots}
 use Rattle.reference_model.specs.model.Parts.{Names, uses_shared}
 use Rattle.decisions.specs.Grows.{GrowsOnly}
-use Rattle.hypercalls.specs.Carried.{Ends, LeavesGuest, LeavesShared, is_either_short, rows_told}
+use Rattle.hypercalls.specs.Carried.{Ends, LeavesGuest, LeavesShared, is_either_short, with_rows_touched}
 use Rattle.part_types.specs.Roomy.{IsRoomy}
 
 less_none : (n : ℕ) → nat_lt n 0 ≡ false
@@ -69,13 +69,14 @@ module _ (l : Layout) (h : Changes) (leaves : LeavesShared h) where
   untouched : (f : ℕ) → is_in_hand (touched h) f ≡ false
   untouched f = ap (λ (o : Option PageRange). is_in_hand o f) leaves.moved
 
-  pub none_made : (id : ℕ) (slot : Option ℕ) → no_shared ≡ rows_told l id slot h (shared_after l.depth h no_shared)
+  pub none_made : (id : ℕ) (slot : Option ℕ)
+      → no_shared ≡ with_rows_touched l id slot h (shared_after l.depth h no_shared)
   none_made id slot =
       ap (λ (r : ℕ → Row). record no_shared { row = r })
       (fun_ext
-      (λ f. row_kept (is_memory l (first_of (touched h))) (is_in_hand (touched h) f) (told_row id slot h f)
+      (λ f. row_kept (is_memory l (first_of (touched h))) (is_in_hand (touched h) f) (touched_row id slot h f)
       (no_shared.row f) (untouched f)))
-      ∙ ap (rows_told l id slot h) (sym same_after)
+      ∙ ap (with_rows_touched l id slot h) (sym same_after)
 
   pub none_short : nat_lt (length no_shared.free) (shared_need l.depth h no_shared) ≡ false
   none_short = ap (nat_lt 0) no_need ∙ less_none 0
@@ -93,14 +94,15 @@ same_used v v' s s' g g' k k' a b c d = cc
 pub all_made : (l : Layout) (h : Changes) (id : ℕ) (slot : Option ℕ) (v w : Vms) (s t : Shared) (g p : Guest)
     (k j : Cpu)
     → w ≡ vms_by h.slot v
-    → t ≡ rows_told l id slot h (shared_after l.depth h s)
+    → t ≡ with_rows_touched l id slot h (shared_after l.depth h s)
     → p ≡ guest_after l.depth h g
     → j ≡ cpu_by h.cpu k
     → ◌≡◌ {A = Used} (record { vms = w; shared = t; guest = p; cpu = j })
-    (with_told l id slot h (changed l.depth h (record { vms = v; shared = s; guest = g; cpu = k })))
-unfolding with_told changed
+    (with_touched_rows l id slot h (changed l.depth h (record { vms = v; shared = s; guest = g; cpu = k })))
+unfolding with_touched_rows changed
 all_made l h id slot v w s t g p k j a b c d =
-    same_used w (vms_by h.slot v) t (rows_told l id slot h (shared_after l.depth h s)) p (guest_after l.depth h g) j
+    same_used w (vms_by h.slot v) t (with_rows_touched l id slot h (shared_after l.depth h s)) p
+    (guest_after l.depth h g) j
     (cpu_by h.cpu k) a b c d
 
 -- a guest of which nothing changes
@@ -213,7 +215,7 @@ shared_short_iff m n b p iff = (
 pub record Comes {A : Type 0} (l : Layout) (id : ℕ) (slot : Option ℕ) (h : Changes) (x : Lent A)
     (r : Result (Unit {0}) PoolFault) (y : Lent A) : Type 0 where
   pub vms : OnOk r ((used_in y).vms ≡ vms_by h.slot (used_in x).vms)
-  pub shared : OnOk r ((used_in y).shared ≡ rows_told l id slot h (shared_after l.depth h (used_in x).shared))
+  pub shared : OnOk r ((used_in y).shared ≡ with_rows_touched l id slot h (shared_after l.depth h (used_in x).shared))
   pub guest : OnOk r ((used_in y).guest ≡ guest_after l.depth h (used_in x).guest)
   pub err_vms : OnErr r ((used_in y).vms ≡ (used_in x).vms)
   pub err_shared : OnErr r ((used_in y).shared ≡ (used_in x).shared)
@@ -309,7 +311,7 @@ module _ {A : Type 0} (l : Layout) (id : ℕ) (slot : Option ℕ) (h : Changes) 
   pub comes_shared : (s t : SharedPart A) (k j : CpuState) (r : Result (Unit {0}) PoolFault)
       → h.slot ≡ KeepSlots
       → LeavesGuest h
-      → OnOk r (shared_of t ≡ rows_told l id slot h (shared_after l.depth h (shared_of s)))
+      → OnOk r (shared_of t ≡ with_rows_touched l id slot h (shared_after l.depth h (shared_of s)))
       → OnErr r (shared_of t ≡ shared_of s)
       → (r ≡ Err NoPool) ↔ (length (shared_of s).free < shared_need l.depth h (shared_of s))
       → (r ≡ Err NoMemoryFault → IsRoomy h s → ⊥)
@@ -348,7 +350,7 @@ module _ {A : Type 0} (l : Layout) (id : ℕ) (slot : Option ℕ) (h : Changes) 
   -- of both
   pub comes_both : (s t : SharedPart A) (g p : GuestPart A) (k j : CpuState) (r : Result (Unit {0}) PoolFault)
       → h.slot ≡ KeepSlots
-      → OnOk r (shared_of t ≡ rows_told l id slot h (shared_after l.depth h (shared_of s)))
+      → OnOk r (shared_of t ≡ with_rows_touched l id slot h (shared_after l.depth h (shared_of s)))
       → OnErr r (shared_of t ≡ shared_of s)
       → OnOk r (guest_held p ≡ guest_after l.depth h (guest_held g))
       → OnErr r (guest_held p ≡ guest_held g)

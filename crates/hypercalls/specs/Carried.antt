@@ -14,7 +14,7 @@ use Rattle.reference_model.specs.help.ChangeLaws.{AllFit, PartsFit, TouchedFits}
 use Rattle.reference_model.specs.declared.changes.Changes.{Changes}
 use Rattle.reference_model.specs.declared.changes.GuestChange.TheVariants.{Keep as KeepGuest}
 use Rattle.reference_model.specs.model.Changes.{touched, cpu_by}
-use Rattle.reference_model.specs.help.RowChanges.{first_of, told_row}
+use Rattle.reference_model.specs.help.RowChanges.{first_of, touched_row}
 use Rattle.reference_model.specs.model.State.{Shared, Guest, Cpu}
 use Rattle.reference_model.specs.model.Step.{is_touched, guest_after, guest_need, shared_after, shared_need}
 
@@ -42,11 +42,11 @@ is_either_short depth h x g =
     nat_lt (length x.free) (shared_need depth h x) || nat_lt (length g.free) (guest_need depth h g)
 
 -- the Shared part with the given rows at the touched range, if that is memory
-abbrev pub rows_told : Layout → ℕ → Option ℕ → Changes → Shared → Shared
-rows_told l cpu slot h x =
+abbrev pub with_rows_touched : Layout → ℕ → Option ℕ → Changes → Shared → Shared
+with_rows_touched l cpu slot h x =
     record x {
       row = λ f. elim (is_memory l (first_of (touched h)) && is_touched h f)
-          [ true ↦ told_row cpu slot h f | false ↦ x.row f ];
+          [ true ↦ touched_row cpu slot h f | false ↦ x.row f ];
     }
 
 module _ {A : Type 0} (l : Layout) (h : Changes) where
@@ -67,7 +67,8 @@ module _ {A : Type 0} (l : Layout) (h : Changes) where
   -- rows that follow from them, or none
   pub record IsSharedChanged (id : ℕ) (slot : Option ℕ) (r : Result (Unit {0}) PoolFault)
       (s t : SharedPart A) : Type 0 where
-    pub made : OnOk r (shared_of t ≡ rows_told l id slot h (shared_after l.depth h (shared_of s)))
+    pub made : OnOk r
+        (shared_of t ≡ with_rows_touched l id slot h (shared_after l.depth h (shared_of s)))
     pub err : OnErr r (shared_of t ≡ shared_of s)
     pub suits : SharedSuits l t
     pub log : t.log ≡ s.log

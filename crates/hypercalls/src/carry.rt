@@ -3,7 +3,7 @@ ghost use Rattle.std.specs.Prelude.{◌≡◌, ◌<◌, ◌^◌, ◌↔◌, Err,
 ghost use Rattle.guest_component.specs.Wants.{WantsNoMemory};
 ghost use Rattle.part_types.specs.Lent.{SharedSuits};
 ghost use Rattle.part_types.specs.View.{cpu_of, shared_of};
-ghost use Rattle.hypercalls.specs.Carried.{CanChangeGuest, CanChangeShared, Ends, IsEitherShort, IsGuestChanged, IsGuestShort, IsSharedChanged, IsSharedShort, rows_told};
+ghost use Rattle.hypercalls.specs.Carried.{CanChangeGuest, CanChangeShared, Ends, IsEitherShort, IsGuestChanged, IsGuestShort, IsSharedChanged, IsSharedShort, with_rows_touched};
 ghost use Rattle.part_types.specs.Roomy.{IsRoomy};
 ghost use Rattle.page_state.specs.LayoutView.{layout_of};
 ghost use Rattle.reference_model.specs.help.ChangeLaws.{TouchedFits};
@@ -28,7 +28,7 @@ fn write_rows<A: Allocator>(
     requires touched { TouchedFits (layout_of layout.now) id slot changes.now }
     requires suits { SharedSuits (layout_of layout.now) shared.old }
     ensures told { shared_of shared.new
-        ≡ rows_told (layout_of layout.now) id slot changes.now (shared_of shared.old) }
+        ≡ with_rows_touched (layout_of layout.now) id slot changes.now (shared_of shared.old) }
     ensures suits { SharedSuits (layout_of layout.now) shared.new }
     ensures log { shared.new.log ≡ shared.old.log }
 {

@@ -6,12 +6,12 @@ use Rattle.std.specs.Io.KnownBytes.{Appends}
 use Rattle.std.specs.Option.{is_some}
 use Rattle.std.proofs.lemmas.List.{take_more}
 use Rattle.image_trees.specs.declared.records.Records.{Records}
-use Rattle.image_dump.specs.Stating.{hyp_root, is_stated, told_root, AreRecords}
+use Rattle.image_dump.specs.Stating.{hyp_root, is_stated, reported_root, AreRecords}
 use Rattle.memory_image.specs.declared.segment.Segment.{Segment}
 use Rattle.image_trees.specs.declared.root.Root.{Root}
 use Rattle.image_findings.specs.declared.finding.Finding.{Finding}
 use Rattle.image_dump.specs.Collecting.{claims_of, findings_by, lines_of, tables_of, words_of, Found}
-use Rattle.image_dump.specs.Dumped.{fault_count, faults_in, findings_of, outcome_of, report_of, says_states, text_of_lines, AreCollected, AreFoundIn, IsAdded, IsDumped, IsFoundIn}
+use Rattle.image_dump.specs.Dumped.{fault_count, faults_in, findings_of, outcome_of, report_of, gives_states, text_of_lines, AreCollected, AreFoundIn, IsAdded, IsDumped, IsFoundIn}
 use Rattle.image_dump.specs.declared.dump.Dumped.{Dumped}
 use Rattle.image_dump.specs.declared.line.DumpLine.TheVariants as line
 use Rattle.image_dump.specs.Texts.{text_of_line}
@@ -34,7 +34,7 @@ either_tree true r s h = h
 either_tree false r s h = refl
 
 -- a root as the report has it is of the same tree
-pub same_tree : (has_records : Bool) (root : Root) → (told_root has_records root).tree ≡ root.tree
+pub same_tree : (has_records : Bool) (root : Root) → (reported_root has_records root).tree ≡ root.tree
 same_tree has_records root =
     either_tree (is_stated has_records root)
     (record root { profile = record root.profile { has_states = true } }) root refl
@@ -169,7 +169,7 @@ pub all_dumped : (known : Option (List ℕ)) (may_fail : ℕ → ℕ → Type 0)
     → AreRecords known may_fail segments (hyp_root roots) vmemmap records
     → AreCollected known may_fail segments records roots skips start all unwalked
     → start.lines.items ≡ [] → start.words.items ≡ [] → start.claims.items ≡ [] → start.tables.items ≡ []
-    → states ≡ list_all (says_states (is_some records)) roots
+    → states ≡ list_all (gives_states (is_some records)) roots
     → words ≡ all.words.items ++ findings_by states all.claims.items all.tables.items
     → first ≡ all.lines.items ++ map (λ finding. line.Finding finding) words
     → findings ≡ unwalked + length words
@@ -185,11 +185,11 @@ all_dumped known may_fail segments roots vmemmap records skips before after star
     let cs = from_none start.claims.items (flat_map (claims_of skips) fs) all.claims.items no_claims h.claims_are in
     let ts = from_none start.tables.items (flat_map tables_of fs) all.tables.items no_tables h.tables_are in
     let ls = from_none start.lines.items (flat_map (lines_of skips) fs) all.lines.items no_lines h.lines_are in
-    let by : findings_by states all.claims.items all.tables.items ≡ findings_by (list_all (says_states (is_some records)) roots) (flat_map (claims_of skips) fs) (flat_map tables_of fs) =
+    let by : findings_by states all.claims.items all.tables.items ≡ findings_by (list_all (gives_states (is_some records)) roots) (flat_map (claims_of skips) fs) (flat_map tables_of fs) =
     ap (λ b. findings_by b all.claims.items all.tables.items) s
-    ∙ (ap (λ cl. findings_by (list_all (says_states (is_some records)) roots) cl all.tables.items) cs
+    ∙ (ap (λ cl. findings_by (list_all (gives_states (is_some records)) roots) cl all.tables.items) cs
     ∙ ap
-    (findings_by (list_all (says_states (is_some records)) roots)
+    (findings_by (list_all (gives_states (is_some records)) roots)
     (flat_map (claims_of skips) fs)) ts) in
     let named : words ≡ findings_of (is_some records) skips roots fs =
     w

@@ -9,7 +9,7 @@ use Rattle.walked_tables.specs.declared.reached.Reached.{Reached}
 use Rattle.walked_tables.specs.declared.said.Said.{Said}
 use Rattle.image_trees.specs.Trees.{IsTreeOf}
 use Rattle.image_trees.specs.declared.records.Records.{Records}
-use Rattle.image_dump.specs.Stating.{hyp_root, told_root, AreRecords, AreTold}
+use Rattle.image_dump.specs.Stating.{hyp_root, reported_root, AreRecords, AreReported}
 use Rattle.image_trees.specs.Unwalked.{IsFailed, IsUnwalked}
 use Rattle.image_trees.specs.declared.root.Root.{Root}
 use Rattle.image_trees.specs.declared.root.Unwalked.{Unwalked}
@@ -32,8 +32,8 @@ pub record IsRoot (root : Root) : Type 0 where
   pub frames : root.frame + root.count < 2 ^ 64
 
 -- words of a root's tree say states, or records do
-abbrev pub says_states : Bool → Root → Bool
-says_states has_records root = (told_root has_records root).profile.has_states
+abbrev pub gives_states : Bool → Root → Bool
+gives_states has_records root = (reported_root has_records root).profile.has_states
 
 -- lines, each with its end
 unfoldable pub text_of_lines : List DumpLine → List ℕ
@@ -52,14 +52,14 @@ abbrev pub IsWalkOf : Option (List ℕ)
 IsWalkOf known may_fail segments records root (Ok w) =
     (walked : List (Run Said))
     × IsTreeOf known segments root walked w.1
-    × AreTold known segments records root walked w.0
+    × AreReported known segments records root walked w.0
 IsWalkOf known may_fail segments records root (Err why) =
     IsUnwalked known may_fail segments root why
 
 -- the result of a walk from a root, which the report gives as having states if records say them
 pub record IsFoundIn (known : Option (List ℕ)) (may_fail : ℕ → ℕ → Type 0)
     (segments : List Segment) (records : Option Records) (root : Root) (f : Found) : Type 0 where
-  pub root_is : f.root ≡ told_root (is_some records) root
+  pub root_is : f.root ≡ reported_root (is_some records) root
   pub walk : IsWalkOf known may_fail segments records root f.walked
 
 -- 1 for a tree that isn't walked
@@ -110,7 +110,7 @@ pub record AreCollected (known : Option (List ℕ)) (may_fail : ℕ → ℕ → 
 abbrev pub findings_of : Bool → List Skip → List Root → List Found → List Finding
 findings_of has_records skips roots trees =
     flat_map (words_of skips) trees
-    ++ findings_by (list_all (says_states has_records) roots)
+    ++ findings_by (list_all (gives_states has_records) roots)
     (flat_map (claims_of skips) trees) (flat_map tables_of trees)
 
 -- the lines of the report

@@ -17,21 +17,21 @@ abbrev pub is_stated : Bool → Root → Bool
 is_stated has_records root = (has_records && not root.profile.has_states) && nat_lt root.tree 2
 
 -- a root as the report has it
-abbrev pub told_root : Bool → Root → Root
-told_root has_records root =
+abbrev pub reported_root : Bool → Root → Root
+reported_root has_records root =
     if is_stated has_records root
     then record root { profile = record root.profile { has_states = true } }
     else root
 
 -- the runs of the report, of those that were walked
-abbrev pub AreTold : Option (List ℕ)
+abbrev pub AreReported : Option (List ℕ)
     → List Segment
     → Option Records
     → Root
     → (walked runs : List (Run Said))
     → Type 0
-AreTold known segments None root walked runs = runs ≡ walked
-AreTold known segments (Some records) root walked runs =
+AreReported known segments None root walked runs = runs ≡ walked
+AreReported known segments (Some records) root walked runs =
     (is_stated true root ≡ true → IsStated known segments records root.tree walked runs)
     × (is_stated true root ≡ false → runs ≡ walked)
 

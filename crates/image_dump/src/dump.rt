@@ -6,11 +6,11 @@ ghost use Rattle.memory_image.specs.CoreFile.{IsPlaced};
 ghost use Rattle.std.specs.Option.{ForSome};
 ghost use Rattle.std.specs.Option.{is_some};
 ghost use Rattle.image_trees.specs.Records.{CanRead};
-ghost use Rattle.image_dump.specs.Dumped.{outcome_of, says_states, text_of_lines, AreCollected, IsAdded, IsDumped, IsFault, IsRoot};
+ghost use Rattle.image_dump.specs.Dumped.{outcome_of, gives_states, text_of_lines, AreCollected, IsAdded, IsDumped, IsFault, IsRoot};
 
 use crate::collect::{Collected, add_findings, add_line, add_tree, add_unsound};
 use crate::line::DumpLine;
-use crate::records::{records_of, told_root, told_runs};
+use crate::records::{records_of, reported_root, reported_runs};
 use crate::skip::Skip;
 use image_trees::{Records, Root, Tree, Unwalked, walk_tree};
 use memory_image::{ImageBytes, Refused, Segment};
@@ -58,11 +58,9 @@ impl From<AllocError> for NotDumped {
 
 /// Whether words or records say the states of all trees.
 fn all_say_states(has_records: bool, roots: &[Root]) -> bool
-    ensures { result ≡ list_all (says_states has_records) roots.now }
+    ensures { result ≡ list_all (gives_states has_records) roots.now }
 {
-    roots
-        .iter()
-        .all(|root| told_root(has_records, *root).profile.has_states)
+    roots.iter().all(|root| reported_root(has_records, *root).profile.has_states)
 }
 
 /// Adds the trees found from a root.
@@ -85,8 +83,8 @@ fn add_root<I: ImageBytes>(
 {
     match walk_tree(alloc, image, segments, &root) {
         Ok(Tree { runs, tables }) => {
-            let runs = told_runs(alloc, image, segments, records, &root, runs)?;
-            let root = told_root(records.is_some(), root);
+            let runs = reported_runs(alloc, image, segments, records, &root, runs)?;
+            let root = reported_root(records.is_some(), root);
             add_tree(alloc, root, &Tree { runs, tables }, skips, all)?;
             Ok(0)
         }

@@ -7,7 +7,7 @@ ghost use Rattle.walked_tables.specs.Values.{advance_said, CanGoOn};
 ghost use Rattle.image_trees.specs.Records.{CanRead};
 ghost use Rattle.image_trees.specs.Unwalked.{IsFailed};
 ghost use Rattle.image_dump.specs.Dumped.{IsFault, IsRoot};
-ghost use Rattle.image_dump.specs.Stating.{hyp_root as root_of_hyp, is_stated, told_root as root_as_told, AreRecords, AreTold};
+ghost use Rattle.image_dump.specs.Stating.{hyp_root as root_of_hyp, is_stated, reported_root as root_as_told, AreRecords, AreReported};
 
 use crate::dump::NotDumped;
 use image_trees::{Records, Root, Unwalked, walk_tree, with_states};
@@ -28,7 +28,7 @@ fn is_told(has_records: bool, root: &Root) -> bool
 }
 
 /// A root as the report has it: its tree has states if records say them.
-pub(crate) fn told_root(has_records: bool, root: Root) -> Root
+pub(crate) fn reported_root(has_records: bool, root: Root) -> Root
     ensures { result ≡ root_as_told has_records root }
 {
     if !is_told(has_records, &root) {
@@ -44,7 +44,7 @@ pub(crate) fn told_root(has_records: bool, root: Root) -> Root
 }
 
 /// A tree's runs, with the states that records say if its words say none.
-pub(crate) fn told_runs<I: ImageBytes>(
+pub(crate) fn reported_runs<I: ImageBytes>(
     alloc: Global,
     image: &I,
     segments: &[Segment],
@@ -56,7 +56,7 @@ pub(crate) fn told_runs<I: ImageBytes>(
     requires records { ForSome records.now CanRead }
     requires kept { IsKept advance_said CanGoOn runs.items }
     ensures told { IfOk result
-        (λ out. AreTold
+        (λ out. AreReported
         (I.bytes image.now) segments.now records.now root.now runs.items out.items) }
     ensures failed { IfErr result (IsFailed (I.may_fail image.now)) }
 {

@@ -5,7 +5,7 @@ ghost use Rattle.page_state.specs.declared.layout.Geometry.TheVariants.{Bits39};
 ghost use Rattle.page_state.specs.Counts.{frame_count};
 ghost use Rattle.table_tree.specs.Stocks.{frames_of};
 ghost use Rattle.table_tree.specs.View.{uses, tables_of};
-ghost use Rattle.walk_plan.specs.Changes.{CanBeSaidOn};
+ghost use Rattle.walk_plan.specs.Changes.{IsEncodableOn};
 ghost use Rattle.walk_plan.specs.Hands.{edit_on};
 ghost use Rattle.layer_tests.specs.InHand.{AreInHand};
 
@@ -385,7 +385,7 @@ fn in_hand<A: Allocator + Copy>(
     requires within { range.first.0 + range.count ≤ 2 ^ 27 }
     requires entry_in { IsRangeEntry range.count entry }
     ensures bits { bench.new.tree.geometry ≡ Bits39 }
-    ensures said { CanBeSaidOn range.count entry }
+    ensures said { IsEncodableOn range.count entry }
     ensures hand { IfOk result
         (λ s. AreInHand (edit_on range entry) bench.new.tree bench.new.pool (frames_of s.stock)) }
 {

@@ -5,7 +5,7 @@ use Rattle.descriptor.specs.declared.Level.TheVariants.{Zero, One, Two, Three}
 use Rattle.page_state.specs.declared.entry.Entry.{Entry}
 use Rattle.page_state.specs.declared.entry.Entry.TheVariants.{Unmapped}
 use Rattle.page_state.specs.declared.entry.Run.{Run}
-use Rattle.descriptor.specs.Word.{CanBeSaid}
+use Rattle.descriptor.specs.Word.{IsEncodable}
 use Rattle.page_state.specs.Entries.{advance, word_of_entry}
 use Rattle.page_state.specs.Map.{Map, update}
 use Rattle.page_state.specs.Runs.{map_of, IsCoarsest}
@@ -45,7 +45,8 @@ CoarsestExists = (rs : List Run) → (cs : List Run) × IsCoarsest cs × (map_of
 -- a word of a level, with that many levels below it, can encode an entry if and only if the
 -- relation of words and descriptors has such a word
 abbrev pub FitsWord : ℕ → Level → Type 0
-FitsWord depth level = (e : Entry) → (fits_word depth e ≡ true) ↔ CanBeSaid level (word_of_entry e)
+FitsWord depth level =
+    (e : Entry) → (fits_word depth e ≡ true) ↔ IsEncodable level (word_of_entry e)
 
 -- at each level
 abbrev pub FitsEachWord : Type 0

@@ -5,7 +5,7 @@ use Rattle.page_state.specs.Layouts.{Layout}
 use Rattle.call_table.specs.declared.reply.Call.{Call}
 use Rattle.reference_model.specs.model.History.{IsHistory, calls_by, calls_on}
 use Rattle.reference_model.specs.model.Parts.{guest_part, shared_part, vm_part}
-use Rattle.reference_model.specs.help.RoomLaws.{RoomsTold}
+use Rattle.reference_model.specs.help.RoomLaws.{RoomsLeft}
 use Rattle.reference_model.specs.model.State.{Reference, no_cpu, no_guest}
 use Rattle.reference_model.proofs.RoomLaws.{run_rooms}
 use Rattle.part_types.specs.declared.parts.VmPart.{VmPart}
@@ -85,7 +85,7 @@ module _ {A : Type 0} where
     abbrev h : IsHistory l (kept_of p) past.log
     h = past.history
 
-    rooms : RoomsTold l past.log end.rooms
+    rooms : RoomsLeft l past.log end.rooms
     rooms = run_rooms l past.log end h.run h.stored
 
     many : length p.guests.items ≡ 64

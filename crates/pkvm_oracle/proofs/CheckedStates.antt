@@ -14,7 +14,7 @@ use Rattle.c_tables.specs.declared.follow.PlainPage.{PlainPage}
 use Rattle.c_tables.specs.declared.follow.PlainRoot.{PlainRoot}
 use Rattle.c_tables.specs.Given.{tree_of, AreTrees}
 use Rattle.table_audit.specs.Found.{trees_in}
-use Rattle.pkvm_oracle.specs.Audited.{parent, trees_said}
+use Rattle.pkvm_oracle.specs.Audited.{parent, trees_from_c}
 
 pub parent_more : (n index : ℕ) → parent (n + 1) index ≡ parent n index / 512
 parent_more n index = ap (λ k. parent k index) (add-one n)
@@ -28,7 +28,7 @@ more_test p q h = grind (arith, nat_tests)
 pub same_trees : (g : Geometry) (pages : List PlainPage) (roots : List PlainRoot) (trees : List TreeOfLists)
     → length trees ≡ 66
     → AreTrees g pages roots (λ k. get_or (map tree_in_lists trees) k no_tree)
-    → trees_in trees ≡ trees_said g pages roots
+    → trees_in trees ≡ trees_from_c g pages roots
 same_trees g pages roots trees n x = fun_ext (λ k. by_lt k 66
     (λ l. x.trees_are k l ∙ sym (if-true (nat_lt k 66) (tree_of g pages roots k) no_tree (less_test k 66 l)))
     (λ l. past_end tree_in_lists no_tree trees k (omega (arith, n, l))

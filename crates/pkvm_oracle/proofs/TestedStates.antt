@@ -12,8 +12,8 @@ use Rattle.ghost_legal.specs.Told.{IsIllegalBy, IsLegalBy}
 use Rattle.c_states.specs.declared.layout.PlainLayout.{PlainLayout}
 use Rattle.c_states.specs.declared.layout.PlainRegion.{PlainRegion}
 use Rattle.c_states.specs.Faults.{AreTaken}
-use Rattle.c_states.specs.Layouts.{layout_said, IsTakenLayout}
-use Rattle.c_states.specs.States.{Lists, contents_said, state_said}
+use Rattle.c_states.specs.Layouts.{layout_from_c, IsTakenLayout}
+use Rattle.c_states.specs.States.{Lists, contents_from_c, state_from_c}
 use Rattle.pkvm_oracle.specs.declared.legal.Untested.{Untested}
 use Rattle.pkvm_oracle.specs.declared.legal.Untested.TheVariants.{Flags, State, NoMemory}
 use Rattle.pkvm_oracle.specs.Legal.{asks_for_trees, IsTested, IsTestedFrom, IsTestedIn, IsUntested, IsUntestedFrom}
@@ -31,8 +31,8 @@ module _ (l : PlainLayout) (regions : List PlainRegion) (p : Lists) (flags : ℕ
       → asks_for_trees flags ≡ Some trees
       → IsTakenLayout l regions
       → AreTaken l.cpus p
-      → layout_of g.layout ≡ layout_said l regions
-      → ghost_state g ≡ state_said p
+      → layout_of g.layout ≡ layout_from_c l regions
+      → ghost_state g ≡ state_from_c p
       → IfOk r (IsTestedFrom trees g)
       → IfOk r (IsTested l regions p flags)
   tested_said trees g (Ok o) asked taken are e s h = record {
@@ -41,7 +41,7 @@ module _ (l : PlainLayout) (regions : List PlainRegion) (p : Lists) (flags : ℕ
     layout = taken;
     taken = are;
     tested =
-        subst (λ (x : Layout). IsTestedIn trees x (contents_said p) o) e
+        subst (λ (x : Layout). IsTestedIn trees x (contents_from_c p) o) e
         (subst (λ (c : Contents). IsTestedIn trees (layout_of g.layout) c o)
         (ap (λ (x : Reference). x.contents) s) h);
   }

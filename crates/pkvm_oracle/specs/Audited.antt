@@ -12,8 +12,8 @@ use Rattle.c_states.specs.declared.layout.PlainLayout.{PlainLayout}
 use Rattle.c_states.specs.declared.layout.PlainRegion.{PlainRegion}
 use Rattle.c_states.specs.Faults.{AreTaken}
 use Rattle.c_states.specs.Judged.{IsUnmade}
-use Rattle.c_states.specs.Layouts.{layout_said, IsTakenLayout}
-use Rattle.c_states.specs.States.{Lists, contents_said}
+use Rattle.c_states.specs.Layouts.{layout_from_c, IsTakenLayout}
+use Rattle.c_states.specs.States.{Lists, contents_from_c}
 use Rattle.c_tables.specs.declared.follow.PlainPage.{PlainPage}
 use Rattle.c_tables.specs.declared.follow.PlainRoot.{PlainRoot}
 use Rattle.c_tables.specs.declared.reached.Reached.{Reached}
@@ -31,16 +31,16 @@ use Rattle.pkvm_oracle.specs.declared.judged.PlainRefused.{PlainRefused}
 use Rattle.pkvm_oracle.specs.Refusals.{of_fault, refused_by_made, status_by_made}
 
 -- the geometry of a layout
-abbrev pub geometry_said : PlainLayout → Geometry
-geometry_said l = if l.address_bits == 48 then Bits48 else Bits39
+abbrev pub geometry_from_c : PlainLayout → Geometry
+geometry_from_c l = if l.address_bits == 48 then Bits48 else Bits39
 
 -- the trees by their numbers, of which there are 66
-abbrev pub trees_said : Geometry → List PlainPage → List PlainRoot → ℕ → Tree
-trees_said g pages roots n = if nat_lt n 66 then tree_of g pages roots n else no_tree
+abbrev pub trees_from_c : Geometry → List PlainPage → List PlainRoot → ℕ → Tree
+trees_from_c g pages roots n = if nat_lt n 66 then tree_of g pages roots n else no_tree
 
 -- the state found: the kept contents with these trees, and the owner rows that follow
-abbrev pub found_said : Layout → Contents → Geometry → List PlainPage → List PlainRoot → Contents
-found_said l kept g pages roots = found l kept (trees_said g pages roots)
+abbrev pub found_from_c : Layout → Contents → Geometry → List PlainPage → List PlainRoot → Contents
+found_from_c l kept g pages roots = found l kept (trees_from_c g pages roots)
 
 -- a state is checked: no table is reached twice, and no finding is given if and only if all agrees
 -- and the state is legal; else the first difference, or why it isn't legal
@@ -48,8 +48,8 @@ pub record IsCheckedIn (l : Layout) (kept : Contents) (g : Geometry) (pages : Li
     (roots : List PlainRoot) (told : Option Finding) : Type 0 where
   pub given : AreGiven pages roots
   pub once : AllPairs AreOtherFrames (all_tables g pages roots)
-  pub none : (told ≡ None) ↔ IsWell l kept (found_said l kept g pages roots)
-  pub first : IfSome told (IsFirstFinding l kept (found_said l kept g pages roots))
+  pub none : (told ≡ None) ↔ IsWell l kept (found_from_c l kept g pages roots)
+  pub first : IfSome told (IsFirstFinding l kept (found_from_c l kept g pages roots))
 
 -- a state on lists
 abbrev pub IsCheckedFrom : GhostLists → List PlainPage → List PlainRoot → Option Finding → Type 0
@@ -61,8 +61,8 @@ pub record IsChecked (l : PlainLayout) (regions : List PlainRegion) (kept : List
     (pages : List PlainPage) (roots : List PlainRoot) (told : Option Finding) : Type 0 where
   pub layout : IsTakenLayout l regions
   pub taken : AreTaken l.cpus kept
-  pub checked : IsCheckedIn (layout_said l regions) (contents_said kept)
-      (geometry_said l) pages roots told
+  pub checked : IsCheckedIn (layout_from_c l regions) (contents_from_c kept)
+      (geometry_from_c l) pages roots told
 
 -- why it isn't checked, if the kept state is valid
 abbrev pub IsUncheckedFrom : Geometry → List PlainPage → List PlainRoot → Unchecked → Type 0
@@ -75,7 +75,9 @@ abbrev pub IsUnchecked : PlainLayout → List PlainRegion → Lists → List Pla
     → Unchecked → Type 0
 IsUnchecked l regions kept pages roots (Kept why) = IsUnmade l regions kept why
 IsUnchecked l regions kept pages roots (Trees fault) =
-    IsTakenLayout l regions × AreTaken l.cpus kept × IsTreeFault (geometry_said l) pages roots fault
+    IsTakenLayout l regions
+    × AreTaken l.cpus kept
+    × IsTreeFault (geometry_from_c l) pages roots fault
 IsUnchecked l regions kept pages roots NoMemory = Unit {0}
 
 -- the index of the block that is this many heights up and has the block in it

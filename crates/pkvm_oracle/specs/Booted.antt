@@ -2,7 +2,7 @@
 use Rattle.std.specs.Prelude.{◌≡◌, ◌⊎◌, ℤ, List, false, pos, negsuc}
 use Rattle.c_calls.specs.declared.boot.Unbooted.{Unbooted}
 use Rattle.c_calls.specs.declared.boot.Unbooted.TheVariants as unbooted
-use Rattle.c_calls.specs.Boots.{IsBootTold, IsUnbooted}
+use Rattle.c_calls.specs.Boots.{IsBootState, IsUnbooted}
 use Rattle.c_states.specs.declared.judge.Unmade.TheVariants as unmade
 use Rattle.c_states.specs.declared.layout.PlainLayout.{PlainLayout}
 use Rattle.c_states.specs.declared.layout.PlainRegion.{PlainRegion}
@@ -29,10 +29,10 @@ status_by_boot unbooted.NoMemory = negsuc 11
 
 module _ (layout : PlainLayout) (regions : List PlainRegion) where
   -- the state at boot is written
-  pub record TellsBoot (old_room new_room : PlainRoom) (sizes : PlainSizes)
+  pub record ReportsBoot (old_room new_room : PlainRoom) (sizes : PlainSizes)
       (refused : PlainRefused) (status : ℤ) : Type 0 where
     pub lists : Lists
-    pub booted : IsBootTold layout regions lists
+    pub booted : IsBootState layout regions lists
     pub written : AreWritten lists old_room new_room
     pub sizes_are : sizes ≡ sizes_of lists
     pub status_is : status ≡ pos 0
@@ -42,7 +42,7 @@ module _ (layout : PlainLayout) (regions : List PlainRegion) where
   pub record HasNoRoomForBoot (old_room new_room : PlainRoom) (sizes : PlainSizes)
       (refused : PlainRefused) (status : ℤ) : Type 0 where
     pub lists : Lists
-    pub booted : IsBootTold layout regions lists
+    pub booted : IsBootState layout regions lists
     pub sizes_are : sizes ≡ sizes_of lists
     pub no_room : fits sizes (room_of old_room) ≡ false
     pub room : new_room ≡ old_room
@@ -62,6 +62,6 @@ module _ (layout : PlainLayout) (regions : List PlainRegion) where
   -- one of these
   abbrev pub IsBooted : PlainRoom → PlainRoom → PlainSizes → PlainRefused → ℤ → Type 0
   IsBooted old_room new_room sizes refused status =
-      TellsBoot old_room new_room sizes refused status
+      ReportsBoot old_room new_room sizes refused status
       ⊎ (HasNoRoomForBoot old_room new_room sizes refused status
       ⊎ HasNoBoot old_room new_room sizes refused status)

@@ -67,7 +67,7 @@ module _ (fault : ℕ) where
     pub text : new ≡ old
 
   -- one of these
-  abbrev pub IsFaultTold : List ℕ → List ℕ → ℕ → ℤ → Type 0
-  IsFaultTold old new count status =
+  abbrev pub IsFaultReported : List ℕ → List ℕ → ℕ → ℤ → Type 0
+  IsFaultReported old new count status =
       IsUnknown old new count status
       ⊎ (IsNamed old new count status ⊎ LacksRoom old new count status)

@@ -7,9 +7,9 @@ use Rattle.c_states.specs.declared.judge.Unjudged.{Unjudged}
 use Rattle.c_states.specs.declared.layout.PlainLayout.{PlainLayout}
 use Rattle.c_states.specs.declared.layout.PlainRegion.{PlainRegion}
 use Rattle.c_states.specs.declared.state.PlainState.{PlainState}
-use Rattle.c_states.specs.Judged.{IsForetold, IsUntold}
+use Rattle.c_states.specs.Judged.{IsReplyPredicted, IsUnpredicted}
 use Rattle.c_states.specs.States.{Lists}
-use Rattle.c_states.specs.Views.{lists_told}
+use Rattle.c_states.specs.Views.{lists_from_c}
 use Rattle.c_judge.specs.declared.found.Found.{Found}
 use Rattle.c_judge.specs.declared.found.Unfound.{Unfound}
 use Rattle.c_judge.specs.Found.{IsFound, IsUnfound}
@@ -71,24 +71,25 @@ module _ (layout : PlainLayout) (regions : List PlainRegion) (before : Lists) (c
 abbrev pub IsCallJudged : PlainLayout → PlainState → PlainCall → PlainState → List ℕ → List ℕ → ℕ
     → PlainRefused → ℤ → Type 0
 IsCallJudged layout before call after =
-    IsAnswered layout layout.regions.now (lists_told before) call (lists_told after)
+    IsAnswered layout layout.regions.now (lists_from_c before) call (lists_from_c after)
 
 module _ (layout : PlainLayout) (regions : List PlainRegion) (before : Lists) (cpu : ℕ)
     (step : PlainStep) where
   -- the reply is written
-  pub record IsTold (new : PlainReply) (refused : PlainRefused) (status : ℤ) : Type 0 where
-    pub foretold : IsForetold layout regions before cpu step new
+  pub record IsReplyReported (new : PlainReply) (refused : PlainRefused) (status : ℤ) : Type 0 where
+    pub predicted : IsReplyPredicted layout regions before cpu step new
     pub status_is : status ≡ pos 0
     pub refused_is : refused ≡ of_fault 0
 
   -- there is none, and nothing is written
   pub record HasNoReply (old new : PlainReply) (refused : PlainRefused) (status : ℤ) : Type 0 where
     pub why : Unjudged
-    pub untold : IsUntold layout regions before cpu step why
+    pub unpredicted : IsUnpredicted layout regions before cpu step why
     pub status_is : status ≡ status_by why
     pub refused_is : refused ≡ refused_by why
     pub reply : new ≡ old
 
   -- one of both
   abbrev pub IsPredicted : PlainReply → PlainReply → PlainRefused → ℤ → Type 0
-  IsPredicted old new refused status = IsTold new refused status ⊎ HasNoReply old new refused status
+  IsPredicted old new refused status =
+      IsReplyReported new refused status ⊎ HasNoReply old new refused status

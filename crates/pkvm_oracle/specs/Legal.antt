@@ -7,13 +7,13 @@ use Rattle.ghost_spec.specs.declared.lists.GhostLists.{GhostLists}
 use Rattle.ghost_spec.specs.States.{contents_in}
 use Rattle.ghost_legal.specs.declared.finding.Illegal.{Illegal}
 use Rattle.ghost_legal.specs.Texts.{text_of_illegal}
-use Rattle.ghost_legal.specs.Told.{IsLegalBy, IsToldOf}
+use Rattle.ghost_legal.specs.Told.{IsLegalBy, IsWhyIllegal}
 use Rattle.c_states.specs.declared.layout.PlainLayout.{PlainLayout}
 use Rattle.c_states.specs.declared.layout.PlainRegion.{PlainRegion}
 use Rattle.c_states.specs.Faults.{AreTaken}
 use Rattle.c_states.specs.Judged.{IsUnmade}
-use Rattle.c_states.specs.Layouts.{layout_said, IsTakenLayout}
-use Rattle.c_states.specs.States.{Lists, contents_said}
+use Rattle.c_states.specs.Layouts.{layout_from_c, IsTakenLayout}
+use Rattle.c_states.specs.States.{Lists, contents_from_c}
 use Rattle.pkvm_oracle.specs.declared.judged.PlainRefused.{PlainRefused}
 use Rattle.pkvm_oracle.specs.declared.legal.Untested.{Untested}
 use Rattle.pkvm_oracle.specs.declared.legal.Untested.TheVariants.{Flags, State, NoMemory}
@@ -29,7 +29,7 @@ asks_for_trees n = if n == 0 then Some true else if n == 1 then Some false else 
 pub record IsTestedIn (trees : Bool) (l : Layout) (s : Contents)
     (told : Option Illegal) : Type 0 where
   pub none : (told ≡ None) ↔ IsLegalBy trees l s
-  pub first : IfSome told (IsToldOf trees l s)
+  pub first : IfSome told (IsWhyIllegal trees l s)
 
 -- a state on lists
 abbrev pub IsTestedFrom : Bool → GhostLists → Option Illegal → Type 0
@@ -42,7 +42,7 @@ pub record IsTested (l : PlainLayout) (regions : List PlainRegion) (p : Lists) (
   pub asked : asks_for_trees flags ≡ Some trees
   pub layout : IsTakenLayout l regions
   pub taken : AreTaken l.cpus p
-  pub tested : IsTestedIn trees (layout_said l regions) (contents_said p) told
+  pub tested : IsTestedIn trees (layout_from_c l regions) (contents_from_c p) told
 
 -- why it isn't tested, if the flags and the state are valid
 abbrev pub IsUntestedFrom : Untested → Type 0

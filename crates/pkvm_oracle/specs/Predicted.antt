@@ -6,9 +6,9 @@ use Rattle.c_states.specs.declared.judge.Unjudged.{Unjudged}
 use Rattle.c_states.specs.declared.layout.PlainLayout.{PlainLayout}
 use Rattle.c_states.specs.declared.layout.PlainRegion.{PlainRegion}
 use Rattle.c_states.specs.declared.state.PlainState.{PlainState}
-use Rattle.c_states.specs.Judged.{IsForetoldState, IsUntold}
+use Rattle.c_states.specs.Judged.{IsStatePredicted, IsUnpredicted}
 use Rattle.c_states.specs.States.{Lists}
-use Rattle.c_states.specs.Views.{lists_told}
+use Rattle.c_states.specs.Views.{lists_from_c}
 use Rattle.pkvm_oracle.specs.declared.judged.PlainRefused.{PlainRefused}
 use Rattle.pkvm_oracle.specs.declared.predicted.PlainRoom.{PlainRoom}
 use Rattle.pkvm_oracle.specs.declared.predicted.PlainSizes.{PlainSizes}
@@ -96,10 +96,10 @@ pub record AreWritten (p : Lists) (old new : PlainRoom) : Type 0 where
 module _ (layout : PlainLayout) (regions : List PlainRegion) (before : Lists) (cpu : ℕ)
     (step : PlainStep) where
   -- the reply and the state after it are written
-  pub record TellsState (new : PlainReply) (old_room new_room : PlainRoom) (sizes : PlainSizes)
+  pub record ReportsState (new : PlainReply) (old_room new_room : PlainRoom) (sizes : PlainSizes)
       (refused : PlainRefused) (status : ℤ) : Type 0 where
     pub after : Lists
-    pub foretold : IsForetoldState layout regions before cpu step new after
+    pub predicted : IsStatePredicted layout regions before cpu step new after
     pub written : AreWritten after old_room new_room
     pub sizes_are : sizes ≡ sizes_of after
     pub status_is : status ≡ pos 0
@@ -110,7 +110,7 @@ module _ (layout : PlainLayout) (regions : List PlainRegion) (before : Lists) (c
       (refused : PlainRefused) (status : ℤ) : Type 0 where
     pub told : PlainReply
     pub after : Lists
-    pub foretold : IsForetoldState layout regions before cpu step told after
+    pub predicted : IsStatePredicted layout regions before cpu step told after
     pub sizes_are : sizes ≡ sizes_of after
     pub no_room : fits sizes (room_of old_room) ≡ false
     pub reply : new ≡ old
@@ -122,7 +122,7 @@ module _ (layout : PlainLayout) (regions : List PlainRegion) (before : Lists) (c
   pub record HasNoState (old new : PlainReply) (old_room new_room : PlainRoom) (sizes : PlainSizes)
       (refused : PlainRefused) (status : ℤ) : Type 0 where
     pub why : Unjudged
-    pub untold : IsUntold layout regions before cpu step why
+    pub unpredicted : IsUnpredicted layout regions before cpu step why
     pub sizes_are : sizes ≡ no_sizes
     pub reply : new ≡ old
     pub room : new_room ≡ old_room
@@ -133,7 +133,7 @@ module _ (layout : PlainLayout) (regions : List PlainRegion) (before : Lists) (c
   abbrev pub IsPredictedState : PlainReply → PlainReply → PlainRoom → PlainRoom → PlainSizes
       → PlainRefused → ℤ → Type 0
   IsPredictedState old new old_room new_room sizes refused status =
-      TellsState new old_room new_room sizes refused status
+      ReportsState new old_room new_room sizes refused status
       ⊎ (HasNoRoom old new old_room new_room sizes refused status
       ⊎ HasNoState old new old_room new_room sizes refused status)
 
@@ -141,4 +141,4 @@ module _ (layout : PlainLayout) (regions : List PlainRegion) (before : Lists) (c
 abbrev pub IsCallPredicted : PlainLayout → PlainState → ℕ → PlainStep → PlainReply → PlainReply
     → PlainRoom → PlainRoom → PlainSizes → PlainRefused → ℤ → Type 0
 IsCallPredicted layout before cpu step =
-    IsPredictedState layout layout.regions.now (lists_told before) cpu step
+    IsPredictedState layout layout.regions.now (lists_from_c before) cpu step

@@ -25,7 +25,7 @@ status_by_suggestion unsuggested.NoMemory = negsuc 11
 module _ (layout : PlainLayout) (regions : List PlainRegion) (lists : Lists)
     (random hostile : ℕ) where
   -- the CPU and the step of a call are written, and its reply stays
-  pub record TellsCall (old new : PlainCall) (refused : PlainRefused) (status : ℤ) : Type 0 where
+  pub record ReportsCall (old new : PlainCall) (refused : PlainRefused) (status : ℤ) : Type 0 where
     pub suggested : IsSuggestedCall layout regions lists random hostile
         (record { cpu = new.cpu; step = new.step })
     pub reply : new.reply ≡ old.reply
@@ -43,4 +43,4 @@ module _ (layout : PlainLayout) (regions : List PlainRegion) (lists : Lists)
   -- one of these
   abbrev pub IsCallSuggested : PlainCall → PlainCall → PlainRefused → ℤ → Type 0
   IsCallSuggested old new refused status =
-      TellsCall old new refused status ⊎ HasNoCall old new refused status
+      ReportsCall old new refused status ⊎ HasNoCall old new refused status

@@ -2,24 +2,24 @@
 use Rattle.std.specs.Prelude.{◌≡◌, ◌⊎◌, ◌^◌, ◌<◌, ℕ, ℤ, pos, negsuc, MatchOption}
 use Rattle.descriptor.specs.declared.Desc.{Desc}
 use Rattle.descriptor.specs.declared.Level.{Level}
-use Rattle.descriptor.specs.Word.{IsSaid, Says}
+use Rattle.descriptor.specs.Word.{DecodesTo, Says}
 use Rattle.c_words.specs.declared.word.PlainWord.{PlainWord}
-use Rattle.c_words.specs.Numbers.{level_said}
-use Rattle.c_words.specs.Said.{desc_said}
+use Rattle.c_words.specs.Numbers.{level_from_c}
+use Rattle.c_words.specs.Said.{desc_from_c}
 use Rattle.c_words.specs.Written.{desc_written}
 
 -- the word of a level is decoded: the one descriptor that it says is written, with 0 in each field
 -- that isn't named for it
 pub record Decodes (level : Level) (word : ℕ) (new : PlainWord) (status : ℤ) : Type 0 where
   pub desc : Desc
-  pub said : IsSaid level word desc
+  pub said : DecodesTo level word desc
   pub written : new ≡ desc_written desc
   pub done : status ≡ pos 0
 
 -- or there is no such level, and nothing is written
 abbrev pub IsDecoded : ℕ → ℕ → PlainWord → PlainWord → ℤ → Type 0
 IsDecoded level word old new status =
-    MatchOption (level_said level) ((status ≡ negsuc 0) × (new ≡ old))
+    MatchOption (level_from_c level) ((status ≡ negsuc 0) × (new ≡ old))
     (λ l. Decodes l word new status)
 
 -- a word of 64 bits is the one that says a descriptor
@@ -36,6 +36,6 @@ Encodes level desc old new status =
 -- or there is no such level, or a number is unknown
 abbrev pub IsEncoded : ℕ → PlainWord → ℕ → ℕ → ℤ → Type 0
 IsEncoded level says old new status =
-    MatchOption (level_said level) ((status ≡ negsuc 0) × (new ≡ old)) (λ l.
-    MatchOption (desc_said says) ((status ≡ negsuc 2) × (new ≡ old))
+    MatchOption (level_from_c level) ((status ≡ negsuc 0) × (new ≡ old)) (λ l.
+    MatchOption (desc_from_c says) ((status ≡ negsuc 2) × (new ≡ old))
     (λ desc. Encodes l desc old new status))

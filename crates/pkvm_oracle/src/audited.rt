@@ -1,6 +1,6 @@
 //! A kept state compared with the tables in memory.
 ghost use Rattle.std.specs.Prelude.{◌≡◌, IfErr, IfOk};
-ghost use Rattle.c_states.specs.Views.{lists_told};
+ghost use Rattle.c_states.specs.Views.{lists_from_c};
 ghost use Rattle.ghost_spec.specs.Filled.{HasTablesApart};
 ghost use Rattle.pkvm_oracle.specs.Audited.{fault_again, is_in_block as is_in_block_of, parent as parent_of, refused_by_audit, refused_by_trees, status_by_audit, status_by_trees, IsAudited, IsChecked, IsCheckedFrom, IsUnchecked, IsUncheckedFrom};
 
@@ -34,10 +34,10 @@ fn checked(
     roots: &[PlainRoot],
 ) -> Result<Option<Finding>, Unchecked>
     ensures checked { IfOk result
-        (IsChecked layout.now layout.now.regions.now (lists_told kept.now) pages.now roots.now) }
+        (IsChecked layout.now layout.now.regions.now (lists_from_c kept.now) pages.now roots.now) }
     ensures unchecked { IfErr result
         (IsUnchecked layout.now layout.now.regions.now
-        (lists_told kept.now) pages.now roots.now) }
+        (lists_from_c kept.now) pages.now roots.now) }
 {
     match made(alloc, layout, kept) {
         Ok(state) => {
@@ -193,7 +193,7 @@ pub extern "C" fn pkvm_audit(
     refused: &mut PlainRefused,
 ) -> i32
     ensures { IsAudited layout.now layout.now.regions.now
-        (lists_told kept.now) pages.now roots.now text.old text.new text_len.new refused.new
+        (lists_from_c kept.now) pages.now roots.now text.old text.new text_len.new refused.new
         result }
 {
     *text_len = 0;

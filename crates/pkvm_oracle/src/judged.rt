@@ -1,6 +1,6 @@
 //! A call judged, and its reply predicted.
 ghost use Rattle.std.specs.Prelude.{◌≡◌, Err, length};
-ghost use Rattle.c_states.specs.Views.{lists_told};
+ghost use Rattle.c_states.specs.Views.{lists_from_c};
 ghost use Rattle.pkvm_oracle.specs.Judged.{IsCallJudged, IsPredicted};
 ghost use Rattle.pkvm_oracle.specs.Refusals.{fault_of_freedoms, fault_of_layout, fault_of_lists, fault_of_rows, number_of_list, of_fault as of_fault_of, refused_by, refused_by_found, refused_by_made, refused_by_state, status_by, status_by_found, status_by_made};
 
@@ -11,7 +11,7 @@ use crate::statuses::{
 use c_judge::{FreedomsFault, Unfound, judged_by, write_found};
 use c_states::{
     PlainCall, PlainFault, PlainLayout, PlainLayoutFault, PlainList, PlainState, Unjudged, Unmade,
-    foretold,
+    predicted,
 };
 use c_words::{PlainReply, PlainStep};
 use ghost_spec::filled::GhostFault;
@@ -256,10 +256,10 @@ pub extern "C" fn pkvm_predict_reply(
     refused: &mut PlainRefused,
 ) -> i32
     ensures { IsPredicted layout.now layout.now.regions.now
-        (lists_told before.now) cpu step.now reply.old reply.new refused.new result }
+        (lists_from_c before.now) cpu step.now reply.old reply.new refused.new result }
 {
     *refused = NOTHING;
-    match foretold(alloc, layout, before, cpu, *step) {
+    match predicted(alloc, layout, before, cpu, *step) {
         Ok(told) => {
             *reply = told;
             0

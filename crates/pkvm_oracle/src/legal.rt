@@ -1,7 +1,7 @@
 //! Whether a state is legal.
 ghost use Rattle.std.specs.Prelude.{◌≡◌, ◌↔◌, Bool, None, IfErr, IfOk, IfSome};
 ghost use Rattle.page_state.specs.LayoutView.{layout_of};
-ghost use Rattle.c_states.specs.Views.{lists_told};
+ghost use Rattle.c_states.specs.Views.{lists_from_c};
 ghost use Rattle.ghost_legal.specs.Blocks.{TreesHaveFirstBlocks};
 ghost use Rattle.ghost_legal.specs.Told.{IsIllegalBy, IsLegalBy};
 ghost use Rattle.ghost_spec.specs.Filled.{HasTablesApart};
@@ -73,8 +73,8 @@ fn tested(
     state: &PlainState<'_>,
     flags: u64,
 ) -> Result<Option<Illegal>, Untested>
-    ensures tested { IfOk result (IsTested layout.now layout.now.regions.now (lists_told state.now) flags) }
-    ensures untested { IfErr result (IsUntested layout.now layout.now.regions.now (lists_told state.now) flags) }
+    ensures tested { IfOk result (IsTested layout.now layout.now.regions.now (lists_from_c state.now) flags) }
+    ensures untested { IfErr result (IsUntested layout.now layout.now.regions.now (lists_from_c state.now) flags) }
 {
     let Some(trees) = trees_asked(flags) else {
         return Err(Untested::Flags);
@@ -126,7 +126,7 @@ pub extern "C" fn pkvm_check(
     refused: &mut PlainRefused,
 ) -> i32
     ensures { IsStateTested layout.now layout.now.regions.now
-        (lists_told state.now) flags text.old text.new text_len.new refused.new result }
+        (lists_from_c state.now) flags text.old text.new text_len.new refused.new result }
 {
     *text_len = 0;
     *refused = NOTHING;

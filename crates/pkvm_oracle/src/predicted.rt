@@ -7,7 +7,7 @@ use crate::judged::{NOTHING, PlainRefused, unjudged_refused, unjudged_status};
 use crate::statuses::NO_ROOM;
 use c_states::{
     PlainCpu, PlainFrame, PlainGuest, PlainLayout, PlainLists, PlainLoad, PlainRow, PlainRun,
-    PlainSlot, PlainState, PlainTable, Predicted, foretold_state,
+    PlainSlot, PlainState, PlainTable, Predicted, predicted_state,
 };
 use c_words::{PlainReply, PlainStep};
 use std::alloc::Global;
@@ -145,7 +145,9 @@ pub extern "C" fn pkvm_predict(
 {
     *refused = NOTHING;
     *sizes = NO_SIZES;
-    let Predicted { reply: told, after } = match foretold_state(alloc, layout, before, cpu, *step) {
+    let Predicted { reply: told, after } = match predicted_state(
+        alloc, layout, before, cpu, *step,
+    ) {
         Ok(predicted) => predicted,
         Err(why) => {
             *refused = unjudged_refused(why);

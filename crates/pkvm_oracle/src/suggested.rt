@@ -1,6 +1,6 @@
 //! A next call on a state.
 ghost use Rattle.std.specs.Prelude.{◌≡◌};
-ghost use Rattle.c_states.specs.Views.{lists_told};
+ghost use Rattle.c_states.specs.Views.{lists_from_c};
 ghost use Rattle.pkvm_oracle.specs.Suggested.{refused_by_suggestion, status_by_suggestion, IsCallSuggested};
 
 use crate::judged::{NOTHING, PlainRefused, unmade_refused, unmade_status};
@@ -44,7 +44,7 @@ pub extern "C" fn pkvm_suggest(
     refused: &mut PlainRefused,
 ) -> i32
     ensures { IsCallSuggested layout.now layout.now.regions.now
-        (lists_told state.now) random hostile call.old call.new refused.new result }
+        (lists_from_c state.now) random hostile call.old call.new refused.new result }
 {
     *refused = NOTHING;
     match suggested_call(alloc, layout, state, random, hostile) {

@@ -1,6 +1,6 @@
 //! What faults are called.
 ghost use Rattle.std.specs.Prelude.{◌≡◌};
-ghost use Rattle.pkvm_oracle.specs.FaultTexts.{text_of_fault, text_of_list_fault, text_of_table_fault, IsFaultTold};
+ghost use Rattle.pkvm_oracle.specs.FaultTexts.{text_of_fault, text_of_list_fault, text_of_table_fault, IsFaultReported};
 
 use crate::statuses::{BAD_NUMBER, NO_ROOM};
 
@@ -61,7 +61,7 @@ fn fault_text(fault: u64) -> &'static str
 /// `text_len` bytes, which the words need; -3 no fault has the number.
 #[unsafe(no_mangle)]
 pub extern "C" fn pkvm_fault_text(fault: u64, text: &mut [u8], text_len: &mut usize) -> i32
-    ensures { IsFaultTold fault text.old text.new text_len.new result }
+    ensures { IsFaultReported fault text.old text.new text_len.new result }
 {
     *text_len = 0;
     let told = fault_text(fault).as_bytes();

@@ -2,7 +2,7 @@
 ghost use Rattle.pkvm_oracle.specs.Words.{IsDecoded, IsEncoded};
 
 use crate::statuses::{BAD_NUMBER, NO_LEVEL, NO_WORD};
-use c_words::{PlainWord, desc_of, desc_told, level_of};
+use c_words::{PlainWord, desc_of, desc_to_c, level_of};
 use descriptor::{decode, encode};
 
 /// Decodes a word of a table of a level into `out`. 0, or -1 if there is no such level, and then `out` stays.
@@ -13,7 +13,7 @@ pub extern "C" fn pkvm_decode(level: u64, word: u64, out: &mut PlainWord) -> i32
     let Some(level) = level_of(level) else {
         return NO_LEVEL;
     };
-    *out = desc_told(decode(level, word));
+    *out = desc_to_c(decode(level, word));
     0
 }
 

@@ -5,7 +5,7 @@ use Rattle.page_state.specs.Layouts.{Layout}
 use Rattle.reference_model.specs.model.State.{Reference}
 use Rattle.call_table.specs.declared.reply.Reply.{Reply}
 use Rattle.race_outcomes.specs.declared.node.Turn.{Turn}
-use Rattle.race_outcomes.specs.Orders.{Leads, Point, first_point, none_told, told_to}
+use Rattle.race_outcomes.specs.Orders.{Leads, Point, first_point, no_replies_yet, model_reply}
 
 -- how many steps aren't made
 abbrev pub nones : List (Option Reply) → ℕ
@@ -25,7 +25,7 @@ nones_set (Some x ∷ ts) zero r e = absurd (apart x e)
 nones_set (None ∷ ts) (suc i) r e = ap suc (nones_set ts i r e)
 nones_set (Some x ∷ ts) (suc i) r e = nones_set ts i r e
 
-nones_first : (turns : List Turn) → nones (none_told turns) ≡ length turns
+nones_first : (turns : List Turn) → nones (no_replies_yet turns) ≡ length turns
 nones_first [] = refl
 nones_first (t ∷ ts) = ap suc (nones_first ts)
 
@@ -37,14 +37,14 @@ module _ (l : Layout) (turns : List Turn) where
   leads_count : (order : List ℕ) (p q : Point) → Leads l turns p order q → nones p.told ≡ length order + nones q.told
   leads_count [] p q h = let e = ap (λ (x : Point). nones x.told) h in omega (arith, e)
   leads_count (place ∷ more) p q h =
-      let r = (told_to l p.state h.1.turn).0 in
+      let r = (model_reply l p.state h.1.turn).0 in
       let one = nones_set p.told place r h.1.next.unmade in
       let to = ap (λ (x : Point). nones x.told) h.1.made in
       let rest = leads_count more h.0 q h.2 in
       omega (arith, one, to, rest)
 
   pub order_count : (order : List ℕ) (p q : Point) (rs : List Reply)
-      → p.told ≡ none_told turns
+      → p.told ≡ no_replies_yet turns
       → q.told ≡ map Some rs
       → Leads l turns p order q
       → length order ≡ length turns

@@ -16,8 +16,8 @@ use Rattle.race_outcomes.specs.declared.finding.OutcomesFault.TheVariants.{TooMa
 use Rattle.race_outcomes.specs.declared.node.Node.{Node}
 use Rattle.race_outcomes.specs.declared.node.Turn.{Turn}
 use Rattle.race_outcomes.specs.Kept.{IsTurnFault}
-use Rattle.race_outcomes.specs.Layers.{AreOutcomes, IsLayer, IsOutcomeAdded, IsReached, IsToldBy, point_of, replies_of}
-use Rattle.race_outcomes.specs.Orders.{AllOutcomes, AreWanted, Gives, GivesWanted, IsLastGeneration, IsStepFault, Leads, NoneWanted, Point, first_point, told_along, told_to}
+use Rattle.race_outcomes.specs.Layers.{AreOutcomes, IsLayer, IsOutcomeAdded, IsReached, IsOutcomeOf, point_of, replies_of}
+use Rattle.race_outcomes.specs.Orders.{AllOutcomes, AreWanted, Gives, GivesWanted, IsLastGeneration, IsStepFault, Leads, NoneWanted, Point, first_point, replies_along, model_reply}
 use Rattle.race_outcomes.proofs.Counts.{order_count}
 use Rattle.race_outcomes.proofs.Members.{from_map, to_map}
 
@@ -49,7 +49,7 @@ pub outcomes_more : (m : Node) (before : List Node) (old new : List Outcome)
 outcomes_more m before old new h a = by_case a.grows
   where
     Comes : List Node → Outcome → Type 0
-    Comes ns o = (n : Node) × Contains ns n × IsToldBy n o
+    Comes ns o = (n : Node) × Contains ns n × IsOutcomeOf n o
 
     Goes : List Outcome → Node → Type 0
     Goes os n = (rs : List Reply) → n.told.items ≡ map Some rs → Contains (replies_of os) rs
@@ -68,7 +68,7 @@ outcomes_more m before old new h a = by_case a.grows
     at_end = a.has
 
     by_case : (new ≡ old)
-        ⊎ ((o : Outcome) × (new ≡ old ++ o ∷ []) × IsToldBy m o × ¬ Contains (replies_of old) o.replies.items)
+        ⊎ ((o : Outcome) × (new ≡ old ++ o ∷ []) × IsOutcomeOf m o × ¬ Contains (replies_of old) o.replies.items)
         → AreOutcomes (before ++ m ∷ []) new
     by_case (inl e) = record {
       sound =
@@ -113,7 +113,7 @@ module _ (l : Layout) (s : Reference) (turns : List Turn) where
       → AreOutcomes ns os
       → AllOutcomes l s turns wanted os
   all_outcomes wanted ns os h a = record {
-    sound = All-weaker (λ o. (n : Node) × Contains ns n × IsToldBy n o) _ gives os a.sound;
+    sound = All-weaker (λ o. (n : Node) × Contains ns n × IsOutcomeOf n o) _ gives os a.sound;
     complete = λ rs out are.
         let there =
         from_map point_of ns (record { state = out.1.end; told = map Some rs })
@@ -128,7 +128,7 @@ module _ (l : Layout) (s : Reference) (turns : List Turn) where
   }
     where
       gives : (o : Outcome)
-          → (n : Node) × Contains ns n × IsToldBy n o
+          → (n : Node) × Contains ns n × IsOutcomeOf n o
           → Gives l s turns o.order.items o.replies.items × AreWanted wanted (map Some o.replies.items)
       gives o g =
           let n = g.0 in
@@ -171,15 +171,15 @@ module _ (l : Layout) (s : Reference) (turns : List Turn) where
 
 -- steps in order, with one more
 pub along_more : (l : Layout) (s : Reference) (turns : List Turn) (t : Turn)
-    → told_along l s (turns ++ t ∷ [])
+    → replies_along l s (turns ++ t ∷ [])
     ≡ (
-      (told_along l s turns).0 ++ (told_to l (told_along l s turns).1 t).0
+      (replies_along l s turns).0 ++ (model_reply l (replies_along l s turns).1 t).0
           ∷ [],
-      (told_to l (told_along l s turns).1 t).1,
+      (model_reply l (replies_along l s turns).1 t).1,
     )
 along_more l s [] t = refl
 along_more l s (x ∷ more) t =
-    let r = told_to l s x in
+    let r = model_reply l s x in
     let rest = along_more l r.1 more t in
     ap (λ (p : List Reply × Reference). (r.0 ∷ p.0, p.1)) rest
 
@@ -187,28 +187,29 @@ pub along_next : (l k : Layout) (s now after : Reference) (turns : List Turn) (i
     (replies more : List Reply) (r : Reply)
     → i < length turns
     → k ≡ l
-    → (replies, now) ≡ told_along l s (take i turns)
+    → (replies, now) ≡ replies_along l s (take i turns)
     → more ≡ replies ++ r ∷ []
-    → (r, after) ≡ told_to k now (get_or turns i d)
-    → (more, after) ≡ told_along l s (take (i + 1) turns)
+    → (r, after) ≡ model_reply k now (get_or turns i d)
+    → (more, after) ≡ replies_along l s (take (i + 1) turns)
 along_next l k s now after turns i d replies more r less layout so grows step =
     let t = get_or turns i d in
-    let here : (r, after) ≡ told_to l now t = subst (λ (m : Layout). (r, after) ≡ told_to m now t) layout step in
-    let all : told_along l s (take (i + 1) turns) ≡ told_along l s (take i turns ++ t ∷ []) =
-    ap (told_along l s) (take_more turns i d less) in
-    ends replies now more r after (told_along l s (take i turns)) t so grows here
+    let here : (r, after) ≡ model_reply l now t =
+    subst (λ (m : Layout). (r, after) ≡ model_reply m now t) layout step in
+    let all : replies_along l s (take (i + 1) turns) ≡ replies_along l s (take i turns ++ t ∷ []) =
+    ap (replies_along l s) (take_more turns i d less) in
+    ends replies now more r after (replies_along l s (take i turns)) t so grows here
     ∙ sym (all ∙ along_more l s (take i turns) t)
   where
     ends : (replies : List Reply) (now : Reference) (more : List Reply) (r : Reply) (after : Reference)
         (a : List Reply × Reference) (t : Turn)
         → (replies, now) ≡ a
         → more ≡ replies ++ r ∷ []
-        → (r, after) ≡ told_to l now t
-        → ◌≡◌ {A = List Reply × Reference} (more, after) (a.0 ++ (told_to l a.1 t).0 ∷ [], (told_to l a.1 t).1)
+        → (r, after) ≡ model_reply l now t
+        → ◌≡◌ {A = List Reply × Reference} (more, after) (a.0 ++ (model_reply l a.1 t).0 ∷ [], (model_reply l a.1 t).1)
     ends replies now more r after a t so grows here =
         subst
         (λ (b : List Reply × Reference). ◌≡◌ {A = List Reply × Reference} (more, after)
-        (b.0 ++ (told_to l b.1 t).0 ∷ [], (told_to l b.1 t).1)) so
+        (b.0 ++ (model_reply l b.1 t).0 ∷ [], (model_reply l b.1 t).1)) so
         (subst
         (λ (f : Reply × Reference). ◌≡◌ {A = List Reply × Reference} (more, after) (replies ++ f.0 ∷ [], f.1)) here
         (ap (λ ms. (ms, after)) grows))
@@ -217,7 +218,7 @@ along_next l k s now after turns i d replies more r less layout so grows step =
 pub step_fault : (l : Layout) (s now : Reference) (turns : List Turn) (i : ℕ) (d : Turn) (replies : List Reply)
     (f : OutcomesFault)
     → i < length turns
-    → (replies, now) ≡ told_along l s (take i turns)
+    → (replies, now) ≡ replies_along l s (take i turns)
     → IsTurnFault now (get_or turns i d) f
     → IsStepFault l s turns f
 step_fault l s now turns i d replies (TooMany made) less so h = absurd h

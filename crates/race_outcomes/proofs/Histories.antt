@@ -13,7 +13,7 @@ use Rattle.reference_model.specs.model.State.{Reference}
 use Rattle.reference_model.specs.model.Step.{Steps}
 use Rattle.race_outcomes.specs.declared.node.Turn.{Turn}
 use Rattle.race_outcomes.specs.Laws.{OutcomesAreRuns}
-use Rattle.race_outcomes.specs.Orders.{IsNext, Leads, Point, first_point, told_to}
+use Rattle.race_outcomes.specs.Orders.{IsNext, Leads, Point, first_point, model_reply}
 use Rattle.race_outcomes.proofs.Orders.{leads_length, none_length}
 use Rattle.race_outcomes.proofs.Places.{apart, next_in}
 use Rattle.race_outcomes.proofs.Runs.{left_of, none_left, told_by}
@@ -114,7 +114,7 @@ module _ (l : Layout) (turns : List Turn) (rs : List Reply) where
       → slice_get q.told i ≡ Some (Some y)
   stays [] p q i y h e = ap (λ (x : Point). slice_get x.told i) h ∙ e
   stays (place ∷ more) p q i y h e =
-      let r = (told_to l p.state h.1.turn).0 in
+      let r = (model_reply l p.state h.1.turn).0 in
       stays more h.0 q i y h.2
       (ap (λ (x : Point). slice_get x.told i) h.1.made ∙ set_other p.told place i (Some r) y h.1.next.unmade e)
 
@@ -134,7 +134,7 @@ module _ (l : Layout) (turns : List Turn) (rs : List Reply) where
   }
   along (place ∷ more) p t h =
       let m = h.1 in
-      let r = told_to l p.state m.turn in
+      let r = model_reply l p.state m.turn in
       let next = along more h.0 t h.2 in
       let one = turn_exists l p.state m.turn in
       let to : h.0.state ≡ r.1 = ap (λ (x : Point). x.state) m.made in

@@ -20,7 +20,7 @@ use Rattle.race_outcomes.specs.declared.node.Node.{Node}
 use Rattle.race_outcomes.specs.declared.node.Turn.{Turn}
 use Rattle.race_outcomes.specs.Kept.{AreKnown, AreOfLayout, IsAtHand, IsKnown, IsMadeFrom, IsTurnFault, LeadsTo}
 use Rattle.race_outcomes.specs.Layers.{AreApart, HaveOneLayout, HavePlaces, IsIndexed, IsPlaceFault, places_in}
-use Rattle.race_outcomes.specs.Orders.{IsLastGeneration, IsNext, told_to}
+use Rattle.race_outcomes.specs.Orders.{IsLastGeneration, IsNext, model_reply}
 
 -- a step that was made leads where the step at its place does
 pub made_again : (l : Layout) (s : Reference) (turns : List Turn) (ms : List Made) (i : ℕ) (d : Made) (place : ℕ)
@@ -38,7 +38,7 @@ made_again l s turns ms i d place turn less made at e =
 -- where a step leads, by the state that is shared
 pub leads_shared : (k g after to : GhostLists) (turn : Turn) (reply : Reply)
     → g ≡ k
-    → ◌≡◌ {A = Reply × Reference} (reply, ghost_state after) (told_to (layout_of g.layout) (ghost_state g) turn)
+    → ◌≡◌ {A = Reply × Reference} (reply, ghost_state after) (model_reply (layout_of g.layout) (ghost_state g) turn)
     → layout_of after.layout ≡ layout_of g.layout
     → ghost_state to ≡ ghost_state after
     → layout_of to.layout ≡ layout_of after.layout

@@ -11,7 +11,7 @@ use Rattle.ghost_spec.specs.States.{ghost_state}
 use Rattle.race_outcomes.specs.declared.node.Node.{Node}
 use Rattle.race_outcomes.specs.declared.node.Turn.{Turn}
 use Rattle.race_outcomes.specs.Layers.{AreNext, HasStep, HaveOneLayout, IsAdded, IsLayer, IsReached, IsReady, IsSpread, IsStepAt, IsStepOf, point_of, points_of}
-use Rattle.race_outcomes.specs.Orders.{AreWanted, Leads, Makes, Point, first_point, none_told}
+use Rattle.race_outcomes.specs.Orders.{AreWanted, Leads, Makes, Point, first_point, no_replies_yet}
 use Rattle.race_outcomes.proofs.Members.{from_map}
 use Rattle.race_outcomes.proofs.Orders.{IsLast, leads_last, leads_length, leads_more, makes_once, makes_wanted, none_length}
 use Rattle.race_outcomes.proofs.Wanted.{none_wanted}
@@ -134,7 +134,7 @@ module _ (turns : List Turn) (wanted : List (Option (Vec ℕ Global))) where
     pub layer_first : (n : Node)
         → layout_of n.state.layout ≡ l
         → ghost_state n.state ≡ s
-        → n.told.items ≡ none_told turns
+        → n.told.items ≡ no_replies_yet turns
         → n.order.items ≡ []
         → IsLayer turns wanted l s 0 (n ∷ [])
     layer_first n layout state told order = record {

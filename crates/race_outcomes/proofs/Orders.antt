@@ -8,7 +8,7 @@ use Rattle.page_state.specs.Layouts.{Layout}
 use Rattle.reference_model.specs.model.State.{Reference}
 use Rattle.call_table.specs.declared.reply.Reply.{Reply}
 use Rattle.race_outcomes.specs.declared.node.Turn.{Turn}
-use Rattle.race_outcomes.specs.Orders.{AreWanted, IsNext, IsWanted, Leads, Makes, Point, none_told, point_after, told_to}
+use Rattle.race_outcomes.specs.Orders.{AreWanted, IsNext, IsWanted, Leads, Makes, Point, no_replies_yet, point_after, model_reply}
 use Rattle.race_outcomes.proofs.Wanted.{wanted_at, wanted_before}
 
 module _ (l : Layout) (turns : List Turn) where
@@ -84,24 +84,24 @@ module _ (l : Layout) (turns : List Turn) where
         makes = rest.makes;
       }
 
-pub none_length : (turns : List Turn) → length (none_told turns) ≡ length turns
+pub none_length : (turns : List Turn) → length (no_replies_yet turns) ≡ length turns
 none_length [] = refl
 none_length (t ∷ ts) = ap suc (none_length ts)
 
 -- the step at a place, as code makes it
 module _ (l : Layout) (turns : List Turn) (p : Point) (place : ℕ) (d : Turn) (reply : Reply) (after : Reference)
-    (told_is : (reply, after) ≡ told_to l p.state (get_or turns place d)) where
-  at_turn : (t : Turn) → slice_get turns place ≡ Some t → (reply, after) ≡ told_to l p.state t
+    (told_is : (reply, after) ≡ model_reply l p.state (get_or turns place d)) where
+  at_turn : (t : Turn) → slice_get turns place ≡ Some t → (reply, after) ≡ model_reply l p.state t
   at_turn t e =
-      subst (λ (x : Turn). (reply, after) ≡ told_to l p.state x) (get_or_from_slice_get turns place t d e) told_is
+      subst (λ (x : Turn). (reply, after) ≡ model_reply l p.state x) (get_or_from_slice_get turns place t d e) told_is
 
   pub step_makes : (told : List (Option Reply))
       → (turn : Turn) × IsNext turns p.told place turn
       → told ≡ slice_set p.told place (Some reply)
       → Makes l turns p place (record { state = after; told = told })
   step_makes told n e =
-      let f : (reply, after) ≡ told_to l p.state n.0 = at_turn n.0 n.1.at in
-      record { turn = n.0; next = n.1; made = same told reply after (told_to l p.state n.0) f e }
+      let f : (reply, after) ≡ model_reply l p.state n.0 = at_turn n.0 n.1.at in
+      record { turn = n.0; next = n.1; made = same told reply after (model_reply l p.state n.0) f e }
     where
       same : (told : List (Option Reply)) (r : Reply) (s : Reference) (f : Reply × Reference)
           → (r, s) ≡ f
@@ -119,8 +119,8 @@ module _ (l : Layout) (turns : List Turn) (p : Point) (place : ℕ) (d : Turn) (
       → AreWanted wanted q.told
       → IsWanted (get_or wanted place w) (Some reply)
   step_wanted wanted q w less count told_count m are =
-      let f : (reply, after) ≡ told_to l p.state m.turn = at_turn m.turn m.next.at in
-      let there : AreWanted wanted (slice_set p.told place (Some (told_to l p.state m.turn).0)) =
+      let f : (reply, after) ≡ model_reply l p.state m.turn = at_turn m.turn m.next.at in
+      let there : AreWanted wanted (slice_set p.told place (Some (model_reply l p.state m.turn).0)) =
       subst (λ (x : Point). AreWanted wanted x.told) m.made are in
       wanted_at wanted p.told place w reply less (omega (arith, count, told_count))
       (subst (λ (x : Reply × Reference). AreWanted wanted (slice_set p.told place (Some x.0))) (sym f) there)

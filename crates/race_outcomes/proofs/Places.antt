@@ -7,7 +7,7 @@ use Rattle.page_state.specs.Layouts.{Layout}
 use Rattle.call_table.specs.declared.reply.Reply.{Reply}
 use Rattle.race_outcomes.specs.declared.node.Turn.{Turn}
 use Rattle.race_outcomes.specs.Laws.{OrdersKeep, is_of, places_of}
-use Rattle.race_outcomes.specs.Orders.{IsNext, Leads, Point, none_told, first_point, told_to}
+use Rattle.race_outcomes.specs.Orders.{IsNext, Leads, Point, no_replies_yet, first_point, model_reply}
 
 -- the places of a CPU's steps that aren't made
 abbrev unmade_of : ℕ → ℕ → List Turn → List (Option Reply) → List ℕ
@@ -88,7 +88,7 @@ unmade_next cpu first (t ∷ ts) (None ∷ told) (suc place) turn r n =
     by_own (inr own) rest = rw own rest
 
 none_unmade : (cpu first : ℕ) (turns : List Turn)
-    → unmade_of cpu first turns (none_told turns) ≡ places_of cpu first turns
+    → unmade_of cpu first turns (no_replies_yet turns) ≡ places_of cpu first turns
 none_unmade cpu first [] = refl
 none_unmade cpu first (t ∷ ts) =
     ap (λ (xs : List ℕ). if t.cpu == cpu then first ∷ xs else xs) (none_unmade cpu (first + 1) ts)
@@ -108,7 +108,7 @@ module _ (l : Layout) (turns : List Turn) (cpu : ℕ) where
       let m = h.1 in
       let rest = kept more h.0 q h.2 e in
       let to = ap (λ (x : Point). unmade_of cpu 0 turns x.told) m.made in
-      let r = (told_to l p.state m.turn).0 in
+      let r = (model_reply l p.state m.turn).0 in
       let here = unmade_next cpu 0 turns p.told place m.turn r m.next in
       let z : 0 + place ≡ place = omega arith in
       ap

@@ -14,7 +14,7 @@ use Rattle.reference_model.specs.model.State.{Reference}
 use Rattle.reference_model.specs.model.Step.{Steps}
 use Rattle.race_outcomes.specs.declared.node.Turn.{Turn}
 use Rattle.race_outcomes.specs.Laws.{AreTheirs, IsPlain, RunsAreOutcomes, answers_of, is_want}
-use Rattle.race_outcomes.specs.Orders.{IsNext, Leads, Makes, Point, first_point, none_told, told_to}
+use Rattle.race_outcomes.specs.Orders.{IsNext, Leads, Makes, Point, first_point, no_replies_yet, model_reply}
 use Rattle.race_outcomes.proofs.Orders.{none_length}
 use Rattle.race_outcomes.proofs.Told.{call_told}
 
@@ -188,13 +188,13 @@ all_told (t ∷ ts) (Some x ∷ told) (r ∷ rs) n m h left = let rest =
     cc
 
 pub none_left : (cpu : ℕ) (turns : List Turn) (rs : List Reply)
-    → left_of cpu turns (none_told turns) rs ≡ answers_of cpu turns rs
+    → left_of cpu turns (no_replies_yet turns) rs ≡ answers_of cpu turns rs
 none_left cpu [] rs = refl
 none_left cpu (t ∷ ts) [] = refl
 none_left cpu (t ∷ ts) (r ∷ rs) =
     ap (λ (xs : List (Step × Reply)). if t.cpu == cpu then (t.step, r) ∷ xs else xs) (none_left cpu ts rs)
 
-none_told_yet : (turns : List Turn) (rs : List Reply) → AreTold (none_told turns) rs
+none_told_yet : (turns : List Turn) (rs : List Reply) → AreTold (no_replies_yet turns) rs
 none_told_yet [] rs = tt
 none_told_yet (t ∷ ts) [] = tt
 none_told_yet (t ∷ ts) (r ∷ rs) = none_told_yet ts rs
@@ -226,7 +226,7 @@ module _ (l : Layout) (turns : List Turn) (rs : List Reply) where
       by_first : IsFirst c.cpu turns p.told rs c.step c.reply (map told_by (calls_by c.cpu cs)) → IsNextCall c cs p u
       by_first f = record {
         place = f.place;
-        makes = record { turn = f.turn; next = f.next; made = made_at (told_to l p.state f.turn) so };
+        makes = record { turn = f.turn; next = f.next; made = made_at (model_reply l p.state f.turn) so };
         after = λ cpu. by_own cpu (both (c.cpu == cpu));
         still = f.still;
       }
@@ -240,9 +240,9 @@ module _ (l : Layout) (turns : List Turn) (rs : List Reply) where
               → ◌≡◌ {A = Turn} t (record { cpu = c.cpu; step = c.step; wants = t.wants })
           turn_is t a b i = record { cpu = a i; step = b i; wants = t.wants }
 
-          so : ◌≡◌ {A = Reply × Reference} (told_to l p.state f.turn) (c.reply, u)
+          so : ◌≡◌ {A = Reply × Reference} (model_reply l p.state f.turn) (c.reply, u)
           so =
-              ap (told_to l p.state) (turn_is f.turn f.cpu_is f.step_is)
+              ap (model_reply l p.state) (turn_is f.turn f.cpu_is f.step_is)
               ∙ call_told l p.state u c f.turn.wants h theirs.0 theirs.1
 
           made_at : (r : Reply × Reference)

@@ -11,25 +11,25 @@ use Rattle.call_table.specs.declared.reply.Reply.TheVariants.{Done, Refused}
 use Rattle.reference_model.proofs.Steps.{refusal_keeps, step_exists}
 use Rattle.reference_model.specs.model.Rules.{guest_slot, may_grow, names}
 use Rattle.reference_model.specs.model.State.{Contents, Reference, Rooms}
-use Rattle.reference_model.specs.model.Step.{Answered, IsStoredAnswer, Steps, answer, fails, foretell, is_full, made, rooms_by, rule_of, stored, used_by, with_used}
+use Rattle.reference_model.specs.model.Step.{Answered, IsStoredAnswer, Steps, answer, fails, predict_step, is_full, made, rooms_by, rule_of, stored, used_by, with_used}
 use Rattle.reference_model.specs.model.Used.{Used, UsedRooms, put_rooms, used_of}
 use Rattle.ghost_judge.specs.Judgements.{is_done}
-use Rattle.ghost_spec.proofs.Foretold.{foretold-answer}
+use Rattle.ghost_spec.proofs.Predictions.{predicted-answer}
 use Rattle.race_outcomes.specs.declared.node.Turn.{Turn}
 use Rattle.race_outcomes.specs.Laws.{IsPlain, is_want}
-use Rattle.race_outcomes.specs.Orders.{is_wanting, told_to, wanting}
+use Rattle.race_outcomes.specs.Orders.{is_wanting, model_reply, wanting}
 
 pub told_plain : (l : Layout) (s : Reference) (turn : Turn)
-    → is_wanting turn (foretell l s turn.cpu turn.step).0 ≡ false
-    → told_to l s turn ≡ foretell l s turn.cpu turn.step
-unfolding told_to
-told_plain l s turn e = let r = foretell l s turn.cpu turn.step in if-false (is_wanting turn r.0) (wanting s r) r e
+    → is_wanting turn (predict_step l s turn.cpu turn.step).0 ≡ false
+    → model_reply l s turn ≡ predict_step l s turn.cpu turn.step
+unfolding model_reply
+told_plain l s turn e = let r = predict_step l s turn.cpu turn.step in if-false (is_wanting turn r.0) (wanting s r) r e
 
 pub told_want : (l : Layout) (s : Reference) (turn : Turn)
-    → is_wanting turn (foretell l s turn.cpu turn.step).0 ≡ true
-    → told_to l s turn ≡ wanting s (foretell l s turn.cpu turn.step)
-unfolding told_to
-told_want l s turn e = let r = foretell l s turn.cpu turn.step in if-true (is_wanting turn r.0) (wanting s r) r e
+    → is_wanting turn (predict_step l s turn.cpu turn.step).0 ≡ true
+    → model_reply l s turn ≡ wanting s (predict_step l s turn.cpu turn.step)
+unfolding model_reply
+told_want l s turn e = let r = predict_step l s turn.cpu turn.step in if-true (is_wanting turn r.0) (wanting s r) r e
 
 abbrev pair : Reply → Reference → Reply × Reference
 pair r s = (r, s)
@@ -53,17 +53,17 @@ no_want b c = refl
 
 -- as code tells it
 module _ (l : Layout) (s : Reference) (turn : Turn) (reply : Reply) (after : Reference) where
-  pub told_made : pair reply after ≡ foretell l s turn.cpu turn.step
+  pub told_made : pair reply after ≡ predict_step l s turn.cpu turn.step
       → is_wanting turn reply ≡ false
-      → pair reply after ≡ told_to l s turn
+      → pair reply after ≡ model_reply l s turn
   told_made f e = f ∙ sym (told_plain l s turn (ap (λ (p : Reply × Reference). is_wanting turn p.0) (sym f) ∙ e))
 
   pub told_wanting : (left : Reference)
-      → pair reply after ≡ foretell l s turn.cpu turn.step
+      → pair reply after ≡ predict_step l s turn.cpu turn.step
       → is_wanting turn reply ≡ true
       → left.contents ≡ s.contents
       → left.rooms ≡ after.rooms
-      → pair (Refused NoMemory) left ≡ told_to l s turn
+      → pair (Refused NoMemory) left ≡ model_reply l s turn
   told_wanting left f e contents rooms =
       same_pair (Refused NoMemory) (Refused NoMemory) left (state_with s.contents after.rooms) refl
       (same_state left.contents s.contents left.rooms after.rooms contents rooms)
@@ -95,13 +95,13 @@ module _ (l : Layout) (s t : Reference) (c : Call) (wants : Bool) (h : Steps l s
   unfolding used_of
   slot_is = h.on.slot
 
-  foretold : is_full (names c.step) c.slot (rooms_by c s) ≡ false
+  predicted : is_full (names c.step) c.slot (rooms_by c s) ≡ false
       → (o : Option Refusal)
       → fails l c.cpu c.slot c.step x ≡ o
-      → ◌≡◌ {A = Reply × Reference} (foretell l s c.cpu c.step)
+      → ◌≡◌ {A = Reply × Reference} (predict_step l s c.cpu c.step)
       (pair (answer_by o).0 (with_used c s (answer_by o).1 (stored (rooms_by c s))))
-  foretold room o e = let a = answer_by o in
-      foretold-answer l s c.cpu c.step c.slot slot_is a.0 a.1 room (answer_is o e)
+  predicted room o e = let a = answer_by o in
+      predicted-answer l s c.cpu c.step c.slot slot_is a.0 a.1 room (answer_is o e)
 
   -- where memory isn't wanted
   answered : is_full (names c.step) c.slot (rooms_by c s) ≡ false
@@ -110,10 +110,10 @@ module _ (l : Layout) (s t : Reference) (c : Call) (wants : Bool) (h : Steps l s
       → h.left ≡ stored (rooms_by c s)
       → c.reply ≡ (answer_by o).0
       → h.after ≡ (answer_by o).1
-      → is_wanting turn (answer_by o).0 ≡ false → told_to l s turn ≡ pair c.reply t
+      → is_wanting turn (answer_by o).0 ≡ false → model_reply l s turn ≡ pair c.reply t
   answered room o e rooms r n plain =
       let a = answer_by o in
-      let f = foretold room o e in
+      let f = predicted room o e in
       told_plain l s turn (ap (λ (p : Reply × Reference). is_wanting turn p.0) f ∙ plain)
       ∙ f
       ∙ sym
@@ -128,10 +128,10 @@ module _ (l : Layout) (s t : Reference) (c : Call) (wants : Bool) (h : Steps l s
       → c.reply ≡ Refused NoMemory
       → may_grow c.step ≡ true
       → wants ≡ true
-      → told_to l s turn ≡ pair c.reply t
+      → model_reply l s turn ≡ pair c.reply t
   wanted room e rooms r grows w =
-      let f = foretold room None e in
-      let so : is_wanting turn (foretell l s c.cpu c.step).0 ≡ true =
+      let f = predicted room None e in
+      let so : is_wanting turn (predict_step l s c.cpu c.step).0 ≡ true =
       ap (λ (p : Reply × Reference). is_wanting turn p.0) f ∙ rw (w, grows) refl in
       let keeps : t.contents ≡ s.contents = refusal_keeps l s t c NoMemory h r in
       let left : t.rooms ≡ put_rooms (names c.step) c.slot c.cpu s.rooms (stored (rooms_by c s)) =
@@ -144,7 +144,7 @@ module _ (l : Layout) (s t : Reference) (c : Call) (wants : Bool) (h : Steps l s
       (same_state t.contents s.contents t.rooms
       (put_rooms (names c.step) c.slot c.cpu s.rooms (stored (rooms_by c s))) keeps left))
 
-  pub call_told : wants ≡ is_want c.reply → IsPlain c.reply → told_to l s turn ≡ pair c.reply t
+  pub call_told : wants ≡ is_want c.reply → IsPlain c.reply → model_reply l s turn ≡ pair c.reply t
   call_told theirs plain = elim h.on.answers [
     | inl p ↦ absurd (let bad : ⊥ = subst IsPlain p.reply plain in bad)
     | inr p ↦ by_answer p p.answered
@@ -152,7 +152,7 @@ module _ (l : Layout) (s t : Reference) (c : Call) (wants : Bool) (h : Steps l s
     where
       by_answer : IsStoredAnswer l c x (rooms_by c s) h.after h.left
           → Answered l c.cpu c.slot c.step true x c.reply h.after
-          → told_to l s turn ≡ pair c.reply t
+          → model_reply l s turn ≡ pair c.reply t
       by_answer p (inl m) =
           let v = Done (rule_of l c.cpu c.slot c.step x).changes.value in
           let plain : wants ≡ false = theirs ∙ ap is_want m.reply_is in
@@ -168,14 +168,14 @@ pub record IsTold (l : Layout) (s : Reference) (turn : Turn) : Type 0 where
   pub call : Call
   pub cpu : call.cpu ≡ turn.cpu
   pub step : call.step ≡ turn.step
-  pub reply : call.reply ≡ (told_to l s turn).0
-  pub steps : Steps l s call (told_to l s turn).1
+  pub reply : call.reply ≡ (model_reply l s turn).0
+  pub steps : Steps l s call (model_reply l s turn).1
 
 module _ (l : Layout) (s : Reference) (turn : Turn) where
   abbrev r : Reply × Reference
-  r = foretell l s turn.cpu turn.step
+  r = predict_step l s turn.cpu turn.step
 
-  as_foretold : told_to l s turn ≡ r → IsTold l s turn
+  as_foretold : model_reply l s turn ≡ r → IsTold l s turn
   as_foretold e =
       let one = step_exists l s turn.cpu turn.step in
       record {

@@ -4,7 +4,7 @@ use Rattle.std.specs.Prelude.{Option, Some, None, Vec, slice_get, slice_set}
 use Rattle.std.specs.Global.{Global}
 use Rattle.call_table.specs.declared.reply.Reply.{Reply}
 use Rattle.race_outcomes.specs.declared.node.Turn.{Turn}
-use Rattle.race_outcomes.specs.Orders.{AreWanted, IsWanted, none_told}
+use Rattle.race_outcomes.specs.Orders.{AreWanted, IsWanted, no_replies_yet}
 
 abbrev Text : Type 0
 Text = Option (Vec ℕ Global)
@@ -13,7 +13,7 @@ pub none_wanted_at : (w : Text) → IsWanted w None
 none_wanted_at None = tt
 none_wanted_at (Some w) = tt
 
-pub none_wanted : (ws : List Text) (turns : List Turn) → AreWanted ws (none_told turns)
+pub none_wanted : (ws : List Text) (turns : List Turn) → AreWanted ws (no_replies_yet turns)
 none_wanted [] turns = tt
 none_wanted (w ∷ ws) [] = tt
 none_wanted (w ∷ ws) (t ∷ ts) = (none_wanted_at w, none_wanted ws ts)

@@ -12,7 +12,7 @@ use Rattle.race_outcomes.specs.declared.finding.OutcomesFault.TheVariants.{TooMa
 use Rattle.race_outcomes.specs.declared.kept.Made.{Made}
 use Rattle.race_outcomes.specs.declared.kept.States.{States}
 use Rattle.race_outcomes.specs.declared.node.Turn.{Turn}
-use Rattle.race_outcomes.specs.Orders.{IsLastGeneration, told_to}
+use Rattle.race_outcomes.specs.Orders.{IsLastGeneration, model_reply}
 
 -- why a step isn't made: a generation, or memory
 abbrev pub IsTurnFault : Reference → Turn → OutcomesFault → Type 0
@@ -27,7 +27,7 @@ AreOfLayout l gs = All (λ g. layout_of g.layout ≡ l) gs
 -- from a state the step leads to another of the layout, with this reply
 pub record LeadsTo (l : Layout) (s : Reference) (turn : Turn) (reply : Reply)
     (g : GhostLists) : Type 0 where
-  pub told : (reply, ghost_state g) ≡ told_to l s turn
+  pub told : (reply, ghost_state g) ≡ model_reply l s turn
   pub layout : layout_of g.layout ≡ l
 
 -- so does the step at the place of one that was made

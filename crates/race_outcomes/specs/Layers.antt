@@ -15,7 +15,7 @@ use Rattle.race_outcomes.specs.declared.finding.OutcomesFault.TheVariants.{TooMa
 use Rattle.race_outcomes.specs.declared.layer.Layer.{Layer}
 use Rattle.race_outcomes.specs.declared.node.Node.{Node}
 use Rattle.race_outcomes.specs.declared.node.Turn.{Turn}
-use Rattle.race_outcomes.specs.Orders.{Point, IsLastGeneration, IsNext, Makes, Leads, AreWanted, first_point, told_to}
+use Rattle.race_outcomes.specs.Orders.{Point, IsLastGeneration, IsNext, Makes, Leads, AreWanted, first_point, model_reply}
 
 -- the point that a node is at
 abbrev pub point_of : Node → Point
@@ -197,7 +197,7 @@ module _ (turns : List Turn) (wanted : List (Option (Vec ℕ Global))) where
           → Contains (points_of ns) p
 
 -- an outcome has the replies of a node, with its order
-pub record IsToldBy (n : Node) (o : Outcome) : Type 0 where
+pub record IsOutcomeOf (n : Node) (o : Outcome) : Type 0 where
   pub told : n.told.items ≡ map Some o.replies.items
   pub order : o.order.items ≡ n.order.items
 
@@ -209,7 +209,7 @@ pub record IsOutcomeAdded (n : Node) (old new : List Outcome) : Type 0 where
   pub grows : (new ≡ old)
       ⊎ ((o : Outcome)
       × (new ≡ old ++ o ∷ [])
-      × IsToldBy n o
+      × IsOutcomeOf n o
       × ¬ Contains (replies_of old) o.replies.items)
   pub has : (replies : List Reply)
       → n.told.items ≡ map Some replies
@@ -217,7 +217,7 @@ pub record IsOutcomeAdded (n : Node) (old new : List Outcome) : Type 0 where
 
 -- the outcomes of nodes, each once
 pub record AreOutcomes (ns : List Node) (os : List Outcome) : Type 0 where
-  pub sound : All (λ o. (n : Node) × Contains ns n × IsToldBy n o) os
+  pub sound : All (λ o. (n : Node) × Contains ns n × IsOutcomeOf n o) os
   pub complete : All
       (λ n. (replies : List Reply)
       → n.told.items ≡ map Some replies
@@ -229,5 +229,5 @@ abbrev pub IsFirstLayer : List Turn → Layout → Reference → List Node → T
 IsFirstLayer turns l s ns = (wanted : List (Option (Vec ℕ Global))) → IsLayer turns wanted l s 0 ns
 
 -- a step is made, and its reply comes after those before it
-abbrev pub TellsMore : Layout → Reference → Turn → List Reply → List Reply → Reference → Type 0
-TellsMore l s turn old new t = (r : Reply) × (new ≡ old ++ r ∷ []) × ((r, t) ≡ told_to l s turn)
+abbrev pub GivesMore : Layout → Reference → Turn → List Reply → List Reply → Reference → Type 0
+GivesMore l s turn old new t = (r : Reply) × (new ≡ old ++ r ∷ []) × ((r, t) ≡ model_reply l s turn)

@@ -9,7 +9,7 @@ use Rattle.call_table.specs.declared.reply.Reply.TheVariants.{Refused}
 use Rattle.call_table.specs.Texts.{text_of_reply}
 use Rattle.reference_model.specs.model.Rules.{may_grow}
 use Rattle.reference_model.specs.model.State.{Reference}
-use Rattle.reference_model.specs.model.Step.{foretell}
+use Rattle.reference_model.specs.model.Step.{predict_step}
 use Rattle.ghost_judge.specs.Judgements.{is_done}
 use Rattle.ghost_spec.specs.Kept.{HasNextGeneration}
 use Rattle.race_outcomes.specs.declared.finding.Outcome.{Outcome}
@@ -27,8 +27,8 @@ abbrev pub wanting : Reference → Reply × Reference → Reply × Reference
 wanting s told = (Refused WantsMemory, record { contents = s.contents; rooms = told.1.rooms })
 
 -- the model's reply to a step, and the state after it
-unfoldable pub told_to : Layout → Reference → Turn → Reply × Reference
-told_to l s turn = let told = foretell l s turn.cpu turn.step in
+unfoldable pub model_reply : Layout → Reference → Turn → Reply × Reference
+model_reply l s turn = let told = predict_step l s turn.cpu turn.step in
     if is_wanting turn told.0 then wanting s told else told
 
 -- how far an order has come: the model's state, and the reply of each step made so far, by its
@@ -38,11 +38,11 @@ pub record Point : Type 0 where
   pub told : List (Option Reply)
 
 -- no step is made yet
-abbrev pub none_told : List Turn → List (Option Reply)
-none_told turns = map (λ t. None) turns
+abbrev pub no_replies_yet : List Turn → List (Option Reply)
+no_replies_yet turns = map (λ t. None) turns
 
 abbrev pub first_point : Reference → List Turn → Point
-first_point s turns = record { state = s; told = none_told turns }
+first_point s turns = record { state = s; told = no_replies_yet turns }
 
 -- the step at a place can come next: it isn't made, and each step of its CPU that is before it in
 -- the list is
@@ -59,7 +59,7 @@ pub record IsNext (turns : List Turn) (told : List (Option Reply)) (place : ℕ)
 -- the point after the step at a place, if the model makes it
 abbrev pub point_after : Layout → Point → ℕ → Turn → Point
 point_after l p place turn =
-    let r = told_to l p.state turn in
+    let r = model_reply l p.state turn in
     record { state = r.1; told = slice_set p.told place (Some r.0) }
 
 -- the step at a place comes next, and the model makes it
@@ -125,11 +125,11 @@ IsExplained l s turns wanted None = NoneWanted l s turns wanted
 IsExplained l s turns wanted (Some order) = GivesWanted l s turns wanted order.items
 
 -- the replies to steps made in order, and the state after them
-abbrev pub told_along : Layout → Reference → List Turn → List Reply × Reference
-told_along l s [] = ([], s)
-told_along l s (t ∷ more) =
-    let r = told_to l s t in
-    let rest = told_along l r.1 more in
+abbrev pub replies_along : Layout → Reference → List Turn → List Reply × Reference
+replies_along l s [] = ([], s)
+replies_along l s (t ∷ more) =
+    let r = model_reply l s t in
+    let rest = replies_along l r.1 more in
     (r.0 ∷ rest.0, rest.1)
 
 -- a step releases a VM whose generation is the greatest u64
@@ -143,7 +143,7 @@ IsStepFault l s turns Generation =
     (n : ℕ)
     × (turn : Turn)
     × (slice_get turns n ≡ Some turn)
-    × IsLastGeneration (told_along l s (take n turns)).1 turn
+    × IsLastGeneration (replies_along l s (take n turns)).1 turn
 IsStepFault l s turns NoMemory = Unit {0}
 
 module _ (l : Layout) (s : Reference) (turns : List Turn) where

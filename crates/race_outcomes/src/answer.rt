@@ -1,10 +1,10 @@
 //! The model's reply to a step, and the state after it.
 ghost use Rattle.std.specs.Prelude.{◌≡◌, ◌<◌, IfErr, IfOk};
 ghost use Rattle.page_state.specs.LayoutView.{layout_of};
-ghost use Rattle.reference_model.specs.model.Step.{foretell};
+ghost use Rattle.reference_model.specs.model.Step.{predict_step};
 ghost use Rattle.ghost_spec.specs.States.{ghost_state};
 ghost use Rattle.race_outcomes.specs.Kept.{IsTurnFault};
-ghost use Rattle.race_outcomes.specs.Orders.{is_wanting, told_to as told_to_of};
+ghost use Rattle.race_outcomes.specs.Orders.{is_wanting, model_reply as model_reply_of};
 
 use crate::finding::OutcomesFault;
 use crate::node::Turn;
@@ -15,11 +15,11 @@ use ghost_spec::state::{Ghost, has_next_generation, predict};
 use std::alloc::{AllocError, Global};
 
 /// The model's reply to a step and the state after it, if there is memory.
-fn foretold(alloc: Global, state: &Ghost, turn: Turn) -> Result<(Reply, Ghost), OutcomesFault>
+fn predicted(alloc: Global, state: &Ghost, turn: Turn) -> Result<(Reply, Ghost), OutcomesFault>
     requires { turn.cpu < state.now.layout.config.cpus }
     ensures told { IfOk result
         (λ r. (r.0, ghost_state r.1)
-        ≡ foretell (layout_of state.now.layout) (ghost_state state.now) turn.cpu turn.step) }
+        ≡ predict_step (layout_of state.now.layout) (ghost_state state.now) turn.cpu turn.step) }
     ensures layout { IfOk result (λ r. layout_of r.1.layout ≡ layout_of state.now.layout) }
     ensures fault { IfErr result (IsTurnFault (ghost_state state.now) turn) }
 {
@@ -35,7 +35,9 @@ fn foretold(alloc: Global, state: &Ghost, turn: Turn) -> Result<(Reply, Ghost), 
 /// Whether a step finds no memory that can take some, and that the model makes, as its reply says.
 fn finds_none(alloc: Global, state: &Ghost, turn: Turn, reply: Reply) -> Result<bool, OutcomesFault>
     requires cpu { turn.cpu < state.now.layout.config.cpus }
-    requires reply { reply ≡ (foretell (layout_of state.now.layout) (ghost_state state.now) turn.cpu turn.step).0 }
+    requires reply { reply
+        ≡ (predict_step (layout_of state.now.layout)
+        (ghost_state state.now) turn.cpu turn.step).0 }
     ensures finds { IfOk result (λ b. b ≡ is_wanting turn reply) }
     ensures fault { IfErr result (IsTurnFault (ghost_state state.now) turn) }
 {
@@ -83,7 +85,7 @@ fn exchanged(state: Ghost, after: Ghost) -> Ghost
 }
 
 /// The reply to a step, and the state after it.
-pub(crate) fn told_to(
+pub(crate) fn model_reply(
     alloc: Global,
     state: &Ghost,
     turn: Turn,
@@ -91,11 +93,11 @@ pub(crate) fn told_to(
     requires { turn.cpu < state.now.layout.config.cpus }
     ensures told { IfOk result
         (λ r. (r.0, ghost_state r.1)
-        ≡ told_to_of (layout_of state.now.layout) (ghost_state state.now) turn) }
+        ≡ model_reply_of (layout_of state.now.layout) (ghost_state state.now) turn) }
     ensures layout { IfOk result (λ r. layout_of r.1.layout ≡ layout_of state.now.layout) }
     ensures fault { IfErr result (IsTurnFault (ghost_state state.now) turn) }
 {
-    let (reply, after) = foretold(alloc, state, turn)?;
+    let (reply, after) = predicted(alloc, state, turn)?;
     match finds_none(alloc, state, turn, reply) {
         Ok(false) => Ok((reply, after)),
         Ok(true) => match with_rooms(alloc, state, after) {

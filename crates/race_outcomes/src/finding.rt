@@ -5,10 +5,10 @@ ghost use Rattle.page_state.specs.LayoutView.{layout_of};
 ghost use Rattle.ghost_spec.specs.States.{ghost_state};
 ghost use Rattle.call_table.specs.declared.reply.Reply.{Reply as TheReply};
 ghost use Rattle.race_outcomes.specs.Kept.{IsTurnFault};
-ghost use Rattle.race_outcomes.specs.Layers.{AreOutcomes, IsFirstLayer, IsLayer, IsOutcomeAdded, IsToldBy, TellsMore, replies_of};
-ghost use Rattle.race_outcomes.specs.Orders.{AllOutcomes, IsExplained, IsOutcomesFault, IsStepFault, told_along};
+ghost use Rattle.race_outcomes.specs.Layers.{AreOutcomes, IsFirstLayer, IsLayer, IsOutcomeAdded, IsOutcomeOf, GivesMore, replies_of};
+ghost use Rattle.race_outcomes.specs.Orders.{AllOutcomes, IsExplained, IsOutcomesFault, IsStepFault, replies_along};
 
-use crate::answer::told_to;
+use crate::answer::model_reply;
 use crate::layer::next_layer;
 use crate::node::{Node, Turn, first_node};
 use call_table::Reply;
@@ -113,7 +113,7 @@ fn has_replies(found: &[Outcome], replies: &[Reply]) -> bool
 fn outcome_of(alloc: Global, node: &Node) -> Result<Option<Outcome>, AllocError>
     ensures { IfOk result
         (λ o. MatchOption o ((rs : List TheReply) → node.now.told.items ≢ map Some rs)
-        (IsToldBy node.now)) }
+        (IsOutcomeOf node.now)) }
 {
     let Some(replies) = whole(alloc, node.told.as_slice())? else {
         return Ok(None);
@@ -224,12 +224,12 @@ fn one_step(
 ) -> Result<Ghost, OutcomesFault>
     requires { turn.cpu < state.layout.config.cpus }
     ensures told { IfOk result
-        (λ g. TellsMore (layout_of state.layout)
+        (λ g. GivesMore (layout_of state.layout)
         (ghost_state state) turn replies.old.items replies.new.items (ghost_state g)) }
     ensures layout { IfOk result (λ g. layout_of g.layout ≡ layout_of state.layout) }
     ensures fault { IfErr result (IsTurnFault (ghost_state state) turn) }
 {
-    let told = told_to(alloc, &state, turn);
+    let told = model_reply(alloc, &state, turn);
     drop(state);
     let (reply, after) = told?;
     match replies.push(reply) {
@@ -250,7 +250,7 @@ pub fn first_steps(
     requires cpus { All (λ t. t.cpu < state.layout.config.cpus) turns.now }
     ensures told { IfOk result
         (λ r. (r.0.items, ghost_state r.1)
-        ≡ told_along (layout_of state.layout) (ghost_state state) turns.now) }
+        ≡ replies_along (layout_of state.layout) (ghost_state state) turns.now) }
     ensures layout { IfOk result (λ r. layout_of r.1.layout ≡ layout_of state.layout) }
     ensures fault { IfErr result (IsStepFault (layout_of state.layout) (ghost_state state) turns.now) }
 {

@@ -4,7 +4,7 @@ ghost use Rattle.page_state.specs.LayoutView.{layout_of};
 ghost use Rattle.ghost_spec.specs.States.{ghost_state};
 ghost use Rattle.race_outcomes.specs.Kept.{AreOfLayout, IsKnown, IsTurnFault, LeadsTo, StayKnown};
 
-use crate::answer::told_to;
+use crate::answer::model_reply;
 use crate::finding::OutcomesFault;
 use crate::node::Turn;
 use crate::same::is_same_state;
@@ -263,7 +263,7 @@ fn make(
     ensures layouts { OnOk result (AreOfLayout (layout_of known.old.state.layout) states.new.states.items) }
     ensures fault { IfErr result (IsTurnFault (ghost_state known.old.state) turn) }
 {
-    let (reply, after) = told_to(alloc, known.state.get(), turn)?;
+    let (reply, after) = model_reply(alloc, known.state.get(), turn)?;
     let Ok((state, at)) = states.shared(alloc, after) else {
         return Err(OutcomesFault::NoMemory);
     };

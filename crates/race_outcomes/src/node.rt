@@ -5,7 +5,7 @@ ghost use Rattle.ghost_spec.specs.States.{ghost_state};
 ghost use Rattle.call_table.specs.Texts.{text_of_reply};
 ghost use Rattle.race_outcomes.specs.Kept.{IsAtHand};
 ghost use Rattle.race_outcomes.specs.Layers.{HasStep, IsPlaceFault, IsReady, IsStepAt};
-ghost use Rattle.race_outcomes.specs.Orders.{IsNext, IsWanted, none_told};
+ghost use Rattle.race_outcomes.specs.Orders.{IsNext, IsWanted, no_replies_yet};
 
 use crate::finding::OutcomesFault;
 use crate::kept::{Known, Made, Shared, States, made_at};
@@ -86,7 +86,7 @@ fn reads(alloc: Global, reply: Reply, text: &[u8]) -> Result<bool, AllocError>
 pub(crate) fn first_node(alloc: Global, state: &Ghost, turns: &[Turn]) -> Result<Node, AllocError>
     ensures state { IfOk result (λ n. ghost_state n.state ≡ ghost_state state.now) }
     ensures layout { IfOk result (λ n. layout_of n.state.layout ≡ layout_of state.now.layout) }
-    ensures told { IfOk result (λ n. n.told.items ≡ none_told turns.now) }
+    ensures told { IfOk result (λ n. n.told.items ≡ no_replies_yet turns.now) }
     ensures order { IfOk result (λ n. n.order.items ≡ []) }
 {
     let told = none_of(alloc, turns)?;
@@ -102,7 +102,7 @@ pub(crate) fn first_node(alloc: Global, state: &Ghost, turns: &[Turn]) -> Result
 
 /// No reply for each step.
 fn none_of(alloc: Global, turns: &[Turn]) -> Result<Vec<Option<Reply>>, AllocError>
-    ensures { IfOk result (λ v. v.items ≡ none_told turns.now) }
+    ensures { IfOk result (λ v. v.items ≡ no_replies_yet turns.now) }
 {
     turns.iter().map(|_| None).collect(alloc)
 }

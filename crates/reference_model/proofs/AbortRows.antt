@@ -1,7 +1,7 @@
 -- The rows of AbortRows, computed.
 use Rattle.std.proofs.Common.{refl}
 use Rattle.reference_model.specs.rows.AbortRows.{HostAbortBlock, HostAbortPage, HostAbortKeeps, HostAbortDevice, HostAbortDeviceBlock, HostAbortRegions, HostAbortTable, HostAbortRefused, HostTranslateMade, HypTranslateMade, TranslateRefused, OwnerOfMade, OwnerOfRefused}
-use Rattle.reference_model.proofs.Foretold.{computing, refuses}
+use Rattle.reference_model.proofs.Predictions.{computing, refuses}
 
 pub host_abort_block : HostAbortBlock
 unfolding computing

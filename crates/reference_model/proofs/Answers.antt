@@ -11,13 +11,13 @@ use Rattle.call_table.specs.declared.step.Step.{Step}
 use Rattle.page_state.specs.Layouts.{Layout}
 use Rattle.reference_model.specs.model.Parts.{lacks_slot}
 use Rattle.reference_model.specs.model.Rules.{names}
-use Rattle.reference_model.specs.help.RowChanges.{with_told}
+use Rattle.reference_model.specs.help.RowChanges.{with_touched_rows}
 use Rattle.reference_model.specs.model.Rule.{Rule}
 use Rattle.reference_model.specs.model.Used.{Used, used_of}
 use Rattle.reference_model.specs.help.Answers.{CarriesOut, BarredAnswers, CarriedAnswers, AnswerSteps, FullSteps, UsedSteps}
 use Rattle.reference_model.specs.model.Decides.{decided}
 use Rattle.reference_model.specs.model.Step.{or_else, first_test, refusal, rule_of, fails, made, changed, Answered}
-use Rattle.reference_model.proofs.conditions.Keeps.{rows_told}
+use Rattle.reference_model.proofs.conditions.Keeps.{touched_rows}
 use Rattle.page_state.proofs.Common.{if-true, if-false}
 
 first-told : (o rest : Option Refusal) (why : Refusal) → o ≡ Some why → or_else o rest ≡ Some why
@@ -66,7 +66,7 @@ module _ (l : Layout) (cpu : ℕ) (slot : Option ℕ) (step : Step) (wants : Boo
   pub carried-by :
       (fails l cpu slot step x ≡ None
       → made l cpu slot step x
-      ≡ with_told l cpu slot (rule_of l cpu slot step x).changes
+      ≡ with_touched_rows l cpu slot (rule_of l cpu slot step x).changes
       (changed l.depth (rule_of l cpu slot step x).changes x))
       → CarriesOut l cpu slot step wants (rule_of l cpu slot step x).changes x reply y
       → Answered l cpu slot step wants x reply y
@@ -101,7 +101,7 @@ pub carried_answers : CarriedAnswers
 carried_answers l s cpu slot step wants h reply y usable legal known named k out =
     let x = used_of (names step) slot cpu s in
     let t = told-ok (rule_of l cpu slot step x) (lacks_slot (names step) slot) h k in
-    carried-by l cpu slot step wants reply x y t.0 (rows_told l s cpu slot step usable known legal named)
+    carried-by l cpu slot step wants reply x y t.0 (touched_rows l s cpu slot step usable known legal named)
     (subst (λ c. CarriesOut l cpu slot step wants c x reply y) (sym t.1) out)
 
 pub answer_steps : AnswerSteps

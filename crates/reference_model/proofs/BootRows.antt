@@ -1,7 +1,7 @@
 -- The rows of BootRows, computed.
 use Rattle.std.proofs.Common.{refl}
 use Rattle.reference_model.specs.rows.BootRows.{BootTables, BootMaps, BootBlock, BootOwners, ShareTables, UnshareTables, ShareEnough}
-use Rattle.reference_model.proofs.Foretold.{computing}
+use Rattle.reference_model.proofs.Predictions.{computing}
 
 pub boot_tables : BootTables
 unfolding computing

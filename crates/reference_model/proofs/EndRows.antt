@@ -1,7 +1,7 @@
 -- The rows of EndRows, computed.
 use Rattle.std.proofs.Common.{refl}
 use Rattle.reference_model.specs.rows.EndRows.{MarkDyingMade, MarkDyingRefused, ReclaimPageOwned, ReclaimPageShared, ReclaimPageRemoves, ReclaimPageRefused, ReclaimPoolMade, ReclaimPoolRefused, FinishGuestMade, FinishGuestRefused}
-use Rattle.reference_model.proofs.Foretold.{computing, refuses}
+use Rattle.reference_model.proofs.Predictions.{computing, refuses}
 
 pub mark_dying_made : MarkDyingMade
 unfolding computing

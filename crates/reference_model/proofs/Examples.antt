@@ -19,7 +19,7 @@ use Rattle.page_state.specs.Trees.{Block, root_tree}
 use Rattle.page_state.proofs.Blocks.{one_word_means}
 use Rattle.page_state.proofs.Cases.{by_test}
 use Rattle.reference_model.specs.rows.Examples.{layout, need_of, NeedRow, SplitRow, RemovalRow, FoldRow, UnalignedRow, CanBootRow, BootRow, WideBootRow, ShareRow, BesideRow, NearRow, AgainRow, CarveRow, DeviceRow, PastRow, NoFrameRow, OneFrameRow, FullLogRow, FullSharedRow, RoomRow, OwnerRow}
-use Rattle.reference_model.proofs.Foretold.{computing}
+use Rattle.reference_model.proofs.Predictions.{computing}
 
 -- where nothing is mapped, no block needs a table
 one-word : (m : Map) (b : Block) → ((p : ℕ) → m p ≡ Unmapped) → is_one_word m b ≡ true

@@ -1,7 +1,7 @@
 -- The rows of FoundRows, computed.
 use Rattle.std.proofs.Common.{refl}
 use Rattle.reference_model.specs.rows.FoundRows.{OwnersFound, FirstFound, UsesFound, GuestKept, HypKept}
-use Rattle.reference_model.proofs.Foretold.{computing}
+use Rattle.reference_model.proofs.Predictions.{computing}
 
 pub owners_found : OwnersFound
 unfolding computing

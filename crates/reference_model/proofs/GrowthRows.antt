@@ -1,7 +1,7 @@
 -- The rows of GrowthRows, computed.
 use Rattle.std.proofs.Common.{refl}
 use Rattle.reference_model.specs.rows.GrowthRows.{Grows, NeverGrows}
-use Rattle.reference_model.proofs.Foretold.{computing}
+use Rattle.reference_model.proofs.Predictions.{computing}
 
 pub grows : Grows
 unfolding computing

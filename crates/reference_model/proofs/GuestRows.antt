@@ -1,7 +1,7 @@
 -- The rows of GuestRows, computed.
 use Rattle.std.proofs.Common.{refl}
 use Rattle.reference_model.specs.rows.GuestRows.{ShareGuestMade, ShareGuestNear, ShareGuestRefused, UnshareGuestMade, UnshareGuestRefused, DonateGuestMade, DonateGuestNear}
-use Rattle.reference_model.proofs.Foretold.{computing, refuses}
+use Rattle.reference_model.proofs.Predictions.{computing, refuses}
 
 pub share_guest_made : ShareGuestMade
 unfolding computing

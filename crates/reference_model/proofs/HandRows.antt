@@ -1,7 +1,7 @@
 -- The rows of HandRows, computed.
 use Rattle.std.proofs.Common.{refl}
 use Rattle.reference_model.specs.rows.HandRows.{FundMade, FundRefused, UnfundMade, UnfundSplits, UnfundRefused, InstallMade, InstallPlain, InstallRefused, TopupMade, TopupDying, TopupEnough, TopupRefused}
-use Rattle.reference_model.proofs.Foretold.{computing, refuses}
+use Rattle.reference_model.proofs.Predictions.{computing, refuses}
 
 pub fund_made : FundMade
 unfolding computing

@@ -22,11 +22,11 @@ use Rattle.reference_model.specs.rows.Scene.{small, at}
 use Rattle.reference_model.specs.rows.SceneState.{scene, with_free}
 use Rattle.reference_model.specs.model.SharedRules.{abort_edit}
 use Rattle.reference_model.specs.model.State.{Reference}
-use Rattle.reference_model.specs.model.Step.{stored, is_full, refusal, fails, made, answer, predict, foretell}
+use Rattle.reference_model.specs.model.Step.{stored, is_full, refusal, fails, made, answer, predict, predict_step}
 use Rattle.reference_model.specs.model.Used.{Used, UsedRooms, used_of, rooms_of, put_back, put_rooms}
 use Rattle.reference_model.specs.rows.LargeRows.{behind, HostAbortLargest, HostAbortSmaller, FinishGuestShort, FinishGuestSplits}
 use Rattle.page_state.proofs.Blocks.{all_from-by, empty_means}
-use Rattle.reference_model.proofs.Foretold.{computing, refuses}
+use Rattle.reference_model.proofs.Predictions.{computing, refuses}
 use Rattle.page_state.proofs.Updates.{update_outside}
 
 large-empty : is_empty behind (2, 1) ≡ true
@@ -47,7 +47,7 @@ pub host_abort_smaller : HostAbortSmaller
 unfolding computing
 host_abort_smaller = refl
 
--- what is foretold of a guest's end, by the first test that fails, and that by the test of the guest's map and pool
+-- what is predicted of a guest's end, by the first test that fails, and that by the test of the guest's map and pool
 module _ (s : Reference) where
   abbrev slot : Option ℕ
   slot = guest_slot (s.contents.cpu 6) FinishGuest
@@ -61,8 +61,8 @@ module _ (s : Reference) where
   abbrev entry : ℕ → Entry
   entry g = x.guest.tree.map g
 
-  foretold_by : Option Refusal → Reply × Reference
-  foretold_by o =
+  predicted_by : Option Refusal → Reply × Reference
+  predicted_by o =
       let a : Reply × Used =
       elim o [
         | Some why ↦ (Refused why, x)
@@ -87,8 +87,8 @@ module _ (s : Reference) where
       { allowed = record (finish_guest (reads (small 1) 6 slot x)).allowed { passes = allowed } })
       (lacks_slot (names FinishGuest) slot) x
 
-  by_fail : foretell (small 1) s 6 FinishGuest ≡ foretold_by (fails (small 1) 6 slot FinishGuest x)
-  unfolding foretell predict answer foretold_by
+  by_fail : predict_step (small 1) s 6 FinishGuest ≡ predicted_by (fails (small 1) 6 slot FinishGuest x)
+  unfolding predict_step predict answer predicted_by
   by_fail = refl
 
   by_perm : fails (small 1) 6 slot FinishGuest x
@@ -96,16 +96,16 @@ module _ (s : Reference) where
   unfolding fails rule refusal_by
   by_perm = refl
 
-  foretold : ((g : ℕ) → entry g ≡ Unmapped)
+  predicted : ((g : ℕ) → entry g ≡ Unmapped)
       → x.guest.free ≡ []
       → (o : Option Refusal)
       → refusal_by true ≡ o
-      → foretell (small 1) s 6 FinishGuest ≡ foretold_by o
-  foretold none free o h =
+      → predict_step (small 1) s 6 FinishGuest ≡ predicted_by o
+  predicted none free o h =
       let empty : all_below (pages_below 1) (λ g. is_unmapped (entry g)) ≡ true =
       all_from-by 0 (pages_below 1) (λ g. is_unmapped (entry g)) (λ i low high. ap is_unmapped (none i)) in
       let passes = ap (λ b. b && length x.guest.free == 0) empty ∙ ap (λ (fs : List ℕ). length fs == 0) free in
-      by_fail ∙ ap foretold_by (by_perm ∙ ap refusal_by passes ∙ h)
+      by_fail ∙ ap predicted_by (by_perm ∙ ap refusal_by passes ∙ h)
 
 abbrev short : Reference
 short = with_free (0x1610 ∷ []) scene
@@ -122,15 +122,15 @@ short-fails : refusal_by short true ≡ Some NoPool
 unfolding computing refusal_by
 short-fails = refl
 
-short-foretold : foretell (small 1) short 6 FinishGuest ≡ foretold_by short (Some NoPool)
-short-foretold = foretold short short-empty short-pool (Some NoPool) short-fails
+short-predicted : predict_step (small 1) short 6 FinishGuest ≡ predicted_by short (Some NoPool)
+short-predicted = predicted short short-empty short-pool (Some NoPool) short-fails
 
-short-reply : (foretold_by short (Some NoPool)).0 ≡ Refused NoPool
-unfolding computing foretold_by
+short-reply : (predicted_by short (Some NoPool)).0 ≡ Refused NoPool
+unfolding computing predicted_by
 short-reply = refl
 
 pub finish_guest_short : FinishGuestShort
-finish_guest_short = refuses (ap (λ (r : Reply × Reference). r.0) short-foretold ∙ short-reply)
+finish_guest_short = refuses (ap (λ (r : Reply × Reference). r.0) short-predicted ∙ short-reply)
 
 splits-empty : (g : ℕ) → entry scene g ≡ Unmapped
 unfolding used_of
@@ -144,8 +144,8 @@ splits-fails : refusal_by scene true ≡ None
 unfolding computing refusal_by
 splits-fails = refl
 
-splits-foretold : foretell (small 1) scene 6 FinishGuest ≡ foretold_by scene None
-splits-foretold = foretold scene splits-empty splits-pool None splits-fails
+splits-predicted : predict_step (small 1) scene 6 FinishGuest ≡ predicted_by scene None
+splits-predicted = predicted scene splits-empty splits-pool None splits-fails
 
 abbrev host_after : Reply × Reference → List Entry
 host_after r = at r.1.contents.shared.host.map (0x1740 ∷ 0x1741 ∷ 0x1742 ∷ [])
@@ -153,13 +153,13 @@ host_after r = at r.1.contents.shared.host.map (0x1740 ∷ 0x1741 ∷ 0x1742 ∷
 abbrev free_after : Reply × Reference → List ℕ
 free_after r = r.1.contents.shared.free
 
-splits-host : host_after (foretold_by scene None) ≡ annotation 1 ∷ Unmapped ∷ annotation 1 ∷ []
-unfolding computing foretold_by
+splits-host : host_after (predicted_by scene None) ≡ annotation 1 ∷ Unmapped ∷ annotation 1 ∷ []
+unfolding computing predicted_by
 splits-host = refl
 
-splits-free : free_after (foretold_by scene None) ≡ 0x1620 ∷ []
-unfolding computing foretold_by
+splits-free : free_after (predicted_by scene None) ≡ 0x1620 ∷ []
+unfolding computing predicted_by
 splits-free = refl
 
 pub finish_guest_splits : FinishGuestSplits
-finish_guest_splits = (ap host_after splits-foretold ∙ splits-host, ap free_after splits-foretold ∙ splits-free)
+finish_guest_splits = (ap host_after splits-predicted ∙ splits-host, ap free_after splits-predicted ∙ splits-free)

@@ -8,7 +8,7 @@ pub mod EndRows
 pub mod Ends
 pub mod Equality
 pub mod Examples
-pub mod Foretold
+pub mod Predictions
 pub mod FoundRows
 pub mod Frames
 pub mod GrowthRows

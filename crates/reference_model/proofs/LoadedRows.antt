@@ -1,7 +1,7 @@
 -- The rows of LoadedRows, computed.
 use Rattle.std.proofs.Common.{refl}
 use Rattle.reference_model.specs.rows.LoadedRows.{DonateGuestRefused, GuestShareHostMade, GuestShareHostRefused, GuestUnshareHostMade, GuestUnshareHostRefused, GuestRelaxMade, RightsJoined, GuestRelaxRefused, GuestTranslateMade, GuestTranslateRefused}
-use Rattle.reference_model.proofs.Foretold.{computing, refuses}
+use Rattle.reference_model.proofs.Predictions.{computing, refuses}
 
 pub donate_guest_refused : DonateGuestRefused
 unfolding computing

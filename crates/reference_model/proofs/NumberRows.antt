@@ -1,7 +1,7 @@
 -- The rows of NumberRows, computed.
 use Rattle.std.proofs.Common.{refl, inl, inr}
 use Rattle.reference_model.specs.rows.NumberRows.{NumbersMade, NumbersOnly}
-use Rattle.reference_model.proofs.Foretold.{computing}
+use Rattle.reference_model.proofs.Predictions.{computing}
 
 pub numbers_made : NumbersMade
 unfolding computing

@@ -1,7 +1,7 @@
 -- The rows of OwnerRows, computed.
 use Rattle.std.proofs.Common.{refl}
 use Rattle.reference_model.specs.rows.OwnerRows.{ShareRows, DonateRows, FundRows, MapRows, LendRows, GuestOwns, PoolRows, EndedRows, RowAdvances}
-use Rattle.reference_model.proofs.Foretold.{computing}
+use Rattle.reference_model.proofs.Predictions.{computing}
 
 pub share_rows : ShareRows
 unfolding computing

@@ -1,7 +1,7 @@
 -- The rows of PartRows, computed.
 use Rattle.std.proofs.Common.{refl}
 use Rattle.reference_model.specs.rows.PartRows.{SharedUses, GuestUses, GuestAloneUses, VmsUses, NoneUsed, OwnLogFull, SharedLogFull, GuestLogFull, VmsLogFull}
-use Rattle.reference_model.proofs.Foretold.{computing, refuses}
+use Rattle.reference_model.proofs.Predictions.{computing, refuses}
 
 pub shared_uses : SharedUses
 unfolding computing

@@ -1,7 +1,7 @@
 -- The rows of RangeRows, computed.
 use Rattle.std.proofs.Common.{refl}
 use Rattle.reference_model.specs.rows.RangeRows.{BlockGiven, BlockSplit, BlockRefused, BlockReclaimed, RangeAcross, RangeRefused, RangeShared, RangeKept, RangeMoves}
-use Rattle.reference_model.proofs.Foretold.{computing, refuses}
+use Rattle.reference_model.proofs.Predictions.{computing, refuses}
 
 pub block_given : BlockGiven
 unfolding computing

@@ -30,7 +30,7 @@ use Rattle.reference_model.proofs.Answers.{told-ok, carried-by}
 use Rattle.reference_model.proofs.Held.{slot-low}
 use Rattle.reference_model.proofs.conditions.ChangesFit.{changes_fit, touched_whole}
 use Rattle.reference_model.proofs.conditions.Bounding.{run_bounded}
-use Rattle.reference_model.proofs.conditions.Keeps.{rows_told}
+use Rattle.reference_model.proofs.conditions.Keeps.{touched_rows}
 use Rattle.reference_model.proofs.conditions.PartsFit.{part_changes_fit}
 use Rattle.reference_model.proofs.conditions.RunsLegal.{ready-usable, run_legal}
 
@@ -128,7 +128,7 @@ module _ (l : Layout) (cpu : ℕ) (slot : Option ℕ) (step : Step) (x : Used) (
             λ h e. part_changes_fit l r.state cpu slot step h r.ready.accepted legal
             (run_bounded l r.log r.state r.ready r.run) known named_at e;
         touched = λ h e. touched_whole l s cpu slot step h r.ready.accepted legal known named_at e;
-        rows = rows_told l s cpu slot step (ready-usable l r.ready) known legal named_at;
+        rows = touched_rows l s cpu slot step (ready-usable l r.ready) known legal named_at;
       })
 
   relies : ∥ IsReached l (names step) slot cpu x ∥₁ → CanRely l cpu slot step x

@@ -1,7 +1,7 @@
 -- The rows of RunRows, computed.
 use Rattle.std.proofs.Common.{refl}
 use Rattle.reference_model.specs.rows.RunRows.{LifeBegins, LifeEnds, LifeTables, PlainLife}
-use Rattle.reference_model.proofs.Foretold.{computing}
+use Rattle.reference_model.proofs.Predictions.{computing}
 
 pub life_begins : LifeBegins
 unfolding computing

@@ -1,7 +1,7 @@
 -- The rows of ShortRows, computed.
 use Rattle.std.proofs.Common.{refl}
 use Rattle.reference_model.specs.rows.ShortRows.{TablesShort}
-use Rattle.reference_model.proofs.Foretold.{computing, refuses}
+use Rattle.reference_model.proofs.Predictions.{computing, refuses}
 
 pub tables_short : TablesShort
 unfolding computing

@@ -14,7 +14,7 @@ use Rattle.reference_model.specs.model.Parts.{uses_vms, uses_shared, is_slot}
 use Rattle.reference_model.specs.model.Rules.{names, guest_slot}
 use Rattle.reference_model.specs.model.Used.{Used, UsedRooms, used_of, put_back, guest_at, put_guest, room_at, put_room, rooms_of, put_rooms}
 use Rattle.reference_model.specs.model.Rule.{Rule}
-use Rattle.reference_model.specs.model.Step.{stored, is_full, is_short, first_test, or_else, refusal, fails, answer, Answered, FindsFull, IsStoredAnswer, StepsOn, used_by, rooms_by, with_used, Steps, predict, foretell}
+use Rattle.reference_model.specs.model.Step.{stored, is_full, is_short, first_test, or_else, refusal, fails, answer, Answered, FindsFull, IsStoredAnswer, StepsOn, used_by, rooms_by, with_used, Steps, predict, predict_step}
 use Rattle.reference_model.specs.model.Run.{Runs}
 use Rattle.reference_model.specs.claims.Laws.{Agree, AgreeBeside, StepChanges, StepReads, StepAgrees, StepExists, StepOnce, ReplyOnce, EndOnce, RefusalKeeps, LogFullKeeps}
 use Rattle.page_state.proofs.Common.{both, eq-self, eq-other, if-false, if-same, if-either, same2, same3, same4}
@@ -247,7 +247,7 @@ predict-is l cpu number slot step x r = elim (both (is_full (names step) slot r)
 ]
 
 pub step_exists : StepExists
-unfolding used_of rooms_of foretell call_of
+unfolding used_of rooms_of predict_step call_of
 step_exists l s cpu step =
     let slot = guest_slot (s.contents.cpu cpu) step in
     let x = used_of (names step) slot cpu s.contents in
@@ -260,11 +260,11 @@ step_exists l s cpu step =
     (call, refl, refl, refl, record { after = a.1; left = a.2; on = on; next = refl })
 
 -- a call that isn't refused for want of memory has the reply of the rules
-foretold-reply : (l : Layout) (c : Call) (x : Used) (r : UsedRooms) (y : Used) (q : UsedRooms)
+predicted-reply : (l : Layout) (c : Call) (x : Used) (r : UsedRooms) (y : Used) (q : UsedRooms)
     → StepsOn l c x r y q
     → c.reply ≢ Refused NoMemory
     → c.reply ≡ (predict l c.cpu c.slot c.step x r).0
-foretold-reply l c x r y q h n = elim (h.answers) [
+predicted-reply l c x r y q h n = elim (h.answers) [
   | inl p ↦ p.reply ∙ sym (ap (λ p. p.0) (predict-full l c.cpu c.slot c.step x r p.full))
   | inr p ↦ answer-told l c.cpu c.slot c.step true x c.reply y p.answered n
       ∙ sym (ap (λ p. p.0) (predict-stored l c.cpu c.slot c.step x r p.room))
@@ -289,7 +289,7 @@ unfolding used_of rooms_of call_of the_call reply_of
 the_call-is l s t c h n =
     let e : c.slot ≡ guest_slot (s.contents.cpu c.cpu) c.step = h.on.slot in
     let reply : c.reply ≡ reply_of l s c.cpu (guest_slot (s.contents.cpu c.cpu) c.step) c.step =
-    foretold-reply l c (used_by c s) (rooms_by c s) h.after h.left h.on n
+    predicted-reply l c (used_by c s) (rooms_by c s) h.after h.left h.on n
     ∙ ap (λ o. reply_of l s c.cpu o c.step) e in
     same3 (λ number reply slot. call_of c.cpu number c.step reply slot) h.on.number reply e
 

@@ -1,7 +1,7 @@
 -- The rows of VmRows, computed.
 use Rattle.std.proofs.Common.{refl}
 use Rattle.reference_model.specs.rows.VmRows.{VmReserveMade, VmReservePlain, VmReserveRefused, VmOpenMade, VmOpenRefused, VcpuLoadMade, VcpuLoadRefused, VcpuPutMade, VcpuPutRefused, TeardownMade, TeardownRefused, VmReleaseMade, VmReleaseRefused}
-use Rattle.reference_model.proofs.Foretold.{computing, refuses}
+use Rattle.reference_model.proofs.Predictions.{computing, refuses}
 
 pub vm_reserve_made : VmReserveMade
 unfolding computing

@@ -6,7 +6,7 @@ ghost use Rattle.reference_model.specs.help.Held.{HistorySteps, CallGrows, HeldS
 ghost use Rattle.reference_model.specs.help.Rely.{ReachedRelies, RelyingAnswers};
 ghost use Rattle.reference_model.specs.help.RoomLaws.{StoredFalls, RunRooms};
 ghost use Rattle.reference_model.specs.rows.Examples.{NeedRow, SplitRow, RemovalRow, FoldRow, UnalignedRow, CanBootRow, BootRow, WideBootRow, ShareRow, BesideRow, NearRow, AgainRow, CarveRow, DeviceRow, PastRow, NoFrameRow, OneFrameRow, FullLogRow, FullSharedRow, RoomRow, OwnerRow};
-ghost use Rattle.reference_model.specs.claims.RunLaws.{LegalRows, LegalSound, KnownLegalSound, BootLegal, BootRowsTold, LegalKeeps, RunLegal, RunSound, RunRows, AcceptedUsable, AcceptedDepth, AcceptedMade, RowsTold};
+ghost use Rattle.reference_model.specs.claims.RunLaws.{LegalRows, LegalSound, KnownLegalSound, BootLegal, EachBootRow, LegalKeeps, RunLegal, RunSound, RunRows, AcceptedUsable, AcceptedDepth, AcceptedMade, TouchedRows};
 ghost use Rattle.reference_model.specs.claims.RowLaws.{LegalRowsTrue, RunRowsTrue, RowOnce};
 ghost use Rattle.reference_model.specs.help.ConditionChanges.{ConditionOnce, ConditionsMove};
 ghost use Rattle.reference_model.specs.claims.OrderLaws.{PartsRun, PartsHistory};
@@ -127,7 +127,7 @@ pub fn legal_sound()
 /// The boot state is legal, and by its rows the hypervisor owns the carve-out and the host all other memory.
 pub fn boot_legal()
     ensures legal { BootLegal }
-    ensures rows { BootRowsTold }
+    ensures rows { EachBootRow }
 {}
 
 /// Each reference step keeps the invariant.
@@ -161,8 +161,8 @@ pub fn accepted_usable()
 {}
 
 /// The rows that a made step finds again follow from its changes.
-pub fn rows_told()
-    ensures { RowsTold }
+pub fn touched_rows()
+    ensures { TouchedRows }
 {}
 
 /// No step takes a frame from a Live guest or changes its page, and nobody else maps it, except the host while the

@@ -26,8 +26,8 @@ fn follow_one(
     if !has_next_generation(&state, cpu, step) {
         return Ok(None);
     }
-    let (foretold, after) = predict(global, &state, cpu, step)?;
-    if foretold == reply {
+    let (predicted, after) = predict(global, &state, cpu, step)?;
+    if predicted == reply {
         let wanting = 0;
         return Ok(Some(Reached {
             state: after,
@@ -35,7 +35,7 @@ fn follow_one(
         }));
     }
     drop(after);
-    if reply == Reply::Refused(Refusal::NoMemory) && matches!(foretold, Reply::Done(_)) {
+    if reply == Reply::Refused(Refusal::NoMemory) && matches!(predicted, Reply::Done(_)) {
         return Ok(Some(Reached { state, wanting: 1 }));
     }
     Ok(None)

@@ -76,7 +76,7 @@ pub fn of_looks(global: Global, world: &World<Global>) -> Option<[usize; 7]> {
     Some([kept?, walked?, both?, audited?, record?, logs?, merged?])
 }
 
-/// Foretells a step of CPU 0, and judges it by itself.
+/// Predicts a step of CPU 0, and judges it by itself.
 fn judged(global: Global, world: &World<Global>, step: Step) -> Result<bool, AllocError> {
     let state = world.to_ghost(global)?;
     if state.lists().layout.config.cpus == 0 {

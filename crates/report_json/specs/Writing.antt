@@ -8,7 +8,7 @@ use Rattle.report_json.specs.declared.forms.Form.{Form}
 use Rattle.report_json.specs.declared.writing.JsonLines.{JsonLines}
 
 -- the bytes grew by one line: a JSON text that reads as the object of a line
-pub record IsTold (forms : List Form) (line : List ℕ) (old new : Option (List ℕ)) : Type 0 where
+pub record AddsLine (forms : List Form) (line : List ℕ) (old new : Option (List ℕ)) : Type 0 where
   pub json : List ℕ
   pub reads : read json ≡ Some (object_of forms line)
   pub written : Appends old new (json ++ codes "\n")
@@ -21,10 +21,10 @@ pub record AreHeld (bytes held left : List ℕ) (count : ℕ) (old new : Option 
 
 -- bytes up to the end of a line, at this place, are taken: with the bytes held they are the line
 -- that is written, and nothing is held
-pub record AreTold (forms : List Form) (place : ℕ) (bytes held left : List ℕ) (count : ℕ)
+pub record AddsHeldLine (forms : List Form) (place : ℕ) (bytes held left : List ℕ) (count : ℕ)
     (old new : Option (List ℕ)) : Type 0 where
   pub through : count ≡ place + 1
-  pub told : IsTold forms (held ++ take place bytes) old new
+  pub told : AddsLine forms (held ++ take place bytes) old new
   pub nothing : left ≡ []
 
 -- what comes of bytes by the first end of a line in them (0x0a)
@@ -32,7 +32,7 @@ abbrev pub TakesTo : List Form → Option ℕ → List ℕ → List ℕ → List
     → Option (List ℕ) → Type 0
 TakesTo forms None bytes held left count old new = AreHeld bytes held left count old new
 TakesTo forms (Some place) bytes held left count old new =
-    AreTold forms place bytes held left count old new
+    AddsHeldLine forms place bytes held left count old new
 
 -- the writer took `count` of the bytes; `contents` gives the bytes of the writer that it writes to
 abbrev pub Takes : {W : Type 0}

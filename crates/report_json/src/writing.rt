@@ -1,6 +1,6 @@
 //! A writer that turns lines into JSON.
 ghost use Rattle.std.specs.Prelude.{◌≡◌, ◌≤◌, [], ◌++◌, IfOk, OnOk, length};
-ghost use Rattle.report_json.specs.Writing.{IsTold, Takes};
+ghost use Rattle.report_json.specs.Writing.{AddsLine, Takes};
 
 use crate::forms::Form;
 use crate::objects::json_of;
@@ -69,7 +69,7 @@ impl<W: Write> JsonLines<W> {
         ensures forms { self.new.forms.now ≡ self.old.forms.now }
         ensures held { OnOk result (self.new.held.items ≡ []) }
         ensures told { OnOk result
-            (IsTold self.old.forms.now self.old.held.items (W.contents self.old.writer)
+            (AddsLine self.old.forms.now self.old.held.items (W.contents self.old.writer)
             (W.contents self.new.writer)) }
     {
         let Ok(mut text) = json_of(self.global, self.forms, self.held.as_slice()) else {

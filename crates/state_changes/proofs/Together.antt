@@ -1,7 +1,7 @@
 -- Texts in parts.
 use Rattle.std.proofs.Common.{◌≡◌, ℕ, zero, suc, ◌+◌, List, [], ◌++◌, refl, sym, ap, subst, ◌∙◌, inl, inr, arith}
 use Rattle.std.proofs.lemmas.List.{append_assoc, append-nil}
-use Rattle.state_changes.specs.Changed.{TellsValue, change_line}
+use Rattle.state_changes.specs.Changed.{ReportsValue, change_line}
 use Rattle.state_changes.specs.Together.{Adds, Each, IsOnce, Then}
 
 pub adds_then : (P Q : List ℕ → Type 0) (a b c : List ℕ) → Adds P a b → Adds Q b c → Adds (Then P Q) a c
@@ -34,17 +34,17 @@ each_once P zero h s t p q = p ∙ sym q
 each_once P (suc n) h s t p q = then_once (Each n P) (P n) (each_once P n h) (h n) s t p q
 
 module _ {X : Type 0} (name : List ℕ) (text_of : X → List ℕ) (before after : X) where
-  pub value_once : IsOnce (TellsValue name text_of before after)
+  pub value_once : IsOnce (ReportsValue name text_of before after)
   value_once s t (inl (e, p)) (inl (f, q)) = p ∙ sym q
   value_once s t (inl (e, p)) (inr (f, q)) = absurd (f e)
   value_once s t (inr (e, p)) (inl (f, q)) = absurd (e f)
   value_once s t (inr (e, p)) (inr (f, q)) = p ∙ sym q
 
-  pub told_same : (old : List ℕ) → before ≡ after → Adds (TellsValue name text_of before after) old old
+  pub told_same : (old : List ℕ) → before ≡ after → Adds (ReportsValue name text_of before after) old old
   told_same old e = ([], inl (e, refl), sym (append-nil old))
 
   pub told_other : (old new : List ℕ)
       → (before ≡ after → ⊥)
       → new ≡ old ++ change_line name (text_of before) (text_of after)
-      → Adds (TellsValue name text_of before after) old new
+      → Adds (ReportsValue name text_of before after) old new
   told_other old new e is = (change_line name (text_of before) (text_of after), inr (e, refl), is)

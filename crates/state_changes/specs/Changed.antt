@@ -21,8 +21,8 @@ change_line name before after =
     codes "    " ++ name ++ codes ": " ++ before ++ codes " -> " ++ after ++ 10 ∷ []
 
 -- a value: no line if it is as before, otherwise one
-abbrev pub TellsValue : {X : Type 0} → List ℕ → (X → List ℕ) → X → X → List ℕ → Type 0
-TellsValue name text_of before after text =
+abbrev pub ReportsValue : {X : Type 0} → List ℕ → (X → List ℕ) → X → X → List ℕ → Type 0
+ReportsValue name text_of before after text =
     ((before ≡ after) × (text ≡ []))
     ⊎ ((before ≡ after → ⊥) × (text ≡ change_line name (text_of before) (text_of after)))
 
@@ -48,7 +48,7 @@ IsChange is before after None = before ≡ after
 IsChange is before after (Some c) = is before c.before × is after c.after × (before ≡ after → ⊥)
 
 -- a map: the coarsest runs of exactly the pages that changed
-pub record TellsMap {V X : Type 0} (advance : V → ℕ → V) (is : X → Option V → Type 0)
+pub record ReportsMap {V X : Type 0} (advance : V → ℕ → V) (is : X → Option V → Type 0)
     (text_of : Option V → List ℕ) (label : List ℕ) (before after : ℕ → X)
     (text : List ℕ) : Type 0 where
   pub runs : List (Run (Change V))
@@ -63,8 +63,8 @@ IsEntry entry o = entry_of o ≡ entry
 abbrev pub text_of_target : Option Target → List ℕ
 text_of_target o = text_of_entry (entry_of o)
 
-abbrev pub TellsEntries : List ℕ → (ℕ → Entry) → (ℕ → Entry) → List ℕ → Type 0
-TellsEntries = TellsMap advance_target IsEntry text_of_target
+abbrev pub ReportsEntries : List ℕ → (ℕ → Entry) → (ℕ → Entry) → List ℕ → Type 0
+ReportsEntries = ReportsMap advance_target IsEntry text_of_target
 
 -- owner rows of frames
 abbrev pub IsRow : Row → Option Row → Type 0
@@ -73,8 +73,8 @@ IsRow row o = o ≡ Some row
 abbrev pub text_of_some_row : Option Row → List ℕ
 text_of_some_row o = text_of_row (unwrap_or o plain_row)
 
-abbrev pub TellsRows : (ℕ → Row) → (ℕ → Row) → List ℕ → Type 0
-TellsRows = TellsMap advance_row IsRow text_of_some_row (codes "owner")
+abbrev pub ReportsRows : (ℕ → Row) → (ℕ → Row) → List ℕ → Type 0
+ReportsRows = ReportsMap advance_row IsRow text_of_some_row (codes "owner")
 
 -- the names of guests, VM slots and vCPUs
 abbrev pub guest_name : ℕ → List ℕ
@@ -87,49 +87,49 @@ abbrev pub vcpu_name : ℕ → ℕ → List ℕ
 vcpu_name v i = codes "vm " ++ decimal v ++ codes " vcpu " ++ decimal i
 
 -- a guest: its phase, generation, kind and number of free frames
-abbrev pub TellsGuest : Guest → Guest → ℕ → List ℕ → Type 0
-TellsGuest before after v =
-    TellsValue (guest_name v) text_of_guest_head (guest_head before) (guest_head after)
+abbrev pub ReportsGuest : Guest → Guest → ℕ → List ℕ → Type 0
+ReportsGuest before after v =
+    ReportsValue (guest_name v) text_of_guest_head (guest_head before) (guest_head after)
 
 -- a VM slot, and the CPU that has each of its vCPUs loaded
-abbrev pub TellsVcpu : Slot → Slot → ℕ → ℕ → List ℕ → Type 0
-TellsVcpu before after v i =
-    TellsValue (vcpu_name v i) text_of_holder (before.loaded i) (after.loaded i)
+abbrev pub ReportsVcpu : Slot → Slot → ℕ → ℕ → List ℕ → Type 0
+ReportsVcpu before after v i =
+    ReportsValue (vcpu_name v i) text_of_holder (before.loaded i) (after.loaded i)
 
-abbrev pub TellsSlot : Slot → Slot → ℕ → List ℕ → Type 0
-TellsSlot before after v =
-    Then (TellsValue (slot_name v) text_of_slot_head (slot_head before) (slot_head after))
-    (Each 8 (TellsVcpu before after v))
+abbrev pub ReportsSlot : Slot → Slot → ℕ → List ℕ → Type 0
+ReportsSlot before after v =
+    Then (ReportsValue (slot_name v) text_of_slot_head (slot_head before) (slot_head after))
+    (Each 8 (ReportsVcpu before after v))
 
 -- a CPU's own state
-abbrev pub TellsCpu : Cpu → Cpu → List ℕ → Type 0
-TellsCpu before after =
-    Then (TellsValue (codes "loaded") text_of_loaded before.loaded after.loaded)
-    (Then (TellsValue (codes "hand") text_of_hand before.hand after.hand)
-    (TellsValue (codes "ticket") text_of_ticket before.ticket after.ticket))
+abbrev pub ReportsCpu : Cpu → Cpu → List ℕ → Type 0
+ReportsCpu before after =
+    Then (ReportsValue (codes "loaded") text_of_loaded before.loaded after.loaded)
+    (Then (ReportsValue (codes "hand") text_of_hand before.hand after.hand)
+    (ReportsValue (codes "ticket") text_of_ticket before.ticket after.ticket))
 
 -- two states
 module _ (before after : Contents) where
   -- the maps of all trees, and the owner rows
-  abbrev pub TellsMaps : List ℕ → Type 0
-  TellsMaps =
-      Then (TellsEntries (codes "host") before.shared.host.map after.shared.host.map)
-      (Then (TellsEntries (codes "hyp") before.shared.hyp.map after.shared.hyp.map)
+  abbrev pub ReportsMaps : List ℕ → Type 0
+  ReportsMaps =
+      Then (ReportsEntries (codes "host") before.shared.host.map after.shared.host.map)
+      (Then (ReportsEntries (codes "hyp") before.shared.hyp.map after.shared.hyp.map)
       (Then
       (Each 64
-      (λ v. TellsEntries (guest_name v) (before.guest v).tree.map (after.guest v).tree.map))
-      (TellsRows before.shared.row after.shared.row)))
+      (λ v. ReportsEntries (guest_name v) (before.guest v).tree.map (after.guest v).tree.map))
+      (ReportsRows before.shared.row after.shared.row)))
 
   -- all else: the number of free frames, the guests, the VM slots, and the state of a CPU
-  abbrev pub TellsRest : ℕ → List ℕ → Type 0
-  TellsRest cpu =
+  abbrev pub ReportsRest : ℕ → List ℕ → Type 0
+  ReportsRest cpu =
       Then
-      (TellsValue (codes "free shared") decimal (length before.shared.free)
+      (ReportsValue (codes "free shared") decimal (length before.shared.free)
       (length after.shared.free))
-      (Then (Each 64 (λ v. TellsGuest (before.guest v) (after.guest v) v))
-      (Then (Each 64 (λ v. TellsSlot (before.vms.slot v) (after.vms.slot v) v))
-      (TellsCpu (before.cpu cpu) (after.cpu cpu))))
+      (Then (Each 64 (λ v. ReportsGuest (before.guest v) (after.guest v) v))
+      (Then (Each 64 (λ v. ReportsSlot (before.vms.slot v) (after.vms.slot v) v))
+      (ReportsCpu (before.cpu cpu) (after.cpu cpu))))
 
   -- all that changed
-  abbrev pub TellsAll : ℕ → List ℕ → Type 0
-  TellsAll cpu = Then TellsMaps (TellsRest cpu)
+  abbrev pub ReportsAll : ℕ → List ℕ → Type 0
+  ReportsAll cpu = Then ReportsMaps (ReportsRest cpu)

@@ -7,7 +7,7 @@ use Rattle.ghost_trees.specs.declared.tree.Tree.{Tree}
 use Rattle.page_state.specs.Runs.{map_of}
 use Rattle.reference_model.specs.model.State.{Guest, Slot, no_guest, no_slot}
 use Rattle.state_changes.specs.declared.maps.Label.{Label}
-use Rattle.state_changes.specs.Changed.{TellsEntries, TellsGuest, TellsSlot, guest_name}
+use Rattle.state_changes.specs.Changed.{ReportsEntries, ReportsGuest, ReportsSlot, guest_name}
 use Rattle.state_changes.specs.Labels.{text_of_label}
 use Rattle.state_changes.specs.Together.{Each}
 
@@ -20,18 +20,18 @@ abbrev pub slot_of : List GhostSlot → ℕ → Slot
 slot_of ss v = get_or (map slot_in ss) v (no_slot 1)
 
 -- the map of a tree
-abbrev pub TellsTree : Label → Tree → Tree → List ℕ → Type 0
-TellsTree label before after =
-    TellsEntries (text_of_label label) (map_of before.runs.items) (map_of after.runs.items)
+abbrev pub ReportsTree : Label → Tree → Tree → List ℕ → Type 0
+ReportsTree label before after =
+    ReportsEntries (text_of_label label) (map_of before.runs.items) (map_of after.runs.items)
 
 -- the maps of all guests, the guests, and the VM slots
-abbrev pub TellsGuestMaps : List GhostGuest → List GhostGuest → List ℕ → Type 0
-TellsGuestMaps before after =
+abbrev pub ReportsGuestMaps : List GhostGuest → List GhostGuest → List ℕ → Type 0
+ReportsGuestMaps before after =
     Each 64
-    (λ v. TellsEntries (guest_name v) (guest_of before v).tree.map (guest_of after v).tree.map)
+    (λ v. ReportsEntries (guest_name v) (guest_of before v).tree.map (guest_of after v).tree.map)
 
-abbrev pub TellsGuests : List GhostGuest → List GhostGuest → List ℕ → Type 0
-TellsGuests before after = Each 64 (λ v. TellsGuest (guest_of before v) (guest_of after v) v)
+abbrev pub ReportsGuests : List GhostGuest → List GhostGuest → List ℕ → Type 0
+ReportsGuests before after = Each 64 (λ v. ReportsGuest (guest_of before v) (guest_of after v) v)
 
-abbrev pub TellsSlots : List GhostSlot → List GhostSlot → List ℕ → Type 0
-TellsSlots before after = Each 64 (λ v. TellsSlot (slot_of before v) (slot_of after v) v)
+abbrev pub ReportsSlots : List GhostSlot → List GhostSlot → List ℕ → Type 0
+ReportsSlots before after = Each 64 (λ v. ReportsSlot (slot_of before v) (slot_of after v) v)

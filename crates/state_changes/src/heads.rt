@@ -1,13 +1,13 @@
 //! Guests and VM slots.
 ghost use Rattle.std.specs.Prelude.{◌≡◌, ◌++◌, OnOk, Some};
 ghost use Rattle.ghost_spec.specs.States.{guest_in, phase_in, slot_in, stand_in};
-ghost use Rattle.state_changes.specs.Changed.{change_line, guest_name, slot_name, vcpu_name, TellsGuest, TellsSlot, TellsValue, TellsVcpu};
+ghost use Rattle.state_changes.specs.Changed.{change_line, guest_name, slot_name, vcpu_name, ReportsGuest, ReportsSlot, ReportsValue, ReportsVcpu};
 ghost use Rattle.state_changes.specs.Heads.{guest_told, slot_told};
 ghost use Rattle.state_changes.specs.Texts.{guest_head, slot_head, text_of_guest_head, text_of_holder, text_of_phase, text_of_slot_head, text_of_stand};
 ghost use Rattle.state_changes.specs.Together.{Adds, Each};
 
 use crate::lines::add_change;
-use crate::words::told_cpu;
+use crate::words::cpu_text;
 use call_table::{VmKind, vm_kind_word};
 use ghost_spec::parts::{GhostGuest, GhostPhase, GhostSlot, GhostStand};
 use std::alloc::{AllocError, Global};
@@ -122,7 +122,7 @@ pub(crate) fn add_guest(
 ) -> Result<(), AllocError>
     ensures { OnOk result
         (Adds
-        (TellsGuest (guest_in before.now) (guest_in after.now) slot) text.old.items
+        (ReportsGuest (guest_in before.now) (guest_in after.now) slot) text.old.items
         text.new.items) }
 {
     add_guest_head(
@@ -143,7 +143,7 @@ fn add_guest_head(
 ) -> Result<(), AllocError>
     ensures { OnOk result
         (Adds
-        (TellsValue (guest_name slot) text_of_guest_head (guest_told before)
+        (ReportsValue (guest_name slot) text_of_guest_head (guest_told before)
         (guest_told after)) text.old.items text.new.items) }
 {
     if before == after {
@@ -166,7 +166,7 @@ pub(crate) fn add_slot(
 ) -> Result<(), AllocError>
     ensures { OnOk result
         (Adds
-        (TellsSlot (slot_in before.now) (slot_in after.now) slot) text.old.items
+        (ReportsSlot (slot_in before.now) (slot_in after.now) slot) text.old.items
         text.new.items) }
 {
     add_slot_head(
@@ -189,7 +189,7 @@ fn add_slot_head(
 ) -> Result<(), AllocError>
     ensures { OnOk result
         (Adds
-        (TellsValue (slot_name slot) text_of_slot_head (slot_told before)
+        (ReportsValue (slot_name slot) text_of_slot_head (slot_told before)
         (slot_told after)) text.old.items text.new.items) }
 {
     if before == after {
@@ -212,7 +212,7 @@ fn add_vcpus(
 ) -> Result<(), AllocError>
     ensures { OnOk result
         (Adds
-        (Each 8 (TellsVcpu (slot_in before.now) (slot_in after.now) slot)) text.old.items
+        (Each 8 (ReportsVcpu (slot_in before.now) (slot_in after.now) slot)) text.old.items
         text.new.items) }
 {
     for vcpu in 0..VCPUS {
@@ -243,7 +243,7 @@ fn add_holder(
 ) -> Result<(), AllocError>
     ensures { OnOk result
         (Adds
-        (TellsValue (vcpu_name slot vcpu) text_of_holder before after) text.old.items
+        (ReportsValue (vcpu_name slot vcpu) text_of_holder before after) text.old.items
         text.new.items) }
 {
     if before == after {
@@ -268,8 +268,8 @@ fn add_holders(
         (text_of_holder after)) }
 {
     let name = format!(in global; "vm {slot} vcpu {vcpu}")?;
-    let was = told_cpu(global, before)?;
-    let is = told_cpu(global, after)?;
+    let was = cpu_text(global, before)?;
+    let is = cpu_text(global, after)?;
     add_change(text, name.as_bytes(), was.as_bytes(), is.as_bytes())?;
     Ok(())
 }

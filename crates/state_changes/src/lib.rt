@@ -11,4 +11,4 @@ mod words;
 
 pub use heads::{phase_word, stand_word};
 pub use told::add_changes;
-pub use words::{told_cpu, told_hand, told_loaded, told_ticket};
+pub use words::{cpu_text, hand_text, loaded_text, ticket_text};

@@ -1,7 +1,7 @@
 //! Lines of changes.
 ghost use Rattle.std.specs.Prelude.{◌≡◌, ◌++◌, OnOk, codes, length};
 ghost use Rattle.std.specs.Fmt.{decimal};
-ghost use Rattle.state_changes.specs.Changed.{change_line, TellsValue};
+ghost use Rattle.state_changes.specs.Changed.{change_line, ReportsValue};
 ghost use Rattle.state_changes.specs.Together.{Adds};
 
 use std::alloc::{AllocError, Global};
@@ -34,7 +34,7 @@ pub(crate) fn add_count(
 ) -> Result<(), AllocError>
     ensures { OnOk result
         (Adds
-        (TellsValue (codes "free shared") decimal (length before.now.items)
+        (ReportsValue (codes "free shared") decimal (length before.now.items)
         (length after.now.items)) text.old.items text.new.items) }
 {
     add_number(text, global, before.len(), after.len())?;
@@ -50,7 +50,7 @@ fn add_number(
 ) -> Result<(), AllocError>
     ensures { OnOk result
         (Adds
-        (TellsValue (codes "free shared") decimal before after) text.old.items
+        (ReportsValue (codes "free shared") decimal before after) text.old.items
         text.new.items) }
 {
     if before == after {

@@ -9,11 +9,11 @@ ghost use Rattle.ghost_spec.specs.Views.{row_in};
 ghost use Rattle.run_list.specs.Runs.{AreInReach, InReach, run_map};
 ghost use Rattle.run_list.specs.Targets.{HasFrameBelow};
 ghost use Rattle.run_changes.specs.Changes.{CanBoth};
-ghost use Rattle.state_changes.specs.Changed.{change_line, guest_name, pages_name, run_lines, text_of_some_row, text_of_target, TellsRows};
+ghost use Rattle.state_changes.specs.Changed.{change_line, guest_name, pages_name, run_lines, text_of_some_row, text_of_target, ReportsRows};
 ghost use Rattle.state_changes.specs.Labels.{text_of_label};
 ghost use Rattle.state_changes.specs.Lists.{list_runs};
 ghost use Rattle.state_changes.specs.Together.{Adds};
-ghost use Rattle.state_changes.specs.Told.{TellsTree};
+ghost use Rattle.state_changes.specs.Told.{ReportsTree};
 
 use crate::lines::add_change;
 use ghost_trees::tree::Tree;
@@ -80,7 +80,7 @@ pub(crate) fn add_entries(
 ) -> Result<(), AllocError>
     requires kept { IsKeptTree before.now }
     requires next { IsKeptTree after.now }
-    ensures { OnOk result (Adds (TellsTree label before.now after.now) text.old.items text.new.items) }
+    ensures { OnOk result (Adds (ReportsTree label before.now after.now) text.old.items text.new.items) }
 {
     let old = listed(global, before)?;
     let new = listed(global, after)?;
@@ -125,8 +125,8 @@ fn add_entry_runs(
 {
     for run in runs {
         let name = named(global, label, run.pages)?;
-        let was = told_entry(global, run.value.before)?;
-        let is = told_entry(global, run.value.after)?;
+        let was = entry_text(global, run.value.before)?;
+        let is = entry_text(global, run.value.after)?;
         add_change(text, name.as_bytes(), was.as_bytes(), is.as_bytes())?;
     }
     Ok(())
@@ -148,7 +148,7 @@ fn named(global: Global, label: Label, pages: PageRange) -> Result<String, Alloc
     format!(in global; "{pages}")
 }
 
-fn told_entry(global: Global, target: Option<Target>) -> Result<String, AllocError>
+fn entry_text(global: Global, target: Option<Target>) -> Result<String, AllocError>
     ensures { IfOk result (λ text. string_bytes text ≡ text_of_target target) }
 {
     let entry = match target {
@@ -170,7 +170,7 @@ pub(crate) fn add_rows(
         ≡ is_some (run_map advance_row after.now.runs f) }
     ensures { OnOk result
         (Adds
-        (TellsRows (row_in before.now.runs) (row_in after.now.runs)) text.old.items
+        (ReportsRows (row_in before.now.runs) (row_in after.now.runs)) text.old.items
         text.new.items) }
 {
     let found = changes(global, before, after)?;
@@ -190,14 +190,14 @@ fn add_row_runs(
 {
     for run in runs {
         let name = named(global, Label::Owner, run.pages)?;
-        let was = told_row(global, run.value.before)?;
-        let is = told_row(global, run.value.after)?;
+        let was = row_text(global, run.value.before)?;
+        let is = row_text(global, run.value.after)?;
         add_change(text, name.as_bytes(), was.as_bytes(), is.as_bytes())?;
     }
     Ok(())
 }
 
-fn told_row(global: Global, row: Option<Row>) -> Result<String, AllocError>
+fn row_text(global: Global, row: Option<Row>) -> Result<String, AllocError>
     ensures { IfOk result (λ text. string_bytes text ≡ text_of_some_row row) }
 {
     let row = match row {

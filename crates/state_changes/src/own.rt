@@ -1,12 +1,12 @@
 //! A CPU's own state.
 ghost use Rattle.std.specs.Prelude.{OnOk, codes};
 ghost use Rattle.ghost_spec.specs.Views.{cpu_in};
-ghost use Rattle.state_changes.specs.Changed.{TellsCpu, TellsValue};
+ghost use Rattle.state_changes.specs.Changed.{ReportsCpu, ReportsValue};
 ghost use Rattle.state_changes.specs.Texts.{text_of_hand, text_of_loaded, text_of_ticket};
 ghost use Rattle.state_changes.specs.Together.{Adds};
 
 use crate::lines::add_change;
-use crate::words::{told_hand, told_loaded, told_ticket};
+use crate::words::{hand_text, loaded_text, ticket_text};
 use ghost_spec::cpu::GhostCpu;
 use page_state::PageRange;
 use reference_model::{Loaded, Ticket};
@@ -19,7 +19,7 @@ pub(crate) fn add_cpu(
     before: GhostCpu,
     after: GhostCpu,
 ) -> Result<(), AllocError>
-    ensures { OnOk result (Adds (TellsCpu (cpu_in before) (cpu_in after)) text.old.items text.new.items) }
+    ensures { OnOk result (Adds (ReportsCpu (cpu_in before) (cpu_in after)) text.old.items text.new.items) }
 {
     add_loaded(text, global, before.loaded, after.loaded)?;
     add_hand(text, global, before.hand, after.hand)?;
@@ -35,14 +35,14 @@ fn add_loaded(
 ) -> Result<(), AllocError>
     ensures { OnOk result
         (Adds
-        (TellsValue (codes "loaded") text_of_loaded before after) text.old.items
+        (ReportsValue (codes "loaded") text_of_loaded before after) text.old.items
         text.new.items) }
 {
     if before == after {
         return Ok(());
     }
-    let was = told_loaded(global, before)?;
-    let is = told_loaded(global, after)?;
+    let was = loaded_text(global, before)?;
+    let is = loaded_text(global, after)?;
     add_change(text, b"loaded", was.as_bytes(), is.as_bytes())?;
     Ok(())
 }
@@ -55,13 +55,13 @@ fn add_hand(
 ) -> Result<(), AllocError>
     ensures { OnOk result
         (Adds
-        (TellsValue (codes "hand") text_of_hand before after) text.old.items text.new.items) }
+        (ReportsValue (codes "hand") text_of_hand before after) text.old.items text.new.items) }
 {
     if before == after {
         return Ok(());
     }
-    let was = told_hand(global, before)?;
-    let is = told_hand(global, after)?;
+    let was = hand_text(global, before)?;
+    let is = hand_text(global, after)?;
     add_change(text, b"hand", was.as_bytes(), is.as_bytes())?;
     Ok(())
 }
@@ -74,14 +74,14 @@ fn add_ticket(
 ) -> Result<(), AllocError>
     ensures { OnOk result
         (Adds
-        (TellsValue (codes "ticket") text_of_ticket before after) text.old.items
+        (ReportsValue (codes "ticket") text_of_ticket before after) text.old.items
         text.new.items) }
 {
     if before == after {
         return Ok(());
     }
-    let was = told_ticket(global, before)?;
-    let is = told_ticket(global, after)?;
+    let was = ticket_text(global, before)?;
+    let is = ticket_text(global, after)?;
     add_change(text, b"ticket", was.as_bytes(), is.as_bytes())?;
     Ok(())
 }

@@ -5,9 +5,9 @@ ghost use Rattle.reference_model.specs.model.State.{no_guest, no_slot};
 ghost use Rattle.run_list.specs.Runs.{run_map};
 ghost use Rattle.ghost_spec.specs.States.{contents_in, guest_in, slot_in, AreKeptGuests, IsKept};
 ghost use Rattle.ghost_spec.specs.Views.{cpu_in};
-ghost use Rattle.state_changes.specs.Changed.{guest_name, TellsAll, TellsCpu, TellsEntries, TellsGuest, TellsMaps, TellsRest, TellsSlot};
+ghost use Rattle.state_changes.specs.Changed.{guest_name, ReportsAll, ReportsCpu, ReportsEntries, ReportsGuest, ReportsMaps, ReportsRest, ReportsSlot};
 ghost use Rattle.state_changes.specs.Together.{Adds};
-ghost use Rattle.state_changes.specs.Told.{TellsGuestMaps, TellsGuests, TellsSlots};
+ghost use Rattle.state_changes.specs.Told.{ReportsGuestMaps, ReportsGuests, ReportsSlots};
 
 use crate::heads::{add_guest, add_slot};
 use crate::lines::add_count;
@@ -38,7 +38,7 @@ pub fn add_changes(
         ≡ is_some (run_map advance_row after.now.shared.rows.runs f) }
     ensures { OnOk result
         (Adds
-        (TellsAll (contents_in before.now) (contents_in after.now) cpu) text.old.items
+        (ReportsAll (contents_in before.now) (contents_in after.now) cpu) text.old.items
         text.new.items) }
 {
     let old = before.lists();
@@ -62,7 +62,7 @@ fn add_maps(
         ≡ is_some (run_map advance_row after.now.shared.rows.runs f) }
     ensures { OnOk result
         (Adds
-        (TellsMaps (contents_in before.now) (contents_in after.now)) text.old.items
+        (ReportsMaps (contents_in before.now) (contents_in after.now)) text.old.items
         text.new.items) }
 {
     let old = &before.shared;
@@ -86,7 +86,7 @@ fn add_guest_maps(
     requires count { length before.now.items ≡ 64 }
     requires as_many { length after.now.items ≡ 64 }
     ensures { OnOk result
-        (Adds (TellsGuestMaps before.now.items after.now.items) text.old.items text.new.items) }
+        (Adds (ReportsGuestMaps before.now.items after.now.items) text.old.items text.new.items) }
 {
     for slot in 0..SLOTS {
         add_entries(
@@ -112,7 +112,7 @@ fn add_rest(
     requires next { IsKept after.now }
     ensures { OnOk result
         (Adds
-        (TellsRest (contents_in before.now) (contents_in after.now) cpu) text.old.items
+        (ReportsRest (contents_in before.now) (contents_in after.now) cpu) text.old.items
         text.new.items) }
 {
     add_count(text, global, &before.shared.free, &after.shared.free)?;
@@ -132,7 +132,7 @@ fn add_own(
 ) -> Result<(), AllocError>
     ensures { OnOk result
         (Adds
-        (TellsCpu ((contents_in before.now).cpu cpu)
+        (ReportsCpu ((contents_in before.now).cpu cpu)
         ((contents_in after.now).cpu cpu)) text.old.items text.new.items) }
 {
     add_cpu(text, global, cpu_of(before, cpu), cpu_of(after, cpu))?;
@@ -159,7 +159,7 @@ fn add_guests(
     requires count { length before.now.items ≡ 64 }
     requires as_many { length after.now.items ≡ 64 }
     ensures { OnOk result
-        (Adds (TellsGuests before.now.items after.now.items) text.old.items text.new.items) }
+        (Adds (ReportsGuests before.now.items after.now.items) text.old.items text.new.items) }
 {
     for slot in 0..SLOTS {
         add_guest(text, global, slot as u64, &before[slot], &after[slot])?;
@@ -177,7 +177,7 @@ fn add_slots(
     requires count { length before.now.items ≡ 64 }
     requires as_many { length after.now.items ≡ 64 }
     ensures { OnOk result
-        (Adds (TellsSlots before.now.items after.now.items) text.old.items text.new.items) }
+        (Adds (ReportsSlots before.now.items after.now.items) text.old.items text.new.items) }
 {
     for slot in 0..SLOTS {
         add_slot(text, global, slot as u64, &before[slot], &after[slot])?;

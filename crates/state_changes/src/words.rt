@@ -9,7 +9,7 @@ use std::alloc::{AllocError, Global};
 use std::fmt;
 
 /// The CPU that has a vCPU loaded.
-pub fn told_cpu(global: Global, holder: Option<u64>) -> Result<String, AllocError>
+pub fn cpu_text(global: Global, holder: Option<u64>) -> Result<String, AllocError>
     ensures { IfOk result (λ text. string_bytes text ≡ text_of_holder holder) }
 {
     match holder {
@@ -19,7 +19,7 @@ pub fn told_cpu(global: Global, holder: Option<u64>) -> Result<String, AllocErro
 }
 
 /// The vCPU that a CPU has loaded.
-pub fn told_loaded(global: Global, loaded: Option<Loaded>) -> Result<String, AllocError>
+pub fn loaded_text(global: Global, loaded: Option<Loaded>) -> Result<String, AllocError>
     ensures { IfOk result (λ text. string_bytes text ≡ text_of_loaded loaded) }
 {
     match loaded {
@@ -32,7 +32,7 @@ pub fn told_loaded(global: Global, loaded: Option<Loaded>) -> Result<String, All
 }
 
 /// Its hand.
-pub fn told_hand(global: Global, hand: Option<PageRange>) -> Result<String, AllocError>
+pub fn hand_text(global: Global, hand: Option<PageRange>) -> Result<String, AllocError>
     ensures { IfOk result (λ text. string_bytes text ≡ text_of_hand hand) }
 {
     match hand {
@@ -45,7 +45,7 @@ pub fn told_hand(global: Global, hand: Option<PageRange>) -> Result<String, Allo
 }
 
 /// Its ticket.
-pub fn told_ticket(global: Global, ticket: Option<Ticket>) -> Result<String, AllocError>
+pub fn ticket_text(global: Global, ticket: Option<Ticket>) -> Result<String, AllocError>
     ensures { IfOk result (λ text. string_bytes text ≡ text_of_ticket ticket) }
 {
     match ticket {

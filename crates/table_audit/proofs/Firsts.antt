@@ -17,7 +17,7 @@ use Rattle.ghost_judge.proofs.Judged.{below_next, everywhere, past_end}
 use Rattle.table_audit.specs.declared.finding.Finding.{Finding}
 use Rattle.table_audit.specs.declared.finding.Finding.TheVariants.{Differs, Table as TableDiffers, Unsound, Illegal}
 use Rattle.table_audit.specs.Audited.{guest_table, AgreesWith, IsFirstFinding, IsFirstTable, IsFirstTableOf, IsGuestTable, IsUnlawful, IsWell, TablesAgree}
-use Rattle.table_audit.specs.Tables.{IsTableFinding, IsTableTold}
+use Rattle.table_audit.specs.Tables.{IsTableFinding, IsTableReported}
 
 module _ (s t : Contents) where
   pub host_first : (f : Finding) → IsTableFinding Host s.shared.host.table t.shared.host.table f → IsFirstTable s t f
@@ -131,10 +131,10 @@ module _ (kept walked : List GhostGuest) where
       subst (λ o. IsGuestTable kept walked (TableDiffers o height index x y)) (sym h.0) (record {
         before = before;
         told =
-            subst (λ (g : Block → Option ℕ). IsTableTold g (guest_table walked v) (height, index) x y)
+            subst (λ (g : Block → Option ℕ). IsTableReported g (guest_table walked v) (height, index) x y)
             (sym (table_at_guest kept v d k))
             (subst
-            (λ (g : Block → Option ℕ). IsTableTold (table_of (get_or kept v d).tree.tables.items) g
+            (λ (g : Block → Option ℕ). IsTableReported (table_of (get_or kept v d).tree.tables.items) g
             (height, index) x y)
             (sym (table_at_guest walked v e l)) h.1);
       })

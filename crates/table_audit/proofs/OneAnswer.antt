@@ -15,7 +15,7 @@ use Rattle.table_audit.specs.declared.finding.Finding.{Finding}
 use Rattle.table_audit.specs.declared.finding.Finding.TheVariants.{Differs, Table as TableDiffers, Unsound, Illegal}
 use Rattle.table_audit.specs.Audited.{IsFirstFinding, IsFirstTableOf}
 use Rattle.table_audit.specs.Laws.{AreAlike, FindingOnce, WellElse}
-use Rattle.table_audit.specs.Tables.{IsTableTold}
+use Rattle.table_audit.specs.Tables.{IsTableReported}
 use Rattle.table_audit.proofs.Firsts.{not_first}
 
 pub well_else : WellElse
@@ -25,7 +25,7 @@ well_else l kept walked (TableDiffers tree height index x y) w h =
 well_else l kept walked (Unsound why) w h = h.1.0 w.legal
 well_else l kept walked (Illegal why) w h = h.1.0 w.legal
 
-told_else : (f g : Block → Option ℕ) (block : Block) (x y : Option ℕ) → f ≡ g → IsTableTold f g block x y → ⊥
+told_else : (f g : Block → Option ℕ) (block : Block) (x y : Option ℕ) → f ≡ g → IsTableReported f g block x y → ⊥
 told_else f g block x y e h = h.apart (ap (λ t. t block) e)
 
 one_tree : (kept walked : Contents) (t u : TreeOf) (a b : Block) (x y z w : Option ℕ)

@@ -11,11 +11,11 @@ use Rattle.ghost_judge.specs.declared.disagreement.TreeOf.{TreeOf}
 use Rattle.ghost_judge.specs.declared.disagreement.TreeOf.TheVariants.{Host, Hyp, Guest}
 use Rattle.ghost_spec.specs.declared.parts.GhostGuest.{GhostGuest}
 use Rattle.ghost_spec.specs.States.{guest_in}
-use Rattle.ghost_legal.specs.Told.{IsToldOf}
+use Rattle.ghost_legal.specs.Told.{IsWhyIllegal}
 use Rattle.ghost_sound.specs.Sound.{IsSound, IsUnsound}
 use Rattle.table_audit.specs.declared.finding.Finding.{Finding}
 use Rattle.table_audit.specs.declared.finding.Finding.TheVariants.{Differs, Table as TableDiffers, Unsound, Illegal}
-use Rattle.table_audit.specs.Tables.{IsTableTold}
+use Rattle.table_audit.specs.Tables.{IsTableReported}
 
 -- all tables are the same
 pub record TablesAgree (kept walked : Contents) : Type 0 where
@@ -36,15 +36,15 @@ pub record IsWell (l : Layout) (kept walked : Contents) : Type 0 where
 -- a table of this tree differs, and those of the trees before it don't
 abbrev pub IsFirstTableOf : Contents → Contents → TreeOf → ℕ × ℕ → Option ℕ → Option ℕ → Type 0
 IsFirstTableOf kept walked Host block x y =
-    IsTableTold kept.shared.host.table walked.shared.host.table block x y
+    IsTableReported kept.shared.host.table walked.shared.host.table block x y
 IsFirstTableOf kept walked Hyp block x y =
     (kept.shared.host.table ≡ walked.shared.host.table)
-    × IsTableTold kept.shared.hyp.table walked.shared.hyp.table block x y
+    × IsTableReported kept.shared.hyp.table walked.shared.hyp.table block x y
 IsFirstTableOf kept walked (Guest v) block x y =
     (kept.shared.host.table ≡ walked.shared.host.table)
     × (kept.shared.hyp.table ≡ walked.shared.hyp.table)
     × ((w : ℕ) → w < v → (kept.guest w).tree.table ≡ (walked.guest w).tree.table)
-    × IsTableTold (kept.guest v).tree.table (walked.guest v).tree.table block x y
+    × IsTableReported (kept.guest v).tree.table (walked.guest v).tree.table block x y
 
 abbrev pub IsFirstTable : Contents → Contents → Finding → Type 0
 IsFirstTable kept walked (Differs d) = ⊥
@@ -61,7 +61,7 @@ guest_table guests v = (get_or (map guest_in guests) v no_guest).tree.table
 pub record IsGuestTableOf (kept walked : List GhostGuest) (v : ℕ) (block : Block)
     (x y : Option ℕ) : Type 0 where
   pub before : (w : ℕ) → w < v → guest_table kept w ≡ guest_table walked w
-  pub told : IsTableTold (guest_table kept v) (guest_table walked v) block x y
+  pub told : IsTableReported (guest_table kept v) (guest_table walked v) block x y
 
 abbrev pub IsGuestTable : List GhostGuest → List GhostGuest → Finding → Type 0
 IsGuestTable kept walked (TableDiffers (Guest v) height index x y) =
@@ -72,7 +72,7 @@ IsGuestTable kept walked other = ⊥
 -- state
 abbrev pub IsUnlawful : Layout → Contents → Finding → Type 0
 IsUnlawful l s (Unsound why) = (Legal l s → ⊥) × IsUnsound s why
-IsUnlawful l s (Illegal why) = (Legal l s → ⊥) × IsSound s × IsToldOf true l s why
+IsUnlawful l s (Illegal why) = (Legal l s → ⊥) × IsSound s × IsWhyIllegal true l s why
 IsUnlawful l s other = ⊥
 
 -- the first difference: all that comes before it agrees; and if there is no difference, why the

@@ -12,7 +12,7 @@ abbrev pub IsTableApart : List Table → List Table → Block → Type 0
 IsTableApart a b block = table_of a block ≢ table_of b block
 
 -- a table of a tree differs, as the finding reports
-pub record IsTableTold (kept walked : Block → Option ℕ) (block : Block)
+pub record IsTableReported (kept walked : Block → Option ℕ) (block : Block)
     (x y : Option ℕ) : Type 0 where
   pub apart : kept block ≢ walked block
   pub kept_is : x ≡ kept block
@@ -23,4 +23,4 @@ IsTableFinding tree kept walked (Differs d) = ⊥
 IsTableFinding tree kept walked (Unsound why) = ⊥
 IsTableFinding tree kept walked (Illegal why) = ⊥
 IsTableFinding tree kept walked (TableDiffers of height index x y) =
-    (of ≡ tree) × IsTableTold kept walked (height, index) x y
+    (of ≡ tree) × IsTableReported kept walked (height, index) x y

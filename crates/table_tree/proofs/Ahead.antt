@@ -10,8 +10,8 @@ use Rattle.descriptor.specs.declared.Kind.{Kind}
 use Rattle.descriptor.specs.declared.State.{State}
 use Rattle.descriptor.specs.declared.Desc.{Desc}
 use Rattle.descriptor.specs.declared.Desc.TheVariants.{Malformed as malformed_word, Unmapped as unmapped_word, Annotated as annotated_word, Leaf as leaf_word, Table as table_word}
-use Rattle.descriptor.specs.Word.{level_pages, desc_of, CanBeSaid, IsLeaf, IsSaid}
-use Rattle.descriptor.proofs.Unique.{desc_of_said, value_said}
+use Rattle.descriptor.specs.Word.{level_pages, desc_of, IsEncodable, IsLeaf, DecodesTo}
+use Rattle.descriptor.proofs.Unique.{desc_of_said, value_from_c}
 use Rattle.page_state.specs.declared.entry.Entry.{Entry}
 use Rattle.page_state.specs.declared.entry.Entry.TheVariants.{Unmapped, Malformed, Annotated, Leaf}
 use Rattle.page_state.specs.Entries.{advance, entry_of_word, word_of_entry}
@@ -78,7 +78,7 @@ leaf_of_word : (l : Level) (w : ℕ) (f : Frame) (p : Prot) (k : Kind) (s : Stat
     → w < 2 ^ 64
     → entry_of_word (desc_of l w) ≡ Leaf f p k s
     → IsLeaf l w f.0 p k s
-leaf_of_word l w f p k s r e = subst (IsSaid l w) (leaf_desc (desc_of l w) f p k s e) (desc_of_said l w r)
+leaf_of_word l w f p k s r e = subst (DecodesTo l w) (leaf_desc (desc_of l w) f p k s e) (desc_of_said l w r)
 
 leaf_room : (l : Level) (w m f : ℕ) (p : Prot) (k : Kind) (s : State)
     → w < 2 ^ 64
@@ -100,7 +100,7 @@ leaf_ahead l w m f p k s r e h a =
     let x : IsLeaf l w f.0 p k s = leaf_of_word l w f p k s r e in
     let g : Frame = record { 0 = f.0 + m } in
     let y : IsLeaf l (w + 4096 * m) g.0 p k s = leaf_more l w m f.0 p k s r x h a in
-    ap entry_of_word (value_said l (w + 4096 * m) (leaf_word g p k s) (leaf_room l w m f.0 p k s r x (omega arith)) y)
+    ap entry_of_word (value_from_c l (w + 4096 * m) (leaf_word g p k s) (leaf_room l w m f.0 p k s r x (omega arith)) y)
 
 -- blocks of `P` pages of a level
 record AreSized (l : Level) (P : ℕ) : Type 0 where
@@ -162,7 +162,7 @@ zero_gives d = refl
 -- a leaf that a word one level up can say goes on to the end of its block
 leaf_below : (d : ℕ) (f : Frame) (p : Prot) (k : Kind) (s : State)
     → d + 1 < 4
-    → CanBeSaid (level_at (d + 1)) (leaf_word f p k s)
+    → IsEncodable (level_at (d + 1)) (leaf_word f p k s)
     → f.0 ≤ 2 ^ 36 - 512 * block_pages d
 leaf_below zero f p k s h c = let x = c.1 in let y = c.2 in omega (arith, x, y)
 leaf_below (suc zero) f p k s h c = let x = c.1 in let y = c.2 in omega (arith, x, y)
@@ -172,7 +172,7 @@ leaf_below (suc (suc (suc d))) f p k s h c = absurd (omega (arith, h))
 pub said_leaf_goes : (d pages : ℕ) (f : Frame) (p : Prot) (k : Kind) (s : State)
     → d + 1 < 4
     → pages ≡ block_pages d
-    → CanBeSaid (level_at (d + 1)) (word_of_entry (Leaf f p k s))
+    → IsEncodable (level_at (d + 1)) (word_of_entry (Leaf f p k s))
     → GoesAhead d (Leaf f p k s) (4096 * pages)
 said_leaf_goes d pages f p k s h e c = leaf_goes d pages f p k s (omega (arith, h)) e (rw e (leaf_below d f p k s h c))
 

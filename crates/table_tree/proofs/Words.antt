@@ -2,7 +2,7 @@ use Rattle.std.proofs.Common.{◌≡◌, ℕ, ◌^◌, ◌<◌, refl, arith}
 use Rattle.descriptor.specs.declared.Level.{Level}
 use Rattle.descriptor.specs.declared.Desc.{Desc}
 use Rattle.descriptor.specs.declared.Desc.TheVariants.{Malformed as malformed_word, Unmapped as unmapped_word, Annotated as annotated_word, Leaf as leaf_word, Table as table_word}
-use Rattle.descriptor.specs.Word.{desc_of, IsSaid, CanBeSaid}
+use Rattle.descriptor.specs.Word.{desc_of, DecodesTo, IsEncodable}
 use Rattle.page_state.specs.declared.entry.Entry.{Entry}
 use Rattle.page_state.specs.declared.entry.Entry.TheVariants.{Unmapped, Malformed, Annotated, Leaf}
 use Rattle.page_state.specs.Entries.{CanAdvance, entry_of_word, word_of_entry}
@@ -10,16 +10,16 @@ use Rattle.table_tree.specs.Meaning.{word_entry}
 use Rattle.table_tree.specs.Shape.{IsWellFormed, IsEntryWord, HasSmallFrame}
 
 pub said_entry : (l : Level) (w : ℕ) (d : Desc)
-    → IsSaid l w d
+    → DecodesTo l w d
     → IsWellFormed (entry_of_word d)
-    → CanBeSaid l (word_of_entry (entry_of_word d))
+    → IsEncodable l (word_of_entry (entry_of_word d))
 said_entry l w malformed_word h e = absurd e
 said_entry l w unmapped_word h e = tt
 said_entry l w (annotated_word o) h e = (h.from_one, h.byte)
 said_entry l w (leaf_word f p k s) h e = let x = h.frame_is in (h.form.leaves, omega arith, h.aligned)
 said_entry l w (table_word f) h e = absurd e
 
-pub small_entry : (l : Level) (w : ℕ) (d : Desc) → IsSaid l w d → HasSmallFrame (entry_of_word d)
+pub small_entry : (l : Level) (w : ℕ) (d : Desc) → DecodesTo l w d → HasSmallFrame (entry_of_word d)
 small_entry l w malformed_word h = tt
 small_entry l w unmapped_word h = tt
 small_entry l w (annotated_word o) h = tt
@@ -39,7 +39,7 @@ entry_back Malformed = refl
 entry_back (Annotated o) = refl
 entry_back (Leaf f p k s) = refl
 
-pub said_formed : (l : Level) (e : Entry) → CanBeSaid l (word_of_entry e) → IsWellFormed e
+pub said_formed : (l : Level) (e : Entry) → IsEncodable l (word_of_entry e) → IsWellFormed e
 said_formed l Unmapped h = tt
 said_formed l Malformed h = h
 said_formed l (Annotated o) h = tt

@@ -1,6 +1,6 @@
 //! Looks at a tree, by recursion on the levels below a table.
 ghost use Rattle.std.specs.Prelude.{◌≡◌, ℕ, ◌+◌, ◌-◌, ◌*◌, ◌%◌, ◌^◌, ◌<◌, ◌≤◌, ◌==◌, ◌&&◌, ◌↔◌, IsTrue, nat_lt, List, ◌++◌, map, length, take, drop, slice_index_or, OnOk, if◌then◌else◌, Option, Some};
-ghost use Rattle.descriptor.specs.Word.{CanBeSaid};
+ghost use Rattle.descriptor.specs.Word.{IsEncodable};
 ghost use Rattle.page_state.specs.Entries.{advance, word_of_entry};
 ghost use Rattle.page_state.specs.Geometries.{block_pages};
 ghost use Rattle.page_state.specs.Counts.{frame_count};

@@ -1,6 +1,6 @@
 //! Indices, and the entries that words give pages.
 ghost use Rattle.std.specs.Prelude.{◌≡◌, ℕ, ◌+◌, ◌*◌, ◌^◌, ◌<◌};
-ghost use Rattle.descriptor.specs.Word.{desc_of, CanBeSaid};
+ghost use Rattle.descriptor.specs.Word.{desc_of, IsEncodable};
 ghost use Rattle.page_state.specs.Entries.{advance, entry_of_word, word_of_entry};
 ghost use Rattle.page_state.specs.Geometries.{block_pages};
 ghost use Rattle.table_tree.specs.Meaning.{IsDepth, level_at, index_at, word_entry};
@@ -35,7 +35,7 @@ pub(crate) fn index_of(depth: u32, page: u64) -> usize
 pub fn entry_of(depth: u32, word: u64) -> Entry
     requires { IsDepth depth }
     ensures value { result ≡ entry_of_word (desc_of (level_at depth) word) }
-    ensures said { IsEntryWord depth word → CanBeSaid (level_at depth) (word_of_entry result) }
+    ensures said { IsEntryWord depth word → IsEncodable (level_at depth) (word_of_entry result) }
     ensures small { HasSmallFrame result }
 {
     Entry::from(decode(level_of(depth), word))
@@ -52,7 +52,7 @@ pub(crate) fn entry_in(depth: u32, word: u64, page: u64) -> Entry
 /// The word that encodes an entry at a level, if the level can encode it.
 pub fn word_of(depth: u32, entry: Entry) -> u64
     requires depth_in { IsDepth depth }
-    requires said { CanBeSaid (level_at depth) (word_of_entry entry) }
+    requires said { IsEncodable (level_at depth) (word_of_entry entry) }
     ensures entry { IsEntryWord depth result }
     ensures value { entry_of_word (desc_of (level_at depth) result) ≡ entry }
 {

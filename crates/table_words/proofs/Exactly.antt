@@ -6,7 +6,7 @@ use Rattle.descriptor.specs.declared.Level.TheVariants.{Zero, One, Two, Three}
 use Rattle.descriptor.specs.declared.Owner.{Owner}
 use Rattle.descriptor.specs.declared.Frame.{Frame}
 use Rattle.descriptor.specs.declared.State.{State}
-use Rattle.table_words.specs.Said.{memory_of, access_of, execute_of, state_of, aged_of, guarded_of, frame_of, HasBesideAddress, IsLeaf, IsTable, IsAnnotated, IsPoisoned, IsLocked, IsCleared, IsHypervisors, IsGuests, Says, IsSaid}
+use Rattle.table_words.specs.Said.{memory_of, access_of, execute_of, state_of, aged_of, guarded_of, frame_of, HasBesideAddress, IsLeaf, IsTable, IsAnnotated, IsPoisoned, IsLocked, IsCleared, IsHypervisors, IsGuests, Says, DecodesTo}
 use Rattle.table_words.specs.Decoding.{has_beside_address, has_leaf_form, mapping_of, leaf_in, table_in, byte_owner_in, donated_in, cleared_of, invalid_in, leaf_or_malformed, table_or_leaf, decoded_of}
 use Rattle.table_words.specs.declared.profile.Profile.{Profile}
 use Rattle.table_words.specs.declared.profile.InvalidForm.{InvalidForm}
@@ -184,9 +184,9 @@ form_right false Three w e =
       zero_57 = grind (arith, nat_tests);
     }
 
-leaf_said : (p : Profile) (l : Level) (w : ℕ) (m : Mapping) → leaf_in p l w ≡ Some m → IsLeaf p l w m
+leaf_from_c : (p : Profile) (l : Level) (w : ℕ) (m : Mapping) → leaf_in p l w ≡ Some m → IsLeaf p l w m
 unfolding leaf_in
-leaf_said p l w m e =
+leaf_from_c p l w m e =
     let x =
     parts (has_leaf_form p.lpa2 l w) (memory_of p.memory (field w 2 4)) (access_of p.access (field w 6 2))
     (execute_of p.execute (field w 53 2)) (state_of p.has_states (field w 55 2))
@@ -430,7 +430,7 @@ IsSound p l w (Table f) = Says p l w (Table f)
 leaf_sound : (p : Profile) (l : Level) (w : ℕ) (o : Option Mapping)
     → leaf_in p l w ≡ o
     → IsSound p l w (leaf_or_malformed o)
-leaf_sound p l w (Some m) e = leaf_said p l w m e
+leaf_sound p l w (Some m) e = leaf_from_c p l w m e
 leaf_sound p l w None e = tt
 
 valid_sound : (p : Profile) (l : Level) (w : ℕ) (t : Option Frame) (o : Option Mapping)
@@ -489,7 +489,8 @@ cleared_sound : (p : Profile) (l : Level) (w : ℕ) (o : Option Mapping)
     → field w 0 1 ≡ 0
     → leaf_in p l (w + 1) ≡ o
     → IsSound p l w (cleared_of o)
-cleared_sound p l w (Some m) f some z e = record { kept = f; some = some; invalid = z; was = leaf_said p l (w + 1) m e }
+cleared_sound p l w (Some m) f some z e =
+    record { kept = f; some = some; invalid = z; was = leaf_from_c p l (w + 1) m e }
 cleared_sound p l w None f some z e = tt
 
 invalid_sound : (p : Profile) (f : InvalidForm) (l : Level) (w : ℕ)
@@ -523,7 +524,10 @@ sound p l w =
     (λ v. valid_sound p l w (table_in p.lpa2 l w) (leaf_in p l w) refl refl))
 
 -- the function gives what is said
-given_said : (p : Profile) (l : Level) (w : ℕ) (d : Decoded) → decoded_of p l w ≡ d → IsSound p l w d → IsSaid p l w d
+given_said : (p : Profile) (l : Level) (w : ℕ) (d : Decoded)
+    → decoded_of p l w ≡ d
+    → IsSound p l w d
+    → DecodesTo p l w d
 given_said p l w Malformed e h = λ d s. let q : Malformed ≡ d = sym e ∙ said_decoded p l w d s in
     subst (λ x. Says p l w x) (sym q) s
 given_said p l w Unmapped e h = h
@@ -535,7 +539,7 @@ given_said p l w (Leaf m) e h = h
 given_said p l w (Table f) e h = h
 
 said_given : (p : Profile) (l : Level) (w : ℕ) (d : Decoded)
-    → IsSaid p l w d
+    → DecodesTo p l w d
     → (x : Decoded)
     → decoded_of p l w ≡ x
     → IsSound p l w x
@@ -560,7 +564,7 @@ said_given p l w (Table f) h x e s = sym e ∙ said_decoded p l w (Table f) h
 pub exactly : (p : Profile) (l : Level) (w : ℕ) (r : Decoded)
     → r ≡ decoded_of p l w
     → (d : Decoded)
-    → (r ≡ d) ↔ IsSaid p l w d
+    → (r ≡ d) ↔ DecodesTo p l w d
 exactly p l w r v d = (
   λ e. let q : decoded_of p l w ≡ d = sym v ∙ e in given_said p l w d q (subst (λ x. IsSound p l w x) q (sound p l w)),
   λ h. v ∙ said_given p l w d h (decoded_of p l w) refl (sound p l w),

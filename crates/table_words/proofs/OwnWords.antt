@@ -14,7 +14,7 @@ use Rattle.descriptor.specs.declared.State.TheVariants.{Owned, SharedOwned, Shar
 use Rattle.descriptor.specs.declared.Desc.{Desc}
 use Rattle.descriptor.specs.declared.Desc.TheVariants as desc
 use Rattle.table_words.specs.Profiles.{model_profile}
-use Rattle.table_words.specs.Said.{memory_of, access_of, execute_of, state_of, aged_of, guarded_of, IsLeaf, IsTable, Says, IsSaid}
+use Rattle.table_words.specs.Said.{memory_of, access_of, execute_of, state_of, aged_of, guarded_of, IsLeaf, IsTable, Says, DecodesTo}
 use Rattle.table_words.specs.Decoding.{decoded_of}
 use Rattle.table_words.specs.Entries.{prot_of, kind_of, entry_of, is_unreadable, alone_of, other_memory, beyond_of, nothing_beyond}
 use Rattle.table_words.proofs.Exactly.{exactly}
@@ -257,7 +257,7 @@ not_said l w h (desc.Leaf f p k s) q =
     (leaf_forth l w f p k s q)
 not_said l w h (desc.Table f) q = h (Table f) (table_forth l w f q)
 
-same : (l : Level) (w : ℕ) → w < 2 ^ 64 → (x : Decoded) → IsSaid model_profile l w x → Same l w x
+same : (l : Level) (w : ℕ) → w < 2 ^ 64 → (x : Decoded) → DecodesTo model_profile l w x → Same l w x
 same l w r Malformed h = record {
   entry = λ s. ap Some (same_as_function l w desc.Malformed r (λ d q. not_said l w h d q));
   beyond = refl;

@@ -227,6 +227,6 @@ Says profile level word (Leaf mapping) = IsLeaf profile level word mapping
 Says profile level word (Table frame) = IsTable profile.lpa2 level word frame.0
 
 -- the decoded word: its meaning, and Malformed if it has none
-abbrev pub IsSaid : Profile → Level → ℕ → Decoded → Type 0
-IsSaid profile level word Malformed = (decoded : Decoded) → Says profile level word decoded → ⊥
-IsSaid profile level word decoded = Says profile level word decoded
+abbrev pub DecodesTo : Profile → Level → ℕ → Decoded → Type 0
+DecodesTo profile level word Malformed = (decoded : Decoded) → Says profile level word decoded → ⊥
+DecodesTo profile level word decoded = Says profile level word decoded

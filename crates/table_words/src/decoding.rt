@@ -1,6 +1,6 @@
 //! Words by a profile.
 ghost use Rattle.std.specs.Prelude.{◌≡◌, ℕ, ◌+◌, ◌^◌, ◌<◌, ◌↔◌, Option, Some, None};
-ghost use Rattle.table_words.specs.Said.{IsSaid};
+ghost use Rattle.table_words.specs.Said.{DecodesTo};
 ghost use Rattle.table_words.specs.Decoding.{leaf_in, table_in, byte_owner_in, donated_in, invalid_in, decoded_of};
 
 use crate::parts::{
@@ -142,7 +142,7 @@ fn invalid_of(profile: &Profile, level: Level, word: u64) -> Decoded
 /// What a word of a level says by a profile. Each word says one thing, or is Malformed.
 #[tactic(auto, unfolding(crate::specs::Decoding::decoded_of))]
 pub fn decode(profile: &Profile, level: Level, word: u64) -> Decoded
-    ensures exact { (d : _) → (result ≡ d) ↔ IsSaid profile.now level word d }
+    ensures exact { (d : _) → (result ≡ d) ↔ DecodesTo profile.now level word d }
     ensures value { result ≡ decoded_of profile.now level word }
 {
     if word == 0 {

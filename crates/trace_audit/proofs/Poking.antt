@@ -20,14 +20,14 @@ use Rattle.trace_text.specs.Worlds.{Machine}
 use Rattle.world.specs.declared.World.{World}
 use Rattle.world.specs.declared.raw.RawWorld.{RawWorld}
 use Rattle.trace_audit.specs.Audited.{Audited, Carries, ComparesWalk, Follows, IsPoked, Pokes, PokesAgain, PokesFirst, Sets, allowed, end_lines}
-use Rattle.trace_audit.specs.Laws.{AuditTells, FirstKeeps, KeepsAllBut, NextKeeps, TellsFirst, TellsNone}
+use Rattle.trace_audit.specs.Laws.{AuditReports, FirstKeeps, KeepsAllBut, NextKeeps, ReportsFirst, ReportsNone}
 use Rattle.trace_audit.specs.Paths.{path_on, poke_in, which_of}
 
 module _ {A : Type 0} where
   tells_by : (a : Audited A) (world : RawWorld A) (lines : List ReportLine) (found : Option Disagreement)
       (c : ComparesWalk world.parts found)
       → lines ≡ end_lines a found
-      → TellsNone a.session.steps lines c.kept c.walked ⊎ TellsFirst a.session.steps lines c.kept c.walked
+      → ReportsNone a.session.steps lines c.kept c.walked ⊎ ReportsFirst a.session.steps lines c.kept c.walked
   tells_by a world lines None c e = inl (record { lines_are = e; agrees = c.none.0 refl })
   tells_by a world lines (Some found) c e =
       inr
@@ -38,8 +38,8 @@ module _ {A : Type 0} where
         first = c.first;
       })
 
-  pub audit_tells : AuditTells A
-  audit_tells a world lines outcome poked h =
+  pub audit_reports : AuditReports A
+  audit_reports a world lines outcome poked h =
       let c : ComparesWalk world.parts h.0 =
       subst (λ p. MatchOption p (h.0 ≡ None) (λ w. ComparesWalk w.parts h.0)) poked h.1 in (
         c.kept,

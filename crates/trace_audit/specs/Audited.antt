@@ -13,7 +13,7 @@ use Rattle.ghost_oracle.specs.declared.trees.Source.TheVariants.{Maplets, Words}
 use Rattle.ghost_oracle.specs.Found.{scratch_rows}
 use Rattle.ghost_oracle.specs.Poked.{Beside, IsBeside, IsPokedTree, parts_trees, raw_beside_of, raw_trees}
 use Rattle.ghost_oracle.specs.Seen.{SeenTree}
-use Rattle.ghost_oracle.specs.RawFound.{IsRawFound, SaysRawRows}
+use Rattle.ghost_oracle.specs.RawFound.{IsRawFound, HasSameRawRows}
 use Rattle.trace_lines.specs.declared.fault.LineFault.{LineFault}
 use Rattle.trace_lines.specs.declared.fault.LineFault.TheVariants.{Place}
 use Rattle.trace_lines.specs.declared.line.Line.{Line}
@@ -140,7 +140,7 @@ module _ {A : Type 0} where
     pub kept : Ghost
     pub walked : Ghost
     pub kept_is : IsRawFound Maplets parts kept
-    pub kept_rows : SaysRawRows parts kept
+    pub kept_rows : HasSameRawRows parts kept
     pub walked_is : IsRawFound Words parts walked
     pub walked_rows : (f : ℕ)
         → (contents_in walked).shared.row f
@@ -165,13 +165,13 @@ module _ {A : Type 0} where
 
 -- the written text is the report of an audit of the trace of these bytes, with the trees' tables in
 -- `A`
-abbrev pub IsAuditTold : (A : Type 0)
+abbrev pub IsAuditReported : (A : Type 0)
     → Option (List ℕ)
     → Option (List ℕ)
     → Option (List ℕ)
     → Outcome
     → Type 0
-IsAuditTold A = reports.IsWritten (RunsLine {A = A}) Ends nothing_audited
+IsAuditReported A = reports.IsWritten (RunsLine {A = A}) Ends nothing_audited
 
 -- and a beginning of one
 abbrev pub IsAuditBegun : (A : Type 0)

@@ -8,7 +8,7 @@ use Rattle.ghost_oracle.specs.declared.raw.Which.{Which}
 use Rattle.ghost_oracle.specs.declared.trees.Source.TheVariants.{Maplets, Words}
 use Rattle.ghost_oracle.specs.Found.{scratch_rows}
 use Rattle.ghost_oracle.specs.Poked.{Beside, IsBeside, parts_trees, raw_beside_of, raw_trees}
-use Rattle.ghost_oracle.specs.RawFound.{IsRawFound, SaysRawRows}
+use Rattle.ghost_oracle.specs.RawFound.{IsRawFound, HasSameRawRows}
 use Rattle.ghost_oracle.specs.Seen.{SeenTree}
 use Rattle.ghost_spec.specs.declared.state.Ghost.{Ghost}
 use Rattle.ghost_spec.specs.States.{contents_in}
@@ -50,19 +50,19 @@ AuditReplays A =
 -- from scratch
 pub record AreFoundIn {A : Type 0} (parts : RawParts A) (kept walked : Ghost) : Type 0 where
   pub kept_is : IsRawFound Maplets parts kept
-  pub kept_rows : SaysRawRows parts kept
+  pub kept_rows : HasSameRawRows parts kept
   pub walked_is : IsRawFound Words parts walked
   pub walked_rows : (f : ℕ)
       → (contents_in walked).shared.row f
       ≡ scratch_rows (layout_of parts.layout) (contents_in walked) f
 
 -- the end of a report has no difference, and there is none
-pub record TellsNone (steps : ℕ) (lines : List ReportLine) (kept walked : Ghost) : Type 0 where
+pub record ReportsNone (steps : ℕ) (lines : List ReportLine) (kept walked : Ghost) : Type 0 where
   pub lines_are : lines ≡ report.End steps 0 ∷ []
   pub agrees : AuditAgrees (contents_in kept) (contents_in walked)
 
 -- or it reports the first
-pub record TellsFirst (steps : ℕ) (lines : List ReportLine) (kept walked : Ghost) : Type 0 where
+pub record ReportsFirst (steps : ℕ) (lines : List ReportLine) (kept walked : Ghost) : Type 0 where
   pub found : Disagreement
   pub lines_are : lines ≡ report.Audited found ∷ report.End steps 1 ∷ []
   pub differs : AuditAgrees (contents_in kept) (contents_in walked) → ⊥
@@ -70,15 +70,16 @@ pub record TellsFirst (steps : ℕ) (lines : List ReportLine) (kept walked : Gho
 
 -- the end of the report of a poked world has a difference exactly if the world's kept state isn't
 -- what the walk finds
-abbrev pub AuditTells : Type 0 → Type 0
-AuditTells A =
+abbrev pub AuditReports : Type 0 → Type 0
+AuditReports A =
     (a : Audited A) (world : RawWorld A) (lines : List ReportLine) (outcome : Outcome)
     → a.poked ≡ Some world
     → Ends a lines outcome
     → (kept : Ghost)
     × (walked : Ghost)
     × AreFoundIn world.parts kept walked
-    × (TellsNone a.session.steps lines kept walked ⊎ TellsFirst a.session.steps lines kept walked)
+    × (ReportsNone a.session.steps lines kept walked
+    ⊎ ReportsFirst a.session.steps lines kept walked)
 
 -- a poked world has all trees but one of others, and the state beside the trees is as `kept` says
 pub record KeepsAllBut {A : Type 0} (trees : Which → SeenTree) (kept : Beside → Type 0)

@@ -1,8 +1,8 @@
 //! Auditing a trace.
 ghost use Rattle.std.specs.Prelude.{◌<◌, ◌^◌, IfOk, OnErr, length};
-ghost use Rattle.trace_audit.specs.Audited.{Ends, IsAuditBegun, IsAuditTold, RunsLine, found_lines};
+ghost use Rattle.trace_audit.specs.Audited.{Ends, IsAuditBegun, IsAuditReported, RunsLine, found_lines};
 ghost use Rattle.trace_audit.specs.View.{audited_of};
-ghost use Rattle.trace_text.specs.Failures.{CountsReads, CountsWrites, TellsWrite};
+ghost use Rattle.trace_text.specs.Failures.{CountsReads, CountsWrites, ReportsWrite};
 ghost use Rattle.trace_text.specs.Oracles.{audited_lines};
 ghost use Rattle.trace_text.specs.Played.{EndsWith, WritesFront};
 ghost use Rattle.trace_text.specs.Ready.{IsReady};
@@ -14,7 +14,7 @@ use ghost_judge::disagreement::Disagreement;
 use std::alloc::{Allocator, Global};
 use table_tree::Reads;
 use trace_reader::{EngineFault, Outcome, Source};
-use trace_text::{Player, ReportLine, Sink, play_trace, tell_answer, tell_audited, tell_end};
+use trace_text::{Player, ReportLine, Sink, play_trace, report_answer, report_audited, report_end};
 
 /// Reads a trace line by line, carries it out, also its pokes, and writes its report. No oracle looks at its steps: at
 /// the end it compares the kept state once with a walk of all words, and reports the first difference. `alloc` holds
@@ -27,7 +27,7 @@ pub fn audit<A: Allocator + Copy, S: Source, K: Sink>(
     sink: &mut K,
 ) -> Result<Outcome, EngineFault>
     ensures report { IfOk result
-        (λ outcome. IsAuditTold A (S.remaining source.old) (K.contents sink.old)
+        (λ outcome. IsAuditReported A (S.remaining source.old) (K.contents sink.old)
         (K.contents sink.new) outcome) }
     ensures begun { OnErr result
         (IsAuditBegun A (S.remaining source.old) (K.contents sink.old) (K.contents sink.new)) }
@@ -57,19 +57,19 @@ impl<A: Allocator + Copy> Player for Audit<A> {
         text: &mut String,
     ) -> Result<Option<Outcome>, EngineFault> {
         let ran = self.run(number, line);
-        tell_answer(&self.session, sink, text, number, ran)
+        report_answer(&self.session, sink, text, number, ran)
     }
 
     fn end<K: Sink>(&self, sink: &mut K, text: &mut String) -> Result<Outcome, EngineFault> {
         let Ok(found) = self.audited(&mut Reads::new()) else {
             return Err(EngineFault::NoMemory);
         };
-        tell_found(sink, text, self.session.steps(), found)
+        report_found(sink, text, self.session.steps(), found)
     }
 }
 
 /// Reports what an audit found, and ends the report of a trace that has `steps` step lines.
-fn tell_found<K: Sink>(
+fn report_found<K: Sink>(
     sink: &mut K,
     text: &mut String,
     steps: u64,
@@ -80,8 +80,8 @@ fn tell_found<K: Sink>(
         (K.contents sink.old) (K.contents sink.new)) }
     ensures front { OnErr result
         (WritesFront (found_lines steps found) (K.contents sink.old) (K.contents sink.new)) }
-    ensures counted { TellsWrite (K.failures sink.old) (K.failures sink.new) result }
+    ensures counted { ReportsWrite (K.failures sink.old) (K.failures sink.new) result }
 {
-    tell_audited(sink, text, found)?;
-    tell_end(sink, text, steps, u64::from(found.is_some()))
+    report_audited(sink, text, found)?;
+    report_end(sink, text, steps, u64::from(found.is_some()))
 }

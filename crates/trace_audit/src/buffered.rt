@@ -1,6 +1,6 @@
 //! Auditing from a reader to a writer of std.
 ghost use Rattle.std.specs.Prelude.{IfErr, IfOk, IfSome};
-ghost use Rattle.trace_audit.specs.Audited.{IsAuditBegun, IsAuditTold};
+ghost use Rattle.trace_audit.specs.Audited.{IsAuditBegun, IsAuditReported};
 
 use crate::poked::Audit;
 use std::alloc::{Allocator, Global};
@@ -17,7 +17,7 @@ pub fn audit_buffered<A: Allocator + Copy, R: Read + Drop, W: Write + Drop>(
     writer: W,
 ) -> Result<(Outcome, W), Stopped<W>>
     ensures report { IfOk result
-        (λ r. IsAuditTold A (R.remaining reader) (W.contents writer) (W.contents r.1) r.0) }
+        (λ r. IsAuditReported A (R.remaining reader) (W.contents writer) (W.contents r.1) r.0) }
     ensures begun { IfErr result
         (λ s. IfSome s.writer
         (λ w. IsAuditBegun A (R.remaining reader) (W.contents writer) (W.contents w))) }

@@ -1,5 +1,5 @@
 //! Laws of audits. Each function does nothing, and its contract is the law.
-ghost use Rattle.trace_audit.specs.Laws.{AuditReplays, AuditTells, FirstKeeps, NextKeeps};
+ghost use Rattle.trace_audit.specs.Laws.{AuditReplays, AuditReports, FirstKeeps, NextKeeps};
 
 use std::alloc::Allocator;
 
@@ -9,8 +9,8 @@ pub fn audit_replays<A: Allocator>()
 {}
 
 /// The report of a poked world has a difference exactly if there is one, and then the first.
-pub fn audit_tells<A: Allocator>()
-    ensures { AuditTells A }
+pub fn audit_reports<A: Allocator>()
+    ensures { AuditReports A }
 {}
 
 /// A poke leaves each tree but one, and all the state beside the trees.

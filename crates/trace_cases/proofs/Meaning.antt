@@ -10,7 +10,7 @@ use Rattle.trace_check.specs.Misses.{Miss}
 use Rattle.trace_outcomes.specs.Texts.{is_among, kinds_at, text_at, with_kind, with_kinds}
 use Rattle.trace_cases.specs.Kinds.{is_open, kinds}
 use Rattle.trace_cases.specs.Meaning.{UnmissedIsMet, told_at}
-use Rattle.trace_cases.specs.Races.{never_at, never_missed, other_missed, other_said, others_missed}
+use Rattle.trace_cases.specs.Races.{never_at, never_missed, other_missed, other_text, others_missed}
 
 by_bool : {P : Type 0} (b : Bool) → (b ≡ true → P) → (b ≡ false → P) → P
 by_bool true t f = t refl
@@ -90,7 +90,7 @@ none_of P k d less = absurd (omega (arith, less))
 module _ (steps : List Asked) (number : ℕ) (text : List ℕ) (wanted : List (List ℕ)) (place : ℕ) where
   after : Outcome → List Outcome → Bool → List Miss
   after o more b =
-      if b then other_missed steps number text wanted place more else (number, other_said steps text place o) ∷ []
+      if b then other_missed steps number text wanted place more else (number, other_text steps text place o) ∷ []
 
   others_met : (found : List Outcome)
       → other_missed steps number text wanted place found ≡ []

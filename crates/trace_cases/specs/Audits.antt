@@ -18,8 +18,8 @@ last_from last place (line ∷ rest) =
     last_from (if is_silent line then last else place) (place + 1) rest
 
 -- and of all lines, 0 if all are silent
-abbrev pub last_said : List (List ℕ) → ℕ
-last_said lines = last_from 0 0 lines
+abbrev pub last_spoken_line : List (List ℕ) → ℕ
+last_spoken_line lines = last_from 0 0 lines
 
 -- the report of a line, followed by the audit's finding if it is the last
 abbrev pub with : Bool → List ReportLine → List ReportLine → List ReportLine
@@ -55,9 +55,9 @@ module _ {A : Type 0} where
       × Tells number answer (λ more last. Runs (number + 1) new rest more last) told found
 
 -- the reports of the lines of a trace, with the finding at the end
-pub record IsAuditTold (A : Type 0) (lines : List (List ℕ))
+pub record IsAuditReported (A : Type 0) (lines : List (List ℕ))
     (told : List (List ReportLine)) : Type 0 where
   pub own : List (List ReportLine)
   pub found : Option Disagreement
   pub runs : Runs {A = A} 1 nothing_audited lines own found
-  pub told_is : told ≡ behind 0 (last_said lines) (audited_lines found) own
+  pub told_is : told ≡ behind 0 (last_spoken_line lines) (audited_lines found) own

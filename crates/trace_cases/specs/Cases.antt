@@ -5,7 +5,7 @@ use Rattle.trace_text.specs.declared.report.ReportLine.{ReportLine}
 use Rattle.trace_check.specs.declared.checking.Checked.{Checked}
 use Rattle.trace_check.specs.Checks.{Checks, IsChecked}
 use Rattle.trace_check.specs.Records.{IsRecord, recorded_text}
-use Rattle.trace_cases.specs.Audits.{IsAuditTold}
+use Rattle.trace_cases.specs.Audits.{IsAuditReported}
 use Rattle.trace_cases.specs.RaceChecks.{IsRaceChecked, IsRaceRecord}
 use Rattle.trace_cases.specs.Ways.{has_poke, start_at}
 
@@ -13,13 +13,13 @@ use Rattle.trace_cases.specs.Ways.{has_poke, start_at}
 pub record IsAuditChecked (A : Type 0) (name : List ℕ) (lines : List (List ℕ))
     (checked : Checked) : Type 0 where
   pub told : List (List ReportLine)
-  pub audited : IsAuditTold A lines told
+  pub audited : IsAuditReported A lines told
   pub checks : Checks name lines told checked
 
 -- a text is the record of the bytes of a trace that is audited
 pub record IsAuditRecord (A : Type 0) (trace text : List ℕ) : Type 0 where
   pub told : List (List ReportLine)
-  pub audited : IsAuditTold A (lines_of trace) told
+  pub audited : IsAuditReported A (lines_of trace) told
   pub text_is : text ≡ recorded_text trace told
 
 -- the answer to the bytes of a trace without a poke, by how many lines are before `start`: the

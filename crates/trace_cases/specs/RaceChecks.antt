@@ -12,7 +12,7 @@ use Rattle.trace_check.specs.Checks.{ChecksMissed}
 use Rattle.trace_check.specs.Expectations.{comment, count_expected, expectation}
 use Rattle.trace_check.specs.Records.{is_lacking, joined, recorded_at, without_own}
 use Rattle.trace_check.specs.View.{told_in}
-use Rattle.trace_outcomes.specs.Texts.{kinds_at, kinds_said}
+use Rattle.trace_outcomes.specs.Texts.{kinds_at, kinds_text}
 use Rattle.trace_cases.specs.declared.races.Raced.{Raced}
 use Rattle.trace_cases.specs.Raced.{RacedOf}
 use Rattle.trace_cases.specs.Races.{race_misses, too_many_words}
@@ -45,8 +45,8 @@ pub record IsRaceChecked (name trace : List ℕ) (count : ℕ) (checked : Checke
 abbrev pub note_of : List (List ℕ) → List (List ℕ)
 note_of [] = []
 note_of (kind ∷ more) =
-    if is_some (expectation (comment (kinds_said (kind ∷ more))))
-    then comment (kinds_said (kind ∷ more))
+    if is_some (expectation (comment (kinds_text (kind ∷ more))))
+    then comment (kinds_text (kind ∷ more))
     ∷ []
     else []
 

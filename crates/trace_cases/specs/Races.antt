@@ -9,7 +9,7 @@ use Rattle.trace_text.specs.declared.report.ReportLine.{ReportLine}
 use Rattle.trace_text.specs.declared.report.ReportLine.TheVariants as report
 use Rattle.trace_check.specs.Expectations.{expectation}
 use Rattle.trace_check.specs.Misses.{Miss, misses, other_words}
-use Rattle.trace_outcomes.specs.Texts.{is_among, kinds_at, places_said, text_at}
+use Rattle.trace_outcomes.specs.Texts.{is_among, kinds_at, places_text, text_at}
 use Rattle.trace_cases.specs.Kinds.{is_open, kinds}
 
 -- the reports of lines from a number on if one of them has a fault: the fault alone
@@ -52,10 +52,10 @@ plain steps lines = plain_from steps 0 lines
 
 -- a reply that isn't a listed text, and an order that gives it
 abbrev pub order_words : List Asked → Outcome → List ℕ
-order_words steps o = codes " by order" ++ places_said steps o.order.items
+order_words steps o = codes " by order" ++ places_text steps o.order.items
 
-abbrev pub other_said : List Asked → List ℕ → ℕ → Outcome → List ℕ
-other_said steps text place o =
+abbrev pub other_text : List Asked → List ℕ → ℕ → Outcome → List ℕ
+other_text steps text place o =
     other_words text (text_at place o.replies.items) ++ order_words steps o
 
 -- the first outcome whose reply to the step at a place isn't a listed text
@@ -64,7 +64,7 @@ other_missed steps number text wanted place [] = []
 other_missed steps number text wanted place (o ∷ more) =
     if is_among wanted (text_at place o.replies.items)
     then other_missed steps number text wanted place more
-    else (number, other_said steps text place o) ∷ []
+    else (number, other_text steps text place o) ∷ []
 
 -- no miss of this kind if others may come, too
 abbrev pub others_missed : List Asked → ℕ → List ℕ → List (List ℕ) → ℕ → List Outcome → List Miss

@@ -2,16 +2,16 @@
 ghost use Rattle.std.specs.Prelude.{◌≡◌, ◌≤◌, IfOk, length, map};
 ghost use Rattle.trace_audit.specs.Audited.{nothing_audited};
 ghost use Rattle.trace_audit.specs.View.{audited_of};
-ghost use Rattle.trace_cases.specs.Audits.{IsAuditTold, Runs};
+ghost use Rattle.trace_cases.specs.Audits.{IsAuditReported, Runs};
 ghost use Rattle.trace_check.specs.View.{told_in};
 ghost use Rattle.trace_text.specs.Ready.{IsReady};
 
-use crate::found::{last_said, with_found};
+use crate::found::{last_spoken_line, with_found};
 use ghost_judge::disagreement::Disagreement;
 use std::alloc::{AllocError, Allocator, Global};
 use table_tree::Reads;
 use trace_audit::Audit;
-use trace_check::{told_fault, told_lines};
+use trace_check::{lines_of_report, report_of_fault};
 use trace_text::{Fault, MOST_LINES, ReportLine, Stop};
 
 /// What the lines of a trace reported.
@@ -29,14 +29,15 @@ pub(crate) fn audited<A: Allocator + Copy>(
     alloc: A,
     lines: &[&[u8]],
 ) -> Result<Vec<Vec<ReportLine>>, AllocError>
-    ensures told { IfOk result (λ told. IsAuditTold A (map (λ line. line.now) lines.now) (told_in told.items)) }
+    ensures told { IfOk result
+        (λ told. IsAuditReported A (map (λ line. line.now) lines.now) (told_in told.items)) }
     ensures few { IfOk result (λ told. length told.items ≤ length lines.now) }
 {
     let carried = carry_out(global, alloc, lines)?;
     with_found(
         global,
         carried.told.as_slice(),
-        last_said(lines),
+        last_spoken_line(lines),
         carried.found,
     )
 }
@@ -73,13 +74,13 @@ fn carry_to_end<A: Allocator + Copy>(
     for (place, line) in lines.iter().enumerate() {
         let number = place as u64 + 1;
         if number > MOST_LINES {
-            told.push(told_fault(global, number, Fault::Lines)?)?;
+            told.push(report_of_fault(global, number, Fault::Lines)?)?;
             return Ok(Carried { told, found: None });
         }
         match audit.run(number, line) {
-            Ok(reported) => told.push(told_lines(global, &audit.session, reported)?)?,
+            Ok(reported) => told.push(lines_of_report(global, &audit.session, reported)?)?,
             Err(Stop::Fault(fault)) => {
-                told.push(told_fault(global, number, fault)?)?;
+                told.push(report_of_fault(global, number, fault)?)?;
                 return Ok(Carried { told, found: None });
             }
             Err(Stop::NoMemory) => return Err(AllocError),

@@ -11,7 +11,7 @@ use crate::raced::race_misses;
 use crate::races::{Raced, raced_lines};
 use crate::ways::{has_poke, start_at};
 use std::alloc::{AllocError, Allocator, Global};
-use trace_check::{Checked, Watch, check_missed, check_told, count_expected, record_told};
+use trace_check::{Checked, Watch, check_missed, check_reported, count_expected, record_reported};
 use trace_faults::add_file_line;
 use trace_reader::lines;
 
@@ -47,7 +47,7 @@ fn check_audited<A: Allocator + Copy>(
     ensures { IfOk result (IsAuditChecked A name.now (map (λ line. line.now) lines.now)) }
 {
     let told = audited(global, alloc, lines)?;
-    check_told(global, name, lines, told.as_slice())
+    check_reported(global, name, lines, told.as_slice())
 }
 
 /// A trace whose steps after `start` may be made in any order.
@@ -64,10 +64,10 @@ fn check_raced<A: Allocator + Copy>(
     ensures { IfOk result (IsRaceChecked name.now trace.now (start + 1)) }
 {
     let raced = raced_lines(global, alloc, trace, lines, start)?;
-    check_told_raced(global, name, lines, &raced)
+    check_reported_raced(global, name, lines, &raced)
 }
 
-fn check_told_raced(
+fn check_reported_raced(
     global: Global,
     name: &str,
     lines: &[&[u8]],
@@ -133,7 +133,7 @@ fn record_audited<A: Allocator + Copy>(
     ensures { IfOk result (λ text. IsAuditRecord A trace.now text.items) }
 {
     let told = audited(global, alloc, lines)?;
-    record_told(global, trace, lines, told.as_slice())
+    record_reported(global, trace, lines, told.as_slice())
 }
 
 fn record_raced<A: Allocator + Copy>(
@@ -148,10 +148,10 @@ fn record_raced<A: Allocator + Copy>(
     ensures { IfOk result (λ text. IsRaceRecord trace.now (start + 1) text.items) }
 {
     let raced = raced_lines(global, alloc, trace, lines, start)?;
-    record_told_raced(global, trace, lines, &raced)
+    record_reported_raced(global, trace, lines, &raced)
 }
 
-fn record_told_raced(
+fn record_reported_raced(
     global: Global,
     trace: &[u8],
     lines: &[&[u8]],

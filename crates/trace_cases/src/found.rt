@@ -1,6 +1,6 @@
 //! The place of an audit's finding: after the report of the last line that isn't silent.
 ghost use Rattle.std.specs.Prelude.{◌≡◌, ◌++◌, ◌≤◌, IfOk, OnOk, length, map};
-ghost use Rattle.trace_cases.specs.Audits.{behind, last_said as last_said_by, with as with_by};
+ghost use Rattle.trace_cases.specs.Audits.{behind, last_spoken_line as last_spoken_line_by, with as with_by};
 ghost use Rattle.trace_check.specs.View.{told_in};
 ghost use Rattle.trace_text.specs.Oracles.{audited_lines};
 ghost use Rattle.trace_words.specs.Words.{is_silent as is_silent_line};
@@ -10,8 +10,8 @@ use std::alloc::{AllocError, Global};
 use trace_text::ReportLine;
 
 /// The place of the last line that isn't silent; 0 if all are.
-pub(crate) fn last_said(lines: &[&[u8]]) -> usize
-    ensures { result ≡ last_said_by (map (λ line. line.now) lines.now) }
+pub(crate) fn last_spoken_line(lines: &[&[u8]]) -> usize
+    ensures { result ≡ last_spoken_line_by (map (λ line. line.now) lines.now) }
 {
     let mut last = 0;
     for (place, line) in lines.iter().enumerate() {

@@ -187,7 +187,7 @@ fn add_other(
     for outcome in found {
         let reply = text_at(global, outcome.replies.as_slice(), place)?;
         if !is_among(wanted, reply.as_slice()) {
-            let said = other_said(global, steps, outcome, text, reply.as_slice())?;
+            let said = other_text(global, steps, outcome, text, reply.as_slice())?;
             return add(missed, number, said);
         }
     }
@@ -195,7 +195,7 @@ fn add_other(
 }
 
 /// What is wrong with a reply, and an order that gives it.
-fn other_said(
+fn other_text(
     global: Global,
     steps: &[Asked],
     outcome: &Outcome,
@@ -248,10 +248,10 @@ fn add_never_at(
     if is_among(come, kind) {
         return Ok(());
     }
-    add(missed, number, never_said(global, kind)?)
+    add(missed, number, never_text(global, kind)?)
 }
 
-fn never_said(global: Global, kind: &[u8]) -> Result<Vec<u8>, AllocError>
+fn never_text(global: Global, kind: &[u8]) -> Result<Vec<u8>, AllocError>
     ensures { IfOk result (λ said. said.items ≡ codes "never " ++ kind.now) }
 {
     let mut said = Vec::from_slice(global, b"never ")?;

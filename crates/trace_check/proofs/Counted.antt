@@ -4,7 +4,7 @@ use Rattle.std.specs.Prelude.{◌↔◌}
 use Rattle.std.proofs.lemmas.Bool.Decides.{nat_tests}
 use Rattle.trace_reader.specs.Reading.{lines_of}
 use Rattle.trace_text.specs.declared.report.ReportLine.{ReportLine}
-use Rattle.trace_check.specs.Checks.{boot_said, count_wrong, has_begun, miss_lines, mistaken_lines, none_said, spot_said, sum_said}
+use Rattle.trace_check.specs.Checks.{boot_text, count_wrong, has_begun, miss_lines, mistaken_lines, none_text, spot_text, sum_text}
 use Rattle.trace_check.specs.Expectations.{count_expected}
 use Rattle.trace_check.specs.Laws.{CheckCounts, IsClean}
 use Rattle.trace_check.specs.Misses.{misses}
@@ -47,8 +47,8 @@ check_counts name trace checked h =
     let missed = misses lines h.told in
     let wrong = count_wrong lines h.told in
     let front =
-    miss_lines name missed ++ mistaken_lines name 1 lines ++ spot_said name lines h.told (length missed)
-    ++ boot_said name (has_begun h.told) ++ none_said name (count_expected lines) in
+    miss_lines name missed ++ mistaken_lines name 1 lines ++ spot_text name lines h.told (length missed)
+    ++ boot_text name (has_begun h.told) ++ none_text name (count_expected lines) in
     let clean = clean_by h.told (count_expected lines) wrong in
     let numbers : (n : ℕ) → n ≡ count_expected lines → (m : ℕ) → m ≡ wrong → (checked.clean ≡ true) ↔ IsClean h.told n m =
     λ n en m em. subst (λ x. (checked.clean ≡ true) ↔ IsClean h.told n x) (sym em)
@@ -61,7 +61,7 @@ check_counts name trace checked h =
       wrong = h.checks.wrong;
       front = front;
       last =
-          h.checks.text ∙ ap (λ n. front ++ sum_said name n wrong) (sym h.checks.expected)
-          ∙ ap (λ n. front ++ sum_said name checked.expected n) (sym h.checks.wrong);
+          h.checks.text ∙ ap (λ n. front ++ sum_text name n wrong) (sym h.checks.expected)
+          ∙ ap (λ n. front ++ sum_text name checked.expected n) (sym h.checks.wrong);
       clean = numbers checked.expected h.checks.expected checked.wrong h.checks.wrong;
     }

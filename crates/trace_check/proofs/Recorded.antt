@@ -22,7 +22,7 @@ use Rattle.trace_text.specs.Oracles.{agreed}
 use Rattle.trace_text.specs.Replay.{IsPlayed}
 use Rattle.trace_text.specs.Session.{Answer, Follows, RunsLine, Standing, allowed, at_start}
 use Rattle.trace_check.specs.Expectations.{comment, expectation, expected_first}
-use Rattle.trace_check.specs.Laws.{RecordedIsMet, shown_told}
+use Rattle.trace_check.specs.Laws.{RecordedIsMet, shown_report}
 use Rattle.trace_check.specs.Misses.{extra, missed, missed_by, misses, other_at, rest_missed, unmet}
 use Rattle.trace_check.specs.Records.{can_expect, noted, notes, recorded, without_own}
 use Rattle.trace_check.specs.Runs.{Runs, Tells}
@@ -148,7 +148,7 @@ module _ (lines : List (List ℕ)) (told : List (List ReportLine)) where
   passed_recorded [] c = refl
   passed_recorded (line ∷ comments) c = rw c.0.value (passed_recorded comments c.1)
 
-  passed_shown : (comments : List (List ℕ)) → shown_told (silences comments told) ≡ shown_told told
+  passed_shown : (comments : List (List ℕ)) → shown_report (silences comments told) ≡ shown_report told
   unfolding silences
   passed_shown [] = refl
   passed_shown (line ∷ comments) = passed_shown comments
@@ -157,7 +157,7 @@ module _ (lines : List (List ℕ)) (told : List (List ReportLine)) where
 pub record Meets (number : ℕ) (old : Standing) (lines texts : List (List ℕ)) : Type 0 where
   pub told : List (List ReportLine)
   pub runs : Runs number old lines told
-  pub texts_are : shown_told told ≡ texts
+  pub texts_are : shown_report told ≡ texts
   pub met : missed number lines told ≡ []
   pub again : recorded lines told ≡ lines
 
@@ -227,7 +227,7 @@ module _ (line : List ℕ) (off : is_some (expectation line) ≡ false) (number 
       (silences comments rest.told, refl, passed lines rest.told comments (number + 1) new c few rest.runs),
     );
     texts_are =
-        ap (λ l. l ++ shown_told (silences comments rest.told)) (sym same.shows)
+        ap (λ l. l ++ shown_report (silences comments rest.told)) (sym same.shows)
         ∙ ap (λ t. map shown a ++ t) (passed_shown lines rest.told comments ∙ rest.texts_are);
     met =
         rw off
@@ -270,7 +270,7 @@ module _ (line : List ℕ) (off : is_some (expectation line) ≡ false) (number 
       → RunsLine agreed number line old (Err (stops.Fault fault)) new
       → number ≤ 1048576
       → Meets number old (line ∷ (noted (report.Fault before fault ∷ []) ++ without_own rest))
-      (shown_told ((report.Fault before fault ∷ []) ∷ []))
+      (shown_report ((report.Fault before fault ∷ []) ∷ []))
   meets_fault before rest fault does few =
       let told = report.Fault number fault ∷ [] in
       let all = noted_all (report.Fault before fault ∷ []) (fits fault before) in
@@ -278,7 +278,7 @@ module _ (line : List ℕ) (off : is_some (expectation line) ≡ false) (number 
       let texts_are : expected_first (notes told ++ without_own rest) ≡ map shown told =
       first_expected (map shown told) (without_own rest) comments ∙ ap (λ l. map shown told ++ l) (own_gone rest) in
       subst
-      (λ n. Meets number old (line ∷ (n ++ without_own rest)) (shown_told ((report.Fault before fault ∷ []) ∷ [])))
+      (λ n. Meets number old (line ∷ (n ++ without_own rest)) (shown_report ((report.Fault before fault ∷ []) ∷ [])))
       (sym all)
       (record {
         told = told ∷ [];
@@ -300,7 +300,7 @@ module _ (line : List ℕ) (rest : List (List ℕ)) (off : is_some (expectation 
     (follows : (more : List (List ReportLine)) (next : ℕ)
     → Runs (number + 1) new rest more
     → next + length (recorded rest more) ≤ 1048577
-    → Meets next new (recorded rest more) (shown_told more)) where
+    → Meets next new (recorded rest more) (shown_report more)) where
   -- what is recorded of the line, and of those after it
   recorded_line : (reported : List ReportLine) (more : List (List ReportLine))
       → recorded (line ∷ rest) (reported ∷ more) ≡ line ∷ (noted reported ++ recorded rest more)
@@ -319,20 +319,20 @@ module _ (line : List ℕ) (rest : List (List ℕ)) (off : is_some (expectation 
       → Same answer a
       → RunsLine agreed other line old a new
       → Tells number answer (λ more. Runs (number + 1) new rest more) told
-      → Meets other old (recorded (line ∷ rest) told) (shown_told told)
+      → Meets other old (recorded (line ∷ rest) told) (shown_report told)
   by_answer (Ok a) (Ok b) same does (more, is, runs) =
       let enough = counted a more is in
-      subst (λ t. Meets other old (recorded (line ∷ rest) t) (shown_told t)) (sym is)
-      (subst (λ r. Meets other old r (map shown a ++ shown_told more)) (sym (recorded_line a more))
-      (meets_reported line off other old new (recorded rest more) (shown_told more) a b same does
+      subst (λ t. Meets other old (recorded (line ∷ rest) t) (shown_report t)) (sym is)
+      (subst (λ r. Meets other old r (map shown a ++ shown_report more)) (sym (recorded_line a more))
+      (meets_reported line off other old new (recorded rest more) (shown_report more) a b same does
       (starts rest more) enough (follows more (other + 1 + length (noted a)) runs enough)))
   by_answer (Ok a) (Err stop) same does tells = absurd same
   by_answer (Err stop) (Ok b) same does tells = absurd same
   by_answer (Err stops.NoMemory) (Err stop) same does tells = absurd tells
   by_answer (Err (stops.Fault fault)) (Err stop) same does tells =
       let enough = counted (report.Fault number fault ∷ []) [] tells in
-      subst (λ t. Meets other old (recorded (line ∷ rest) t) (shown_told t)) (sym tells)
-      (subst (λ r. Meets other old r (shown_told ((report.Fault number fault ∷ []) ∷ [])))
+      subst (λ t. Meets other old (recorded (line ∷ rest) t) (shown_report t)) (sym tells)
+      (subst (λ r. Meets other old r (shown_report ((report.Fault number fault ∷ []) ∷ [])))
       (sym (recorded_line (report.Fault number fault ∷ []) []))
       (meets_fault line off other old new number rest fault
       (subst (λ s. RunsLine agreed other line old (Err s) new) (sym same) does) (omega (arith, enough))))
@@ -346,9 +346,9 @@ gone line rest more e = rw e refl
 meets : (lines : List (List ℕ)) (number other : ℕ) (old : Standing) (told : List (List ReportLine))
     → Runs number old lines told
     → number + length lines ≤ 1048577
-    → other + length (recorded lines told) ≤ 1048577 → Meets other old (recorded lines told) (shown_told told)
+    → other + length (recorded lines told) ≤ 1048577 → Meets other old (recorded lines told) (shown_report told)
 meets [] number other old told runs few few' =
-    subst (λ t. Meets other old (recorded [] t) (shown_told t)) (sym runs)
+    subst (λ t. Meets other old (recorded [] t) (shown_report t)) (sym runs)
     (record { told = []; runs = refl; texts_are = refl; met = refl; again = refl })
 meets (line ∷ rest) number other old told (answer, new, at, tells) few few' =
     let does = at.runs (omega (arith, few)) in
@@ -360,8 +360,8 @@ meets (line ∷ rest) number other old told (answer, new, at, tells) few few' =
     let lines : recorded (line ∷ rest) told ≡ recorded rest t.0 =
     ap (recorded (line ∷ rest)) is ∙ gone line rest t.0 e in
     let less : other + length (recorded rest t.0) ≤ 1048577 = omega (arith, few', ap length lines) in
-    subst (λ r. Meets other old r (shown_told told)) (sym lines)
-    (subst (λ s. Meets other old (recorded rest t.0) (shown_told s)) (sym is)
+    subst (λ r. Meets other old r (shown_report told)) (sym lines)
+    (subst (λ s. Meets other old (recorded rest t.0) (shown_report s)) (sym is)
     (meets rest (number + 1) other old t.0 (subst (λ s. Runs (number + 1) s rest t.0) d.1 t.2)
     (omega (arith, few)) less)))
     (λ e.

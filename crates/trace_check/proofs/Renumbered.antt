@@ -25,7 +25,7 @@ use Rattle.trace_text.specs.declared.session.Stop.{Stop}
 use Rattle.trace_text.specs.declared.session.Stop.TheVariants as stops
 use Rattle.trace_text.specs.Oracles.{IsAgreed, agreed, audited_lines, judged_lines, verdict_lines}
 use Rattle.trace_text.specs.Session.{Answer, Answers, Follows, HasBooted, IsNoWorld, MakesStep, Standing, Starts}
-use Rattle.trace_text.specs.Worlds.{Machine, free_told, guest_free_told}
+use Rattle.trace_text.specs.Worlds.{Machine, shared_free_count, guest_free_count}
 use Rattle.trace_check.specs.Misses.{unexpected}
 use Rattle.trace_check.specs.Shown.{shown}
 
@@ -74,8 +74,8 @@ module _ (number other : ℕ) (old new : Standing) (answer : Answer) where
 
   by_query : (m : Machine) (query : Query) → Answers query m old answer new → Same answer answer
   by_query m (queries.Word tree page level) h = asks (option_map responses.Word h.0) faults.Path h.2.0
-  by_query m queries.FreeShared h = asks (Some (responses.Free (free_told m))) (faults.Line Place) h.0
-  by_query m (queries.FreeGuest slot) h = asks (Some (responses.Free (guest_free_told m slot))) (faults.Line Place) h.0
+  by_query m queries.FreeShared h = asks (Some (responses.Free (shared_free_count m))) (faults.Line Place) h.0
+  by_query m (queries.FreeGuest slot) h = asks (Some (responses.Free (guest_free_count m slot))) (faults.Line Place) h.0
   by_query m (queries.Show tree) h = same_ok answer (map report.Response (map responses.Run h.0)) h.2 (runs_plain h.0)
 
   by_machine : (does : Machine → Standing → Answer → Standing → Type 0)

@@ -5,14 +5,14 @@ use Rattle.trace_text.specs.declared.report.ReportLine.{ReportLine}
 use Rattle.trace_text.specs.declared.session.Stop.TheVariants as stops
 use Rattle.trace_text.specs.Replay.{end_line, outcome_of}
 use Rattle.trace_text.specs.Session.{Standing, at_start}
-use Rattle.trace_check.specs.Laws.{IsReplayTold, ToldIsReplayed, reported_by}
+use Rattle.trace_check.specs.Laws.{IsReplayReported, ReportedIsReplayed, reported_by}
 use Rattle.trace_check.specs.Runs.{Runs}
 
 replayed : (lines : List (List ℕ)) (number : ℕ) (old : Standing) (told : List (List ReportLine))
     → Runs number old lines told
-    → IsReplayTold number old lines told
+    → IsReplayReported number old lines told
 replayed [] number old told runs =
-    subst (IsReplayTold number old []) (sym runs)
+    subst (IsReplayReported number old []) (sym runs)
     (record {
       last = end_line old
           ∷ [];
@@ -21,7 +21,7 @@ replayed [] number old told runs =
       report = (refl, refl);
     })
 replayed (line ∷ rest) number old told (Err (stops.Fault fault), new, at, tells) =
-    subst (IsReplayTold number old (line ∷ rest)) (sym tells)
+    subst (IsReplayReported number old (line ∷ rest)) (sym tells)
     (record {
       last = [];
       few = omega arith;
@@ -31,7 +31,7 @@ replayed (line ∷ rest) number old told (Err (stops.Fault fault), new, at, tell
 replayed (line ∷ rest) number old told (Err stops.NoMemory, new, at, tells) = absurd tells
 replayed (line ∷ rest) number old told (Ok reported, new, at, (more, is, runs)) =
     let r = replayed rest (number + 1) new more runs in
-    subst (IsReplayTold number old (line ∷ rest)) (sym is)
+    subst (IsReplayReported number old (line ∷ rest)) (sym is)
     (record {
       last = r.last;
       few = r.few;
@@ -44,5 +44,5 @@ replayed (line ∷ rest) number old told (Ok reported, new, at, (more, is, runs)
       );
     })
 
-pub told_replayed : ToldIsReplayed
+pub told_replayed : ReportedIsReplayed
 told_replayed lines told runs = replayed lines 1 at_start told runs

@@ -32,13 +32,13 @@ abbrev pub first_line : List ℕ → ℕ → List ℕ → List ℕ
 first_line name number said = name ++ codes ":" ++ decimal number ++ codes ":1: " ++ said ++ 10 ∷ []
 
 -- the mistake of a comment that is like an expectation but isn't one
-unfoldable pub mistaken_said : List ℕ → List ℕ
-mistaken_said line =
+unfoldable pub mistaken_text : List ℕ → List ℕ
+mistaken_text line =
     codes "no expectation: found `" ++ line ++ codes "`, wanted `#= ` and what is expected"
 
 -- the line for it
 abbrev pub mistaken_line : List ℕ → ℕ → List ℕ → List ℕ
-mistaken_line name number line = first_line name number (mistaken_said line)
+mistaken_line name number line = first_line name number (mistaken_text line)
 
 -- all of those of the lines from a number on
 abbrev pub mistaken_lines : List ℕ → ℕ → List (List ℕ) → List ℕ
@@ -57,29 +57,29 @@ last_fault told =
     elim (slice_get told (length told - 1)) [ Some reported ↦ fault_in reported | None ↦ None ]
 
 -- the place of the fault that ended the run, if there is a miss
-abbrev pub spot_said : List ℕ → List (List ℕ) → List (List ReportLine) → ℕ → List ℕ
-spot_said name lines told missed =
+abbrev pub spot_text : List ℕ → List (List ℕ) → List (List ReportLine) → ℕ → List ℕ
+spot_text name lines told missed =
     if missed == 0 then []
     else elim (last_fault told)
     [ Some fault ↦ place_line name lines (length told - 1) fault | None ↦ [] ]
 
 -- the report of a whole file
-abbrev pub boot_said : List ℕ → Bool → List ℕ
-boot_said name begun = if begun then [] else file_line name (codes "no boot")
+abbrev pub boot_text : List ℕ → Bool → List ℕ
+boot_text name begun = if begun then [] else file_line name (codes "no boot")
 
-abbrev pub none_said : List ℕ → ℕ → List ℕ
-none_said name expected = if expected == 0 then file_line name (codes "nothing is expected") else []
+abbrev pub none_text : List ℕ → ℕ → List ℕ
+none_text name expected = if expected == 0 then file_line name (codes "nothing is expected") else []
 
-abbrev pub sum_said : List ℕ → ℕ → ℕ → List ℕ
-sum_said name expected wrong =
+abbrev pub sum_text : List ℕ → ℕ → ℕ → List ℕ
+sum_text name expected wrong =
     file_line name (decimal expected ++ codes " expected, " ++ decimal wrong ++ codes " wrong")
 
 -- the whole text for lines with these reports and misses
 abbrev pub said_of : List ℕ → List (List ℕ) → List (List ReportLine) → List Miss → ℕ → ℕ → List ℕ
 said_of name lines told missed expected wrong =
     miss_lines name missed ++ mistaken_lines name 1 lines
-    ++ spot_said name lines told (length missed) ++ boot_said name (has_begun told)
-    ++ none_said name expected ++ sum_said name expected wrong
+    ++ spot_text name lines told (length missed) ++ boot_text name (has_begun told)
+    ++ none_text name expected ++ sum_text name expected wrong
 
 -- how many misses and comments that are like an expectation a trace has
 abbrev pub count_wrong : List (List ℕ) → List (List ReportLine) → ℕ

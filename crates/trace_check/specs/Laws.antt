@@ -7,7 +7,7 @@ use Rattle.trace_text.specs.Oracles.{agreed}
 use Rattle.trace_text.specs.Replay.{IsReport}
 use Rattle.trace_text.specs.Session.{Standing, at_start}
 use Rattle.trace_check.specs.declared.checking.Checked.{Checked}
-use Rattle.trace_check.specs.Checks.{IsChecked, count_wrong, has_begun, sum_said}
+use Rattle.trace_check.specs.Checks.{IsChecked, count_wrong, has_begun, sum_text}
 use Rattle.trace_check.specs.Expectations.{count_expected}
 use Rattle.trace_check.specs.Misses.{misses, rest_missed}
 use Rattle.trace_check.specs.Records.{IsRecord, recorded, recorded_text}
@@ -15,16 +15,16 @@ use Rattle.trace_check.specs.Runs.{Runs}
 use Rattle.trace_check.specs.Shown.{shown}
 
 -- what lines report, one after another, as expectations have it
-abbrev pub shown_told : List (List ReportLine) → List (List ℕ)
-shown_told [] = []
-shown_told (reported ∷ more) = map shown reported ++ shown_told more
+abbrev pub shown_report : List (List ReportLine) → List (List ℕ)
+shown_report [] = []
+shown_report (reported ∷ more) = map shown reported ++ shown_report more
 
 -- lines that are carried out and report these texts, of which nothing is missed but lines that
 -- aren't reached, and which are recorded as they are
 pub record IsMet (lines : List (List ℕ)) (texts : List (List ℕ)) : Type 0 where
   pub told : List (List ReportLine)
   pub runs : Runs 1 at_start lines told
-  pub texts_are : shown_told told ≡ texts
+  pub texts_are : shown_report told ≡ texts
   pub met : misses lines told ≡ rest_missed lines told
   pub again : recorded lines told ≡ lines
 
@@ -35,7 +35,7 @@ RecordedIsMet =
     → Runs 1 at_start lines told
     → length lines ≤ 1048576
     → length (recorded lines told) ≤ 1048576
-    → IsMet (recorded lines told) (shown_told told)
+    → IsMet (recorded lines told) (shown_report told)
 
 -- a trace is met: its lines are carried out, of its expectations none is missed but those of lines
 -- that aren't reached, and it is recorded as it is
@@ -60,7 +60,7 @@ reported_by [] = []
 reported_by (reported ∷ more) = reported ++ reported_by more
 
 -- the text is the report of a replay of these lines from a number on, but for at most one last line
-pub record IsReplayTold (number : ℕ) (old : Standing) (lines : List (List ℕ))
+pub record IsReplayReported (number : ℕ) (old : Standing) (lines : List (List ℕ))
     (told : List (List ReportLine)) : Type 0 where
   pub last : List ReportLine
   pub few : length last ≤ 1
@@ -68,11 +68,11 @@ pub record IsReplayTold (number : ℕ) (old : Standing) (lines : List (List ℕ)
   pub report : IsReport agreed number old lines (reported_by told ++ last) outcome
 
 -- so is the whole report of a trace
-abbrev pub ToldIsReplayed : Type 0
-ToldIsReplayed =
+abbrev pub ReportedIsReplayed : Type 0
+ReportedIsReplayed =
     (lines : List (List ℕ)) (told : List (List ReportLine))
     → Runs 1 at_start lines told
-    → IsReplayTold 1 at_start lines told
+    → IsReplayReported 1 at_start lines told
 
 -- a trace is clean: its machine booted, or a fault says why not, something is expected, and nothing
 -- is wrong
@@ -90,7 +90,7 @@ pub record CountsMisses (name trace : List ℕ) (checked : Checked) : Type 0 whe
   pub expected : checked.expected ≡ count_expected (lines_of trace)
   pub wrong : checked.wrong ≡ count_wrong (lines_of trace) told
   pub front : List ℕ
-  pub last : checked.text.items ≡ front ++ sum_said name checked.expected checked.wrong
+  pub last : checked.text.items ≡ front ++ sum_text name checked.expected checked.wrong
   pub clean : (checked.clean ≡ true) ↔ IsClean told checked.expected checked.wrong
 
 -- so does each

@@ -66,7 +66,7 @@ fn carry_to_end<A: Allocator + Copy>(
         (told_in carried.told.items)) }
     ensures found { IfOk result (λ carried. carried.found ≡ None) }
 {
-    let told = told_of_lines(global, session, lines, watch)?;
+    let told = report_of_lines(global, session, lines, watch)?;
     let found = found_at_end(session, watch)?;
     Ok(Carried { told, found })
 }
@@ -85,7 +85,7 @@ fn found_at_end<A: Allocator + Copy>(
 }
 
 /// What each line reports.
-fn told_of_lines<A: Allocator + Copy>(
+fn report_of_lines<A: Allocator + Copy>(
     global: Global,
     session: &mut Session<A>,
     lines: &[&[u8]],
@@ -100,13 +100,13 @@ fn told_of_lines<A: Allocator + Copy>(
     for (place, line) in lines.iter().enumerate() {
         let number = place as u64 + 1;
         if number > MOST_LINES {
-            told.push(told_fault(global, number, Fault::Lines)?)?;
+            told.push(report_of_fault(global, number, Fault::Lines)?)?;
             return Ok(told);
         }
         match run_line(session, number, line, watch) {
-            Ok(reported) => told.push(told_lines(global, session, reported)?)?,
+            Ok(reported) => told.push(lines_of_report(global, session, reported)?)?,
             Err(Stop::Fault(fault)) => {
-                told.push(told_fault(global, number, fault)?)?;
+                told.push(report_of_fault(global, number, fault)?)?;
                 return Ok(told);
             }
             Err(Stop::NoMemory) => return Err(AllocError),
@@ -137,7 +137,11 @@ fn run_line<A: Allocator + Copy>(
 }
 
 /// The fault of the line of a number.
-pub fn told_fault(global: Global, number: u64, fault: Fault) -> Result<Vec<ReportLine>, AllocError>
+pub fn report_of_fault(
+    global: Global,
+    number: u64,
+    fault: Fault,
+) -> Result<Vec<ReportLine>, AllocError>
     ensures { IfOk result (λ told. told.items ≡ ReportLine.Fault number fault ∷ []) }
 {
     let line = number;
@@ -145,7 +149,7 @@ pub fn told_fault(global: Global, number: u64, fault: Fault) -> Result<Vec<Repor
 }
 
 /// The lines of the report that a line makes.
-pub fn told_lines<A: Allocator + Copy>(
+pub fn lines_of_report<A: Allocator + Copy>(
     global: Global,
     session: &Session<A>,
     reported: Reported,
@@ -155,16 +159,16 @@ pub fn told_lines<A: Allocator + Copy>(
     match reported {
         Reported::Nothing => Ok(Vec::new(global)),
         Reported::Line(line) => Vec::from_slice(global, &[ReportLine::Response(line)]),
-        Reported::Step(line, verdict) => told_step(global, line, verdict),
+        Reported::Step(line, verdict) => report_of_step(global, line, verdict),
         Reported::Maplets(tree) => match session.maplets(tree) {
-            Some(maplets) => told_runs(global, maplets.iter()),
+            Some(maplets) => report_of_runs(global, maplets.iter()),
             None => Ok(Vec::new(global)),
         },
     }
 }
 
 /// The line of a step, and what the oracle found at it.
-fn told_step(
+fn report_of_step(
     global: Global,
     line: Response,
     verdict: Verdict,
@@ -196,7 +200,7 @@ fn add_audited(told: &mut Vec<ReportLine>, found: Option<Disagreement>) -> Resul
 }
 
 /// A line for each run of maplets.
-fn told_runs(global: Global, runs: Runs<'_>) -> Result<Vec<ReportLine>, AllocError>
+fn report_of_runs(global: Global, runs: Runs<'_>) -> Result<Vec<ReportLine>, AllocError>
     ensures { IfOk result (λ told. told.items ≡ map ReportLine.Response (map Response.Run runs.entry)) }
 {
     let mut told = Vec::new(global);

@@ -42,7 +42,7 @@ pub fn check<A: Allocator + Copy>(
     let lines = lines(global, trace)?;
     let carried = carry_out(global, alloc, lines.as_slice(), watch)?;
     let Carried { told, found } = carried;
-    let checked = check_told(global, name, lines.as_slice(), told.as_slice())?;
+    let checked = check_reported(global, name, lines.as_slice(), told.as_slice())?;
     with_found(global, name, checked, found)
 }
 
@@ -66,7 +66,7 @@ fn with_found(
 }
 
 /// The check of lines, by what those that were carried out report.
-pub fn check_told(
+pub fn check_reported(
     global: Global,
     name: &str,
     lines: &[&[u8]],

@@ -276,7 +276,7 @@ fn add_expected(
 ) -> Result<(), AllocError>
     ensures { OnOk result (AddsMisses found.old found.new ((number, unmet_words text.now why.now) ∷ [])) }
 {
-    add(found, number, unmet_said(global, text, why)?)
+    add(found, number, unmet_text(global, text, why)?)
 }
 
 /// A text that was reported in place of the expected one.
@@ -293,7 +293,7 @@ fn add_other(
     if got.as_bytes() == text {
         return Ok(());
     }
-    add(found, number, other_said(global, text, got.as_bytes())?)
+    add(found, number, other_text(global, text, got.as_bytes())?)
 }
 
 /// Texts that were reported past the last that was expected.
@@ -319,7 +319,7 @@ fn add_extra_at(
 ) -> Result<(), AllocError>
     ensures { OnOk result (AddsMisses found.old found.new ((number, extra_words got.now) ∷ [])) }
 {
-    add(found, number, extra_said(global, got)?)
+    add(found, number, extra_text(global, got)?)
 }
 
 /// Faults and disagreements of a line that expects nothing.
@@ -348,7 +348,7 @@ fn add_unexpected_at(
     if is_plain(told) {
         return Ok(());
     }
-    add(found, number, unexpected_said(global, told)?)
+    add(found, number, unexpected_text(global, told)?)
 }
 
 /// The lines after the one that ended the run, whose number is given.
@@ -439,7 +439,7 @@ fn add(found: &mut Vec<Miss>, line: u64, said: Vec<u8>) -> Result<(), AllocError
     Ok(())
 }
 
-fn other_said(global: Global, text: &[u8], got: &[u8]) -> Result<Vec<u8>, AllocError>
+fn other_text(global: Global, text: &[u8], got: &[u8]) -> Result<Vec<u8>, AllocError>
     ensures { IfOk result (λ said. said.items ≡ other_words text.now got.now) }
 {
     let mut said = Vec::from_slice(global, b"expected ")?;
@@ -449,7 +449,7 @@ fn other_said(global: Global, text: &[u8], got: &[u8]) -> Result<Vec<u8>, AllocE
     Ok(said)
 }
 
-fn extra_said(global: Global, got: &[u8]) -> Result<Vec<u8>, AllocError>
+fn extra_text(global: Global, got: &[u8]) -> Result<Vec<u8>, AllocError>
     ensures { IfOk result (λ said. said.items ≡ extra_words got.now) }
 {
     let mut said = Vec::from_slice(global, b"got ")?;
@@ -458,7 +458,7 @@ fn extra_said(global: Global, got: &[u8]) -> Result<Vec<u8>, AllocError>
     Ok(said)
 }
 
-fn unmet_said(global: Global, text: &[u8], why: &[u8]) -> Result<Vec<u8>, AllocError>
+fn unmet_text(global: Global, text: &[u8], why: &[u8]) -> Result<Vec<u8>, AllocError>
     ensures { IfOk result (λ said. said.items ≡ unmet_words text.now why.now) }
 {
     let mut said = Vec::from_slice(global, b"expected ")?;
@@ -468,7 +468,7 @@ fn unmet_said(global: Global, text: &[u8], why: &[u8]) -> Result<Vec<u8>, AllocE
     Ok(said)
 }
 
-fn unexpected_said(global: Global, told: ReportLine) -> Result<Vec<u8>, AllocError>
+fn unexpected_text(global: Global, told: ReportLine) -> Result<Vec<u8>, AllocError>
     ensures { IfOk result (λ said. said.items ≡ codes "unexpected " ++ shown_by told) }
 {
     let mut said = Vec::from_slice(global, b"unexpected ")?;

@@ -40,11 +40,11 @@ pub fn record<A: Allocator + Copy>(
     let lines = lines(global, trace)?;
     let carried = carry_out(global, alloc, lines.as_slice(), Watch::AtEnd)?;
     let Carried { told, found: _ } = carried;
-    record_told(global, trace, lines.as_slice(), told.as_slice())
+    record_reported(global, trace, lines.as_slice(), told.as_slice())
 }
 
 /// The trace of these lines with its expectations filled in, by what those that were carried out report.
-pub fn record_told(
+pub fn record_reported(
     global: Global,
     trace: &[u8],
     lines: &[&[u8]],

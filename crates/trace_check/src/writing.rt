@@ -1,7 +1,7 @@
 //! The text of a check.
 ghost use Rattle.std.specs.Prelude.{◌≡◌, ◌+◌, ◌<◌, ◌≤◌, ◌∷◌, ◌++◌, IfOk, IfSome, OnOk, codes, length, map};
 ghost use Rattle.trace_check.specs.Checks.{
-  boot_said,
+  boot_text,
   fault_in as fault_in_line,
   first_line,
   last_fault as last_fault_of,
@@ -9,10 +9,10 @@ ghost use Rattle.trace_check.specs.Checks.{
   miss_lines,
   mistaken_line,
   mistaken_lines as mistaken_lines_by,
-  mistaken_said as mistaken_said_by,
-  none_said,
-  spot_said,
-  sum_said,
+  mistaken_text as mistaken_text_by,
+  none_text,
+  spot_text,
+  sum_text,
 };
 ghost use Rattle.trace_check.specs.View.{misses_in, told_in};
 
@@ -83,14 +83,14 @@ fn add_mistaken_at(
 ) -> Result<(), AllocError>
     ensures { OnOk result (text.new.items ≡ text.old.items ++ mistaken_line name.now number line.now) }
 {
-    let said = mistaken_said(global, line)?;
+    let said = mistaken_text(global, line)?;
     add_first(text, global, name, number, said.as_slice())
 }
 
 /// What is wrong with such a comment.
-#[tactic(auto, unfolding(crate::specs::Checks::mistaken_said))]
-fn mistaken_said(global: Global, line: &[u8]) -> Result<Vec<u8>, AllocError>
-    ensures { IfOk result (λ said. said.items ≡ mistaken_said_by line.now) }
+#[tactic(auto, unfolding(crate::specs::Checks::mistaken_text))]
+fn mistaken_text(global: Global, line: &[u8]) -> Result<Vec<u8>, AllocError>
+    ensures { IfOk result (λ said. said.items ≡ mistaken_text_by line.now) }
 {
     let mut said = Vec::from_slice(global, b"no expectation: found `")?;
     said.extend_from_slice(line)?;
@@ -129,7 +129,7 @@ pub(crate) fn add_fault(
     ensures { OnOk result
         (text.new.items
         ≡ text.old.items
-        ++ spot_said name.now (map (λ line. line.now) lines.now)
+        ++ spot_text name.now (map (λ line. line.now) lines.now)
         (told_in told.now) missed) }
 {
     if missed == 0 {
@@ -163,7 +163,7 @@ fn fault_in(reported: &[ReportLine]) -> Option<Fault>
 }
 
 pub(crate) fn add_boot(text: &mut Vec<u8>, name: &str, begun: bool) -> Result<(), AllocError>
-    ensures { OnOk result (text.new.items ≡ text.old.items ++ boot_said name.now begun) }
+    ensures { OnOk result (text.new.items ≡ text.old.items ++ boot_text name.now begun) }
 {
     if begun {
         return Ok(());
@@ -172,7 +172,7 @@ pub(crate) fn add_boot(text: &mut Vec<u8>, name: &str, begun: bool) -> Result<()
 }
 
 pub(crate) fn add_none(text: &mut Vec<u8>, name: &str, expected: usize) -> Result<(), AllocError>
-    ensures { OnOk result (text.new.items ≡ text.old.items ++ none_said name.now expected) }
+    ensures { OnOk result (text.new.items ≡ text.old.items ++ none_text name.now expected) }
 {
     if expected != 0 {
         return Ok(());
@@ -187,7 +187,7 @@ pub(crate) fn add_sum(
     expected: usize,
     wrong: usize,
 ) -> Result<(), AllocError>
-    ensures { OnOk result (text.new.items ≡ text.old.items ++ sum_said name.now expected wrong) }
+    ensures { OnOk result (text.new.items ≡ text.old.items ++ sum_text name.now expected wrong) }
 {
     let said = format!(in global; "{expected} expected, {wrong} wrong")?;
     add_file_line(text, name, said.as_bytes())

@@ -4,14 +4,14 @@ use Rattle.std.specs.Prelude.{IfSome}
 use Rattle.trace_reader.specs.Reading.{lines_of}
 use Rattle.trace_reader.specs.declared.outcome.Outcome.{Outcome}
 use Rattle.trace_race.specs.Courses.{course_of, nothing_asked}
-use Rattle.trace_outcomes.specs.Told.{TellsOutcomes, TellsReported}
+use Rattle.trace_outcomes.specs.Told.{ReportsOutcomes, AnswersReport}
 use Rattle.trace_outcomes.specs.declared.telling.Told.{Told}
 use Rattle.trace_cli.specs.Status.{HasOrder, HasOutcomes}
 
 pub outcomes_by : (bytes : Option (List ℕ)) (limit : ℕ) (trace given : List ℕ) (told : Told) (outcome : Outcome)
     → IfSome bytes (λ all. trace ≡ all)
     → given ≡ trace
-    → TellsOutcomes limit (course_of 1 nothing_asked (lines_of given)) told
+    → ReportsOutcomes limit (course_of 1 nothing_asked (lines_of given)) told
     → outcome ≡ told.outcome
     → HasOutcomes limit bytes outcome
 outcomes_by None limit trace given told outcome is same tells ends = tt
@@ -19,7 +19,7 @@ outcomes_by (Some all) limit trace given told outcome is same tells ends =
     record {
       told = told;
       tells =
-          subst (λ t. TellsOutcomes limit (course_of 1 nothing_asked (lines_of t)) told) (same ∙ is) tells;
+          subst (λ t. ReportsOutcomes limit (course_of 1 nothing_asked (lines_of t)) told) (same ∙ is) tells;
       ends =
           ends;
     }
@@ -30,19 +30,19 @@ pub order_by : (bytes reported : Option (List ℕ)) (name : List ℕ) (limit : �
     → given ≡ trace
     → IfSome reported (λ all. report ≡ all)
     → read ≡ report
-    → TellsReported name (lines_of read) limit (course_of 1 nothing_asked (lines_of given)) told
+    → AnswersReport name (lines_of read) limit (course_of 1 nothing_asked (lines_of given)) told
     → outcome ≡ told.outcome
     → HasOrder name limit bytes reported outcome
 order_by None reported name limit trace given report read told outcome is same was_read alike tells ends = tt
 order_by (Some all) None name limit trace given report read told outcome is same was_read alike tells ends = tt
 order_by (Some all) (Some said) name limit trace given report read told outcome is same was_read alike tells ends =
     let whole =
-    subst (λ t. TellsReported name (lines_of read) limit (course_of 1 nothing_asked (lines_of t)) told)
+    subst (λ t. AnswersReport name (lines_of read) limit (course_of 1 nothing_asked (lines_of t)) told)
     (same ∙ is) tells in
     record {
       told = told;
       tells =
-          subst (λ r. TellsReported name (lines_of r) limit (course_of 1 nothing_asked (lines_of all)) told)
+          subst (λ r. AnswersReport name (lines_of r) limit (course_of 1 nothing_asked (lines_of all)) told)
           (alike ∙ was_read) whole;
       ends = ends;
     }

@@ -2,7 +2,7 @@
 use Rattle.std.proofs.Common.{◌≡◌, ◌∙◌, ℕ, ◌+◌, ◌<◌, ◌≤◌, Bool, true, false, List, [], ◌∷◌, ◌++◌, length, get_or, map, take, drop, Option, Some, None, Result, Ok, Err, refl, sym, ap, ap₂, subst, inl, inr}
 use Rattle.std.specs.Prelude.{◌⊎◌, ◌||◌, IfSome, MatchResult}
 use Rattle.std.proofs.lemmas.List.{append_assoc, append-nil, drop_all, drop_more, take-append-drop}
-use Rattle.trace_cli.specs.Covering.{AddsFile, AddsOpened, AddsSteps, AreOfFiles, HasCoverStatus, IsCovered, IsOfFile, IsToldStatus, IsUnopened, is_faulty}
+use Rattle.trace_cli.specs.Covering.{AddsFile, AddsOpened, AddsSteps, AreOfFiles, HasCoverStatus, IsCovered, IsOfFile, IsReportedStatus, IsUnopened, is_faulty}
 use Rattle.trace_cover.specs.declared.steps.Seen.{Seen}
 use Rattle.trace_cover.specs.Steps.{CountsAll}
 use Rattle.trace_reader.specs.Reading.{lines_of}
@@ -106,7 +106,7 @@ module _ {F E : Type 0} (bytes : F → Option (List ℕ)) (opens : List ℕ → 
     pub all_done : (place : ℕ) (seen : List Seen) (faulty missing : Bool) (status : ℕ)
         → length paths ≤ place
         → IsAhead place seen faulty
-        → IsToldStatus missing faulty seen status
+        → IsReportedStatus missing faulty seen status
         → HasCoverStatus bytes opens missing paths status
     all_done place seen faulty missing status h ahead (inr one) = inr (inr one)
     all_done place seen faulty missing status h ahead (inl told) = inl (record {

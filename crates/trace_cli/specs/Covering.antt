@@ -35,8 +35,8 @@ AddsOpened path bytes before after result =
     MatchResult result (λ outcome. AddsSteps path bytes before after outcome) (λ status. status ≡ 1)
 
 -- what steps have tried was written, or a write or memory failed
-abbrev pub IsToldStatus : Bool → Bool → List Seen → ℕ → Type 0
-IsToldStatus missing faulty seen status =
+abbrev pub IsReportedStatus : Bool → Bool → List Seen → ℕ → Type 0
+IsReportedStatus missing faulty seen status =
     (status ≡ status_of_cover missing faulty (missing_of seen)) ⊎ (status ≡ 1)
 
 -- by what opening a path may come to

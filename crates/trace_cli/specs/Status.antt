@@ -18,7 +18,7 @@ use Rattle.trace_audit.specs.Audited.{Ends, RunsLine, nothing_audited}
 use Rattle.trace_race.specs.declared.buffered.Halted.{Halted}
 use Rattle.trace_race.specs.Courses.{course_of, nothing_asked}
 use Rattle.trace_race.specs.Raced.{HasOneHistory, IsRaceReport}
-use Rattle.trace_outcomes.specs.Told.{TellsOutcomes, TellsReported}
+use Rattle.trace_outcomes.specs.Told.{ReportsOutcomes, AnswersReport}
 use Rattle.trace_outcomes.specs.declared.telling.Told.{Told as OutcomesTold}
 use Rattle.trace_cases.specs.Cases.{IsCaseChecked}
 use Rattle.trace_check.specs.declared.checking.Checked.{Checked}
@@ -64,7 +64,7 @@ HasAuditReport bytes outcome =
 -- all replies that the steps after `start` of a trace of these bytes may get
 pub record FindsOutcomes (limit : ℕ) (all : List ℕ) (outcome : Outcome) : Type 0 where
   pub told : OutcomesTold
-  pub tells : TellsOutcomes limit (course_of 1 nothing_asked (lines_of all)) told
+  pub tells : ReportsOutcomes limit (course_of 1 nothing_asked (lines_of all)) told
   pub ends : outcome ≡ told.outcome
 
 abbrev pub HasOutcomes : ℕ → Option (List ℕ) → Outcome → Type 0
@@ -74,7 +74,7 @@ HasOutcomes limit bytes outcome = IfSome bytes (λ all. FindsOutcomes limit all 
 pub record FindsOrder (name : List ℕ) (limit : ℕ) (all report : List ℕ)
     (outcome : Outcome) : Type 0 where
   pub told : OutcomesTold
-  pub tells : TellsReported name (lines_of report) limit
+  pub tells : AnswersReport name (lines_of report) limit
       (course_of 1 nothing_asked (lines_of all)) told
   pub ends : outcome ≡ told.outcome
 
@@ -104,8 +104,8 @@ outcome_of_end ends.Clean = Clean
 outcome_of_end (ends.Fault line fault) = Fault
 
 -- the run of these bytes, whose end is written as text, ends so
-abbrev pub EndsAsTold : List ℕ → Outcome → Type 0
-EndsAsTold all outcome =
+abbrev pub EndsAsReported : List ℕ → Outcome → Type 0
+EndsAsReported all outcome =
     (ended : Ended) × (text : List ℕ) × IsSnapshot all ended text × (outcome ≡ outcome_of_end ended)
 
 -- and that which is drawn as a picture
@@ -115,7 +115,7 @@ EndsAsDrawn all outcome =
 
 -- a trace of these bytes is drawn, or the state at its end is written as text
 abbrev pub HasDrawn : Bool → Option (List ℕ) → Outcome → Type 0
-HasDrawn true bytes outcome = IfSome bytes (λ all. EndsAsTold all outcome)
+HasDrawn true bytes outcome = IfSome bytes (λ all. EndsAsReported all outcome)
 HasDrawn false bytes outcome = IfSome bytes (λ all. EndsAsDrawn all outcome)
 
 -- the report that a task makes of these bytes has this outcome. No clause here speaks of what is
@@ -137,11 +137,11 @@ place_in faults.Write path = codes "standard output"
 place_in faults.NoMemory path = path
 
 -- the status of what a run came to: 0 for a clean report, and 1 for all else
-abbrev pub status_told : Result Outcome Halted → ℕ
-status_told (Ok Clean) = 0
-status_told (Ok Disagreed) = 1
-status_told (Ok Fault) = 1
-status_told (Err halted) = 1
+abbrev pub status_of_end : Result Outcome Halted → ℕ
+status_of_end (Ok Clean) = 0
+status_of_end (Ok Disagreed) = 1
+status_of_end (Ok Fault) = 1
+status_of_end (Err halted) = 1
 
 -- an opened file's status is that of what the run came to, whose report, if there is a whole one,
 -- is that of the file's bytes
@@ -149,14 +149,14 @@ pub record HasAnswer (task : Task) (path : List ℕ) (bytes : Option (List ℕ))
     (status : ℕ) : Type 0 where
   pub answer : Result Outcome Halted
   pub report : IfOk answer (HasReport task path bytes)
-  pub told : status ≡ status_told answer
+  pub told : status ≡ status_of_end answer
 
 -- and the status of whether some order gives the replies of a report, of both files' bytes
 pub record HasOrderAnswer (name : List ℕ) (limit : ℕ) (bytes report : Option (List ℕ))
     (status : ℕ) : Type 0 where
   pub answer : Result Outcome Halted
   pub order : IfOk answer (HasOrder name limit bytes report)
-  pub told : status ≡ status_told answer
+  pub told : status ≡ status_of_end answer
 
 -- the status of a task, by the result of opening its file: 2 if that was refused
 abbrev pub IsStatusOf : {F E : Type 0}

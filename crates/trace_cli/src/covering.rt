@@ -1,10 +1,10 @@
 //! What traces have tried, together.
 ghost use Rattle.std.specs.Prelude.{◌≡◌, ◌||◌, IfOk, map};
-ghost use Rattle.trace_cli.specs.Covering.{AddsFile, AddsOpened, AddsSteps, HasCoverStatus, IsToldStatus, is_faulty as is_faulty_by, status_of_cover as status_by};
+ghost use Rattle.trace_cli.specs.Covering.{AddsFile, AddsOpened, AddsSteps, HasCoverStatus, IsReportedStatus, is_faulty as is_faulty_by, status_of_cover as status_by};
 
 use crate::files::Opens;
 use crate::tasks::unopened;
-use crate::telling::{FAILED, REFUSED, no_memory, tell, tell_beside};
+use crate::telling::{FAILED, REFUSED, no_memory, report_beside, tell};
 use crate::texts::{whole, write};
 use std::io;
 use trace_cover::{Seen, add_steps, cover};
@@ -101,7 +101,7 @@ fn counted<R: AllocGlobal + Eprint, F: io::Read + Drop>(
     };
     // The text has the place of a fault itself.
     if !is_faulty(outcome) {
-        tell_beside(rt, path, trace.as_slice(), None, false)?;
+        report_beside(rt, path, trace.as_slice(), None, false)?;
     }
     Ok(outcome)
 }
@@ -115,7 +115,7 @@ fn told<R: AllocGlobal + Print + Eprint>(
     quiet: bool,
     faulty: bool,
 ) -> u8
-    ensures { IsToldStatus missing faulty seen.now result }
+    ensures { IsReportedStatus missing faulty seen.now result }
 {
     let Ok(covered) = cover(rt.alloc(), seen, missing) else {
         tell(rt, "-", &no_memory());

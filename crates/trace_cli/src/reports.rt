@@ -3,7 +3,7 @@ ghost use Rattle.std.specs.Prelude.{◌≡◌, IfOk};
 ghost use Rattle.trace_cli.specs.Status.{HasAuditReport, HasRaceReport, HasReplayReport};
 
 use crate::kept::{KeptReader, KeptWriter};
-use crate::telling::{no_memory, tell_beside};
+use crate::telling::{no_memory, report_beside};
 use cpu_threads::Open;
 use linked_list_allocator::LocalHeap;
 use report_json::{JsonLines, REPORTS};
@@ -13,7 +13,7 @@ use std::sync::Wait;
 use std::thread::Threads;
 use trace_audit::audit_buffered;
 use trace_command::{Looks, Output};
-use trace_faults::fault_told;
+use trace_faults::fault_reported;
 use trace_race::{Halted, RaceFault, race_buffered};
 use trace_reader::Outcome;
 use trace_text::{Stopped, replay_at_end_buffered, replay_buffered};
@@ -80,8 +80,8 @@ fn replayed_to<
     };
     match answer {
         Ok((outcome, writer)) => {
-            let fault = fault_told(writer.last_line());
-            tell_beside(rt, path, trace.as_slice(), fault, false)?;
+            let fault = fault_reported(writer.last_line());
+            report_beside(rt, path, trace.as_slice(), fault, false)?;
             Ok(outcome)
         }
         Err(stopped) => Err(halted(stopped)),
@@ -118,8 +118,8 @@ fn raced_to<
     let file = KeptReader::new(file, &mut trace);
     match race_buffered(rt, rt.alloc(), file, writer, &Open) {
         Ok((outcome, writer)) => {
-            let fault = fault_told(writer.last_line());
-            tell_beside(rt, path, trace.as_slice(), fault, true)?;
+            let fault = fault_reported(writer.last_line());
+            report_beside(rt, path, trace.as_slice(), fault, true)?;
             Ok(outcome)
         }
         Err((halted, _writer)) => Err(halted),
@@ -157,8 +157,8 @@ fn audited_to<R: AllocGlobal + Eprint, F: io::Read + Drop, W: io::Write + Drop>(
     let file = KeptReader::new(file, &mut trace);
     match audit_buffered(rt.alloc(), rt.alloc(), file, writer) {
         Ok((outcome, writer)) => {
-            let fault = fault_told(writer.last_line());
-            tell_beside(rt, path, trace.as_slice(), fault, false)?;
+            let fault = fault_reported(writer.last_line());
+            report_beside(rt, path, trace.as_slice(), fault, false)?;
             Ok(outcome)
         }
         Err(stopped) => Err(halted(stopped)),

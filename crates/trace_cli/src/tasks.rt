@@ -1,10 +1,10 @@
 //! The tasks on an opened file of a trace, and their exit status.
 ghost use Rattle.std.specs.Prelude.{◌≡◌, IfOk};
-ghost use Rattle.trace_cli.specs.Status.{HasOrderAnswer, HasReport, HasStatus, status_told};
+ghost use Rattle.trace_cli.specs.Status.{HasOrderAnswer, HasReport, HasStatus, status_of_end};
 
 use crate::reports::{audited, raced, replayed};
 use crate::telling::{FAILED, REFUSED, tell};
-use crate::texts::{checked, drawn, explained, order_told, outcomes_told, recorded};
+use crate::texts::{checked, drawn, explained, order_reported, outcomes_reported, recorded};
 use std::io;
 use std::sync::Wait;
 use std::thread::Threads;
@@ -113,13 +113,13 @@ pub fn order_status<R: AllocGlobal + Print + Eprint, F: io::Read + Drop, P: Prog
 ) -> u8
     ensures { HasOrderAnswer name.now limit (F.remaining file) (F.remaining report) result }
 {
-    let answer = order_told(rt, path, name, limit, output, file, report, progress);
+    let answer = order_reported(rt, path, name, limit, output, file, report, progress);
     told(rt, path, answer)
 }
 
 /// Writes to standard error why there is no whole report, if there is none, and gives the exit status.
 fn told<R: Eprint>(rt: &R, path: &str, answer: Result<Outcome, Halted>) -> u8
-    ensures { result ≡ status_told answer }
+    ensures { result ≡ status_of_end answer }
 {
     let outcome = match answer {
         Ok(outcome) => outcome,
@@ -148,7 +148,9 @@ fn answered<
         } => replayed(rt, path, heap, looks, output, file),
         Task::Race { output } => raced(rt, path, output, file),
         Task::Audit { output } => audited(rt, path, output, file),
-        Task::Outcomes { limit, output } => outcomes_told(rt, path, limit, output, file, progress),
+        Task::Outcomes { limit, output } => outcomes_reported(
+            rt, path, limit, output, file, progress,
+        ),
         Task::Check { looks, output } => checked(rt, path, looks, output, file),
         Task::Record => recorded(rt, file),
         Task::Explain { line, output } => explained(rt, path, line, output, file),

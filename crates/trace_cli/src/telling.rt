@@ -5,7 +5,7 @@ ghost use Rattle.trace_cli.specs.Status.{IsRefused, place_in};
 use clap::error::ErrorKind;
 use std::str::from_utf8;
 use trace_command::UsageFault;
-use trace_faults::said_beside;
+use trace_faults::text_beside;
 use trace_race::{Halted, RaceFault};
 use trace_reader::EngineFault;
 use trace_text::Fault;
@@ -64,14 +64,14 @@ fn place_of<'a>(fault: EngineFault, path: &'a str) -> &'a str
 
 /// Writes to standard error the text beside the report of a trace, if there is any: where its fault is, or why it makes
 /// no step, or no race. Err if memory was refused.
-pub fn tell_beside<R: AllocGlobal + Eprint>(
+pub fn report_beside<R: AllocGlobal + Eprint>(
     rt: &R,
     path: &str,
     trace: &[u8],
     fault: Option<(u64, Fault)>,
     races: bool,
 ) -> Result<(), Halted> {
-    let Ok(text) = said_beside(rt.alloc(), path, trace, fault, races) else {
+    let Ok(text) = text_beside(rt.alloc(), path, trace, fault, races) else {
         return Err(no_memory());
     };
     if let Ok(said) = from_utf8(text.as_slice()) {

@@ -1,8 +1,8 @@
 //! The texts of `outcomes`, `check`, `explain` and `draw`, which are made of a whole trace in memory.
 ghost use Rattle.std.specs.Prelude.{◌≡◌, IfOk, IfSome};
-ghost use Rattle.trace_cli.specs.Status.{EndsAsDrawn, EndsAsTold, HasChecked, HasDrawn, HasExplained, HasOrder, HasOutcomes, outcome_of_check as outcome_of_clean, outcome_of_end};
+ghost use Rattle.trace_cli.specs.Status.{EndsAsDrawn, EndsAsReported, HasChecked, HasDrawn, HasExplained, HasOrder, HasOutcomes, outcome_of_check as outcome_of_clean, outcome_of_end};
 
-use crate::telling::{no_memory, tell_beside};
+use crate::telling::{no_memory, report_beside};
 use report_json::{CHECKS, EXPLANATIONS, Form, JsonLines, OUTCOMES};
 use std::io::{self, ErrorKind, Write};
 use trace_cases::{check, record};
@@ -10,13 +10,13 @@ use trace_check::Watch;
 use trace_command::{Looks, Output};
 use trace_draw::{Ended, draw, draw_text};
 use trace_explain::explain;
-use trace_outcomes::{tell_order, tell_outcomes};
+use trace_outcomes::{report_order, report_outcomes};
 use trace_race::{Halted, RaceFault};
 use trace_reader::{EngineFault, Outcome, Progress};
 use trace_text::Fault;
 
 /// Finds all replies that the steps after `start` may get, and writes them.
-pub fn outcomes_told<R: AllocGlobal + Print + Eprint, F: io::Read + Drop, P: Progress>(
+pub fn outcomes_reported<R: AllocGlobal + Print + Eprint, F: io::Read + Drop, P: Progress>(
     rt: &R,
     path: &str,
     limit: u64,
@@ -27,18 +27,18 @@ pub fn outcomes_told<R: AllocGlobal + Print + Eprint, F: io::Read + Drop, P: Pro
     ensures { IfOk result (HasOutcomes limit (F.remaining file)) }
 {
     let trace = whole(rt, file)?;
-    let answer = tell_outcomes(rt.alloc(), trace.as_slice(), limit as usize, progress);
+    let answer = report_outcomes(rt.alloc(), trace.as_slice(), limit as usize, progress);
     progress.finish();
     let Ok(told) = answer else {
         return Err(no_memory());
     };
     show(rt, output, OUTCOMES, told.text.as_slice())?;
-    tell_beside(rt, path, trace.as_slice(), told.fault, true)?;
+    report_beside(rt, path, trace.as_slice(), told.fault, true)?;
     Ok(told.outcome)
 }
 
 /// Writes whether some order of the steps after `start` gives the replies of a report.
-pub fn order_told<R: AllocGlobal + Print + Eprint, F: io::Read + Drop, P: Progress>(
+pub fn order_reported<R: AllocGlobal + Print + Eprint, F: io::Read + Drop, P: Progress>(
     rt: &R,
     path: &str,
     name: &str,
@@ -52,7 +52,7 @@ pub fn order_told<R: AllocGlobal + Print + Eprint, F: io::Read + Drop, P: Progre
 {
     let trace = whole(rt, file)?;
     let report = whole(rt, report)?;
-    let answer = tell_order(
+    let answer = report_order(
         rt.alloc(),
         trace.as_slice(),
         name,
@@ -65,7 +65,7 @@ pub fn order_told<R: AllocGlobal + Print + Eprint, F: io::Read + Drop, P: Progre
         return Err(no_memory());
     };
     show(rt, output, OUTCOMES, told.text.as_slice())?;
-    tell_beside(rt, path, trace.as_slice(), told.fault, true)?;
+    report_beside(rt, path, trace.as_slice(), told.fault, true)?;
     Ok(told.outcome)
 }
 
@@ -134,7 +134,7 @@ pub fn explained<R: AllocGlobal + Print + Eprint, F: io::Read + Drop>(
     show(rt, output, EXPLANATIONS, explained.text.as_slice())?;
     // The text has the place of a fault itself.
     if explained.outcome == Outcome::Clean {
-        tell_beside(rt, path, trace.as_slice(), None, false)?;
+        report_beside(rt, path, trace.as_slice(), None, false)?;
     }
     Ok(explained.outcome)
 }
@@ -161,13 +161,13 @@ fn written_out<R: AllocGlobal + Print + Eprint>(
     path: &str,
     trace: &[u8],
 ) -> Result<Outcome, Halted>
-    ensures { IfOk result (EndsAsTold trace.now) }
+    ensures { IfOk result (EndsAsReported trace.now) }
 {
     let Ok(drawing) = draw_text(rt.alloc(), rt.alloc(), trace) else {
         return Err(no_memory());
     };
     write(rt, drawing.text.as_bytes())?;
-    tell_beside(rt, path, trace, fault_of(drawing.ended), false)?;
+    report_beside(rt, path, trace, fault_of(drawing.ended), false)?;
     Ok(outcome_of(drawing.ended))
 }
 
@@ -183,7 +183,7 @@ fn pictured<R: AllocGlobal + Print + Eprint>(
         return Err(no_memory());
     };
     write(rt, drawing.svg.as_bytes())?;
-    tell_beside(rt, path, trace, fault_of(drawing.ended), false)?;
+    report_beside(rt, path, trace, fault_of(drawing.ended), false)?;
     Ok(outcome_of(drawing.ended))
 }
 

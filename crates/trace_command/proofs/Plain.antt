@@ -15,7 +15,7 @@ use Rattle.clap.specs.Words.{App, is_simple_and_free, kind_of}
 use Rattle.trace_words.specs.Numbers.{number_of}
 use Rattle.trace_command.specs.declared.words.Output.TheVariants.{Report}
 use Rattle.trace_command.specs.Words.{audit, check, cover, draw, dump, explain, generate, outcomes, program, race, replay}
-use Rattle.trace_command.specs.Asked.{Asking, Auditing, Checking, Covering, Drawing, Dumping, Explaining, Finding, Generating, Gives, IsPlain, IsRead, IsRefused, Racing, Replaying, Takes, asked_by, asked_in, heap_told, of_core}
+use Rattle.trace_command.specs.Asked.{Asking, Auditing, Checking, Covering, Drawing, Dumping, Explaining, Finding, Generating, Gives, IsPlain, IsRead, IsRefused, Racing, Replaying, Takes, asked_by, asked_in, asked_heap, of_core}
 use Rattle.trace_command.specs.declared.words.Invocation.{Invocation}
 use Rattle.trace_command.specs.declared.words.Looks.TheVariants.{Each}
 use Rattle.trace_command.specs.declared.words.UsageFault.{UsageFault}
@@ -270,11 +270,11 @@ module _ (name file bytes : Text) (plain : strip_byte 45 file ≡ None) (plain_b
   heap_none = ap (λ k. or_else k []) heap_level
 
   heap_asked : asked_by (name ∷ codes "replay" ∷ given)
-      ≡ option_map (λ heap. Replaying file heap Each Report) (heap_told (Some bytes))
+      ≡ option_map (λ heap. Replaying file heap Each Report) (asked_heap (Some bytes))
   unfolding clap_on_literals
   heap_asked =
       ap (λ (w : Walk). asked_in (codes "replay", finished (leaf replay).rules w.held)) heap_walk
-      ∙ always (heap_told (Some bytes))
+      ∙ always (asked_heap (Some bytes))
     where
       always : (o : Option (Option ℕ))
           → option_and_then (λ heap. option_map (λ looks. Replaying file heap looks Report) (Some Each)) o

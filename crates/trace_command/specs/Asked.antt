@@ -99,21 +99,21 @@ heap_size word =
 
 -- the heap that is asked for: none without a word, else one of the size that it says. No answer if
 -- it says none
-abbrev pub heap_told : Option Text → Option (Option ℕ)
-heap_told None = Some None
-heap_told (Some word) = option_map (λ size. Some size) (heap_size word)
+abbrev pub asked_heap : Option Text → Option (Option ℕ)
+asked_heap None = Some None
+asked_heap (Some word) = option_map (λ size. Some size) (heap_size word)
 
 -- when the oracle looks: after each step, if no word says it
-abbrev pub looks_told : Option Text → Option Looks
-looks_told None = Some Each
-looks_told (Some word) =
+abbrev pub asked_looks : Option Text → Option Looks
+asked_looks None = Some Each
+asked_looks (Some word) =
     if bytes_eq word (codes "each") then Some Each
     else (if bytes_eq word (codes "end") then Some End else None)
 
 -- a number as a trace writes it; `otherwise` if no word says it
-abbrev pub number_told : ℕ → Option Text → Option ℕ
-number_told otherwise None = Some otherwise
-number_told otherwise (Some word) = number_of word
+abbrev pub asked_number : ℕ → Option Text → Option ℕ
+asked_number otherwise None = Some otherwise
+asked_number otherwise (Some word) = number_of word
 
 -- a number as a trace writes it, from the least to the most
 abbrev pub number_within : ℕ → ℕ → Text → Option ℕ
@@ -122,14 +122,14 @@ number_within least most word =
 
 -- the points of a step that the search for outcomes may come to, from 1 to 4,294,967,296: 100,000
 -- if no word says it
-abbrev pub limit_told : Option Text → Option ℕ
-limit_told None = Some 100000
-limit_told (Some word) = number_within 1 4294967296 word
+abbrev pub asked_limit : Option Text → Option ℕ
+asked_limit None = Some 100000
+asked_limit (Some word) = number_within 1 4294967296 word
 
 -- the one line that is shown: none without a word, else its number, from 1 on and below 2^64
-abbrev pub line_told : Option Text → Option (Option ℕ)
-line_told None = Some None
-line_told (Some word) = option_map (λ line. Some line) (number_within 1 18446744073709551615 word)
+abbrev pub asked_line : Option Text → Option (Option ℕ)
+asked_line None = Some None
+asked_line (Some word) = option_map (λ line. Some line) (number_within 1 18446744073709551615 word)
 
 -- an address or a page that is a number; none without a word
 abbrev pub number_given : Option Text → Option (Option ℕ)
@@ -153,8 +153,8 @@ replaying rows =
     option_and_then
     (λ file. option_and_then
     (λ heap. option_map (λ looks. Replaying file heap looks (output_in rows))
-    (looks_told (first_of (codes "oracle") rows)))
-    (heap_told (first_of (codes "heap") rows))) (first_of (codes "FILE") rows)
+    (asked_looks (first_of (codes "oracle") rows)))
+    (asked_heap (first_of (codes "heap") rows))) (first_of (codes "FILE") rows)
 
 abbrev pub racing : List Row → Option Asking
 racing rows = option_map (λ file. Racing file (output_in rows)) (first_of (codes "FILE") rows)
@@ -178,7 +178,7 @@ finding rows =
     option_and_then
     (λ file. option_and_then
     (λ limit. finding_in file (first_of (codes "observed") rows) limit (output_in rows))
-    (limit_told (first_of (codes "limit") rows)))
+    (asked_limit (first_of (codes "limit") rows)))
     (first_of (codes "FILE") rows)
 
 -- `check --record` takes one file
@@ -193,7 +193,7 @@ checking rows =
     (λ files. option_and_then
     (λ looks. if is_set (codes "record") rows then recording files
     else Some (Checking files looks (output_in rows)))
-    (looks_told (first_of (codes "oracle") rows))) (all_of (codes "FILE") rows)
+    (asked_looks (first_of (codes "oracle") rows))) (all_of (codes "FILE") rows)
 
 abbrev pub covering : List Row → Option Asking
 covering rows =
@@ -205,7 +205,7 @@ abbrev pub explaining : List Row → Option Asking
 explaining rows =
     option_and_then
     (λ file. option_map (λ line. Explaining file line (output_in rows))
-    (line_told (first_of (codes "line") rows)))
+    (asked_line (first_of (codes "line") rows)))
     (first_of (codes "FILE") rows)
 
 abbrev pub generating : List Row → Option Asking
@@ -216,10 +216,10 @@ generating rows =
     (λ cpus. option_and_then
     (λ pages. option_and_then
     (λ geometry. option_map (Generating seed steps cpus pages geometry)
-    (number_told 0 (first_of (codes "hostile") rows)))
-    (number_told 39 (first_of (codes "geometry") rows)))
-    (number_told 2048 (first_of (codes "pages") rows)))
-    (number_told 4 (first_of (codes "cpus") rows)))
+    (asked_number 0 (first_of (codes "hostile") rows)))
+    (asked_number 39 (first_of (codes "geometry") rows)))
+    (asked_number 2048 (first_of (codes "pages") rows)))
+    (asked_number 4 (first_of (codes "cpus") rows)))
     (option_and_then number_of (first_of (codes "STEPS") rows)))
     (option_and_then number_of (first_of (codes "SEED") rows))
 

@@ -17,12 +17,12 @@ ghost use Rattle.trace_command.specs.Asked.{
   explaining,
   finding,
   generating,
-  heap_told,
+  asked_heap,
   is_set as is_set_in,
-  limit_told,
-  line_told,
-  looks_told,
-  number_told,
+  asked_limit,
+  asked_line,
+  asked_looks,
+  asked_number,
   output_in,
   racing,
   recording,
@@ -157,7 +157,7 @@ fn file<'a>(inner: &ArgMatches<'a>) -> Result<&'a str, Unread>
 
 /// The heap size given by `--heap`, None without it.
 fn heap(inner: &ArgMatches<'_>) -> Result<Option<usize>, Unread>
-    ensures { IsReadAs (heap_told (first_of (codes "heap") (rows_of (found_of inner.now))))
+    ensures { IsReadAs (asked_heap (first_of (codes "heap") (rows_of (found_of inner.now))))
         (λ size. size) result }
 {
     let Some(word) = value(inner, "heap") else {
@@ -171,7 +171,7 @@ fn heap(inner: &ArgMatches<'_>) -> Result<Option<usize>, Unread>
 
 /// The value of `--oracle`.
 fn looks(inner: &ArgMatches<'_>) -> Result<Looks, Unread>
-    ensures { IsReadAs (looks_told (first_of (codes "oracle") (rows_of (found_of inner.now))))
+    ensures { IsReadAs (asked_looks (first_of (codes "oracle") (rows_of (found_of inner.now))))
         (λ looks. looks) result }
 {
     let Some(word) = value(inner, "oracle") else {
@@ -225,7 +225,7 @@ fn number_of(inner: &ArgMatches<'_>, id: &str) -> Result<u64, Unread>
 
 /// The number given as an option, or `otherwise` without it.
 fn number_or(inner: &ArgMatches<'_>, id: &str, otherwise: u64) -> Result<u64, Unread>
-    ensures { IsReadAs (number_told otherwise (first_of id.now (rows_of (found_of inner.now))))
+    ensures { IsReadAs (asked_number otherwise (first_of id.now (rows_of (found_of inner.now))))
         (λ value. value) result }
 {
     let Some(word) = value(inner, id) else {
@@ -239,7 +239,7 @@ fn number_or(inner: &ArgMatches<'_>, id: &str, otherwise: u64) -> Result<u64, Un
 
 /// The points that `--limit` allows.
 fn limit(inner: &ArgMatches<'_>) -> Result<u64, Unread>
-    ensures { IsReadAs (limit_told (first_of (codes "limit") (rows_of (found_of inner.now))))
+    ensures { IsReadAs (asked_limit (first_of (codes "limit") (rows_of (found_of inner.now))))
         (λ limit. limit) result }
 {
     let Some(word) = value(inner, "limit") else {
@@ -253,7 +253,7 @@ fn limit(inner: &ArgMatches<'_>) -> Result<u64, Unread>
 
 /// The line number given by `--line`, None without it.
 fn line(inner: &ArgMatches<'_>) -> Result<Option<u64>, Unread>
-    ensures { IsReadAs (line_told (first_of (codes "line") (rows_of (found_of inner.now))))
+    ensures { IsReadAs (asked_line (first_of (codes "line") (rows_of (found_of inner.now))))
         (λ line. line) result }
 {
     let Some(word) = value(inner, "line") else {

@@ -2,7 +2,7 @@
 use Rattle.std.proofs.Common.{◌≡◌, ℕ, ◌+◌, ◌<◌, ◌≤◌, Bool, true, false, List, [], ◌∷◌, ◌++◌, length, get_or, drop, refl, sym, ap, ◌∙◌, subst, Option, Some, None, Ok, Err}
 use Rattle.std.proofs.lemmas.List.{append_assoc, append-nil, drop_all, drop_more}
 use Rattle.trace_cover.specs.declared.steps.Seen.{Seen}
-use Rattle.trace_cover.specs.Steps.{Counts, CountsAll, GoesOn, is_poke, line_said, seen_at}
+use Rattle.trace_cover.specs.Steps.{Counts, CountsAll, GoesOn, is_poke, line_read, seen_at}
 use Rattle.trace_cover.specs.View.{AddsAll, IsCounted}
 use Rattle.trace_faults.specs.Spots.{place_line}
 use Rattle.trace_reader.specs.declared.outcome.Outcome.{Outcome}
@@ -51,7 +51,7 @@ module _ (name : List ℕ) (ls : List (List ℕ)) (before : List Seen) (said : L
       (ahead : IsAhead place old seen) where
     -- the lines from here on, the first of which is taken out
     from_here : (more : List Seen) (rest : List ℕ) (outcome : Outcome) (b : Bool)
-        → is_poke (line_said old (get_or ls place [])) ≡ b
+        → is_poke (line_read old (get_or ls place [])) ≡ b
         → GoesOn name ls b place (get_or ls place []) old
         (λ new. Counts name ls (place + 1) new (drop (place + 1) ls)) more rest outcome
         → Counts name ls place old (drop place ls) more rest outcome
@@ -62,11 +62,11 @@ module _ (name : List ℕ) (ls : List (List ℕ)) (before : List Seen) (said : L
         (λ new. Counts name ls (place + 1) new (drop (place + 1) ls)) more rest outcome)
         (sym is) goes)
 
-    pub ends_at_poke : is_poke (line_said old (get_or ls place [])) ≡ true → AddsAll name ls before said seen said Clean
+    pub ends_at_poke : is_poke (line_read old (get_or ls place [])) ≡ true → AddsAll name ls before said seen said Clean
     ends_at_poke is = ends place old seen ahead (from_here [] [] Clean true is (refl, refl, refl))
 
     pub one_further : (next : Standing) (now : List Seen)
-        → is_poke (line_said old (get_or ls place [])) ≡ false
+        → is_poke (line_read old (get_or ls place [])) ≡ false
         → IsCounted (place + 1) (get_or ls place []) old seen next now None
         → IsAhead (place + 1) next now
     one_further next now other (reported, played, is) more rest outcome counts =
@@ -77,7 +77,7 @@ module _ (name : List ℕ) (ls : List (List ℕ)) (before : List Seen) (said : L
         (from_here (block ++ more) rest outcome false other (Ok reported, next, played, (more, refl, counts))))
 
     pub ends_at_fault : (next : Standing) (now : List Seen) (text : List ℕ) (fault : LineFault)
-        → is_poke (line_said old (get_or ls place [])) ≡ false
+        → is_poke (line_read old (get_or ls place [])) ≡ false
         → IsCounted (place + 1) (get_or ls place []) old seen next now (Some fault)
         → text ≡ said ++ place_line name ls place fault → AddsAll name ls before said now text Fault
     ends_at_fault next now text fault other (played, stays) is =

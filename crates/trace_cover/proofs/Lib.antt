@@ -1,4 +1,4 @@
 pub mod Going
 pub mod Legality
 pub mod Once
-pub mod Untold
+pub mod Unlisted

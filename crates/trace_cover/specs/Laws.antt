@@ -44,7 +44,7 @@ pub record ChangesNoMap (h : Changes) : Type 0 where
 
 -- the rule of a call passes each test whose refusal isn't listed for the call, whatever the rule
 -- reads: its four tests, that it names no guest, and that it needs no tables
-pub record PassesUntold (call : CallName) (step : Step) (r : Rule) : Type 0 where
+pub record PassesUnlisted (call : CallName) (step : Step) (r : Rule) : Type 0 where
   pub valid : tells call Invalid ≡ false → r.valid.passes ≡ true
   pub has_vm : tells call NoVm ≡ false → r.has_vm.passes ≡ true
   pub has_slot : tells call NoVm ≡ false → lacks_slot (names step) None ≡ false
@@ -52,6 +52,6 @@ pub record PassesUntold (call : CallName) (step : Step) (r : Rule) : Type 0 wher
   pub allowed : tells call Perm ≡ false → r.allowed.passes ≡ true
   pub tables : tells call NoPool ≡ false → ChangesNoMap r.changes
 
-abbrev pub UntoldPass : Type 0
-UntoldPass =
-    (step : Step) (x : Reads) → PassesUntold (named_by step).call step ((step_rule step).rule x)
+abbrev pub UnlistedPass : Type 0
+UnlistedPass =
+    (step : Step) (x : Reads) → PassesUnlisted (named_by step).call step ((step_rule step).rule x)

@@ -34,8 +34,8 @@ allowed false started = before_boot
 allowed true started = of_audit started
 
 -- what a line says at this point of a trace
-abbrev pub line_said : Standing → List ℕ → Result (Option Line) LineFault
-line_said old line = said (allowed (is_some old.machine) old.started) old.told line
+abbrev pub line_read : Standing → List ℕ → Result (Option Line) LineFault
+line_read old line = said (allowed (is_some old.machine) old.started) old.told line
 
 -- it is a poke
 abbrev pub is_poke : Result (Option Line) LineFault → Bool
@@ -73,8 +73,8 @@ seen_of asked condition reported = []
 -- so of a line at this point of a trace
 abbrev pub seen_at : Standing → List ℕ → List ReportLine → List Seen
 seen_at old line reported =
-    seen_of (step_in (line_said old line))
-    (condition_before old.machine (step_in (line_said old line))) reported
+    seen_of (step_in (line_read old line))
+    (condition_before old.machine (step_in (line_read old line))) reported
 
 module _ (name : List ℕ) (all : List (List ℕ)) where
   -- what the lines from one on add to the counts, if that line has this answer: its step, and then
@@ -106,7 +106,7 @@ module _ (name : List ℕ) (all : List (List ℕ)) where
   abbrev pub Counts : ℕ → Standing → List (List ℕ) → List Seen → List ℕ → Outcome → Type 0
   Counts place old [] seen text outcome = Ends seen text outcome
   Counts place old (line ∷ rest) seen text outcome =
-      GoesOn (is_poke (line_said old line)) place line old
+      GoesOn (is_poke (line_read old line)) place line old
       (λ new. Counts (place + 1) new rest) seen text outcome
 
   -- so of all lines of a trace

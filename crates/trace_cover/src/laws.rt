@@ -1,5 +1,5 @@
 //! The laws of counts. Each function does nothing, and its contract is the law.
-ghost use Rattle.trace_cover.specs.Laws.{EachOnce, UntoldPass};
+ghost use Rattle.trace_cover.specs.Laws.{EachOnce, UnlistedPass};
 ghost use Rattle.trace_cover.specs.Legality.{NeverFound, SameCondition};
 
 /// Each step is counted in one row of a reply, and, if it names a frame, in one row of a condition.
@@ -8,8 +8,8 @@ pub fn each_once()
 {}
 
 /// A test that the table says no rule of the call has always passes, so no reply is left out.
-pub fn untold_pass()
-    ensures { UntoldPass }
+pub fn unlisted_pass()
+    ensures { UnlistedPass }
 {}
 
 /// In a legal state, as each of a run is, the condition that is counted of a memory frame is that of the invariant.

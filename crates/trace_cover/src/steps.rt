@@ -1,6 +1,6 @@
 //! The steps of a trace, and what each adds to the counts.
 ghost use Rattle.std.specs.Prelude.{◌≡◌, ◌+◌, ◌<◌, ◌≤◌, ◌∷◌, [], ◌++◌, IfOk, OnOk, Option, Some, None, is_some, length, map, true};
-ghost use Rattle.trace_cover.specs.Steps.{allowed as allowed_by, condition_before as condition_before_by, is_poke as is_poke_by, line_said, refused, seen_in, seen_of, step_in};
+ghost use Rattle.trace_cover.specs.Steps.{allowed as allowed_by, condition_before as condition_before_by, is_poke as is_poke_by, line_read, refused, seen_in, seen_of, step_in};
 ghost use Rattle.trace_cover.specs.View.{AddsAll, IsCountedAt, IsPlayedAt, line_at, lines_in};
 ghost use Rattle.trace_reader.specs.Reading.{lines_of};
 ghost use Rattle.trace_text.specs.Ready.{IsReady};
@@ -92,7 +92,7 @@ fn allowed<A: Allocator + Copy>(session: &Session<A>) -> Allows
 
 /// Whether a line is a poke.
 fn is_poke<A: Allocator + Copy>(session: &Session<A>, line: &[u8]) -> bool
-    ensures { result ≡ is_poke_by (line_said (standing_of session.now) line.now) }
+    ensures { result ≡ is_poke_by (line_read (standing_of session.now) line.now) }
 {
     matches!(
         said(allowed(session), session.settings(), line),
@@ -101,8 +101,8 @@ fn is_poke<A: Allocator + Copy>(session: &Session<A>, line: &[u8]) -> bool
 }
 
 /// The step that a line says, with its CPU.
-fn step_said<A: Allocator + Copy>(session: &Session<A>, line: &[u8]) -> Option<(u64, Step)>
-    ensures { result ≡ step_in (line_said (standing_of session.now) line.now) }
+fn step_of_line<A: Allocator + Copy>(session: &Session<A>, line: &[u8]) -> Option<(u64, Step)>
+    ensures { result ≡ step_in (line_read (standing_of session.now) line.now) }
 {
     match said(allowed(session), session.settings(), line) {
         Ok(Some(Line::Step { cpu, step })) => Some((cpu, step)),
@@ -138,7 +138,7 @@ fn count_line<A: Allocator + Copy>(
     ensures steps { (standing_of session.new).steps ≤ place + 1 }
     ensures ready { IsReady session.new }
 {
-    let asked = step_said(session, lines[place]);
+    let asked = step_of_line(session, lines[place]);
     let condition = condition_before(session, asked);
     match line_run(session, lines, place) {
         Ok(reported) => {

@@ -11,14 +11,14 @@ use Rattle.trace_text.specs.Worlds.{Machine}
 use Rattle.trace_draw.specs.declared.course.Ended.{Ended}
 use Rattle.trace_draw.specs.declared.course.Ended.TheVariants.{Clean, Fault}
 use Rattle.trace_draw.specs.Courses.{IsRunOf}
-use Rattle.trace_draw.specs.Snapshots.{TellsMachine}
+use Rattle.trace_draw.specs.Snapshots.{ReportsMachine}
 
 -- a machine has one text
 abbrev pub OneText : Type 0
 OneText =
     (machine : Option Machine) (text other : List ℕ)
-    → TellsMachine machine text
-    → TellsMachine machine other
+    → ReportsMachine machine text
+    → ReportsMachine machine other
     → text ≡ other
 
 -- the outcome of a report without a disagreement, by how the run ends

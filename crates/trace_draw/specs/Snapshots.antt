@@ -27,12 +27,12 @@ pub record IsTextOf (m : Machine) (text : List ℕ) : Type 0 where
   pub text_is : text ≡ text_of_runs runs ++ text_of_slots m.state.contents.vms.slot 64
 
 -- without a machine there is no text
-abbrev pub TellsMachine : Option Machine → List ℕ → Type 0
-TellsMachine None text = text ≡ []
-TellsMachine (Some m) text = IsTextOf m text
+abbrev pub ReportsMachine : Option Machine → List ℕ → Type 0
+ReportsMachine None text = text ≡ []
+ReportsMachine (Some m) text = IsTextOf m text
 
 -- the text of the state at which a run of a trace ends, and how it ends
 pub record IsSnapshot (trace : List ℕ) (ended : Ended) (text : List ℕ) : Type 0 where
   pub standing : Standing
   pub run : IsRunOf trace standing ended
-  pub told : TellsMachine standing.machine text
+  pub told : ReportsMachine standing.machine text

@@ -1,7 +1,7 @@
 //! A snapshot as text: the owner rows where a trace ends, and the VM slots.
 ghost use Rattle.std.specs.Prelude.{◌≡◌, [], ◌++◌, codes, IfOk, OnOk, Some, map, string_bytes};
 ghost use Rattle.trace_draw.specs.Courses.{Leads};
-ghost use Rattle.trace_draw.specs.Snapshots.{IsSnapshot, IsTextOf, TellsMachine};
+ghost use Rattle.trace_draw.specs.Snapshots.{IsSnapshot, IsTextOf, ReportsMachine};
 ghost use Rattle.trace_draw.specs.Texts.{line_by, line_of_run, text_of_run, text_of_runs, text_of_slot, text_of_slots};
 ghost use Rattle.trace_text.specs.Ready.{IsReady};
 ghost use Rattle.trace_text.specs.Session.{at_start};
@@ -57,7 +57,7 @@ fn end_of<A: Allocator + Copy>(
     requires ready { IsReady session.old }
     requires empty { string_bytes text.old ≡ [] }
     ensures run { IfOk result (Leads 1 at_start (map (λ line. line.now) lines.now) (standing_of session.new)) }
-    ensures text { OnOk result (TellsMachine (standing_of session.new).machine (string_bytes text.new)) }
+    ensures text { OnOk result (ReportsMachine (standing_of session.new).machine (string_bytes text.new)) }
 {
     let ended = run_all(session, lines)?;
     write_end(session, text)?;
@@ -86,7 +86,7 @@ fn run_all<A: Allocator + Copy>(
 /// Writes the state at the end of a run.
 fn write_end<A: Allocator + Copy>(session: &Session<A>, text: &mut String) -> Result<(), AllocError>
     requires { string_bytes text.old ≡ [] }
-    ensures { OnOk result (TellsMachine (standing_of session.now).machine (string_bytes text.new)) }
+    ensures { OnOk result (ReportsMachine (standing_of session.now).machine (string_bytes text.new)) }
 {
     let Some(world) = session.world() else {
         return Ok(());

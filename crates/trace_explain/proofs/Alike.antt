@@ -8,7 +8,7 @@ use Rattle.trace_text.specs.Session.{Answer, Standing}
 use Rattle.state_changes.proofs.Once.{all_once}
 use Rattle.state_changes.specs.Together.{IsOnce}
 use Rattle.call_table.specs.declared.step.Step.{Step}
-use Rattle.trace_explain.specs.Explained.{Explains, IsBlock, TellsStep, explained, faulty, is_shown, step_at}
+use Rattle.trace_explain.specs.Explained.{Explains, IsBlock, ReportsStep, explained, faulty, is_shown, step_at}
 use Rattle.trace_text.specs.Worlds.{Machine}
 use Rattle.trace_explain.specs.Laws.{OneText, run_of}
 
@@ -47,7 +47,8 @@ same_standing told other new now e = ap (λ (x : Answer × Standing). x.1) e
 not_both : (fault : Fault) (told : List ReportLine) (new now : Standing) → at_fault fault new ≡ at_lines told now → ⊥
 not_both fault told new now e = let h : Err (stops.Fault fault) ≡ Ok told = ap (λ (x : Answer × Standing). x.0) e in cc
 
-step_once : (old : Option Machine) (asked : Option (ℕ × Step)) (new : Option Machine) → IsOnce (TellsStep old asked new)
+step_once : (old : Option Machine) (asked : Option (ℕ × Step)) (new : Option Machine)
+    → IsOnce (ReportsStep old asked new)
 step_once None asked new a b p q = p ∙ sym q
 step_once (Some m) None new a b p q = p ∙ sym q
 step_once (Some m) (Some (cpu, step)) None a b p q = p ∙ sym q

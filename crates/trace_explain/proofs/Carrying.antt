@@ -7,11 +7,11 @@ use Rattle.ghost_spec.specs.declared.lists.GhostLists.{GhostLists}
 use Rattle.page_state.proofs.Cases.{by_lt}
 use Rattle.page_state.specs.Layouts.{Layout}
 use Rattle.reference_model.specs.model.State.{Contents, Reference}
-use Rattle.state_changes.specs.Changed.{TellsAll}
+use Rattle.state_changes.specs.Changed.{ReportsAll}
 use Rattle.state_changes.specs.Together.{Adds}
 use Rattle.call_table.specs.declared.step.Step.{Step}
-use Rattle.trace_explain.specs.Carried.{HasFrames, IsBefore, TellsFrom}
-use Rattle.trace_explain.specs.Explained.{IsBlock, TellsStep, explained, line_with, step_at, step_of}
+use Rattle.trace_explain.specs.Carried.{HasFrames, IsBefore, ReportsFrom}
+use Rattle.trace_explain.specs.Explained.{IsBlock, ReportsStep, explained, line_with, step_at, step_of}
 use Rattle.trace_explain.specs.Looks.{Look, seen}
 use Rattle.trace_lines.specs.declared.fault.LineFault.{LineFault}
 use Rattle.trace_lines.specs.declared.line.Line.{Line}
@@ -26,45 +26,46 @@ use Rattle.trace_text.specs.Replay.{IsPlayed}
 use Rattle.trace_text.specs.Session.{Answer, Faults, Follows, IsStepped, MakesStep, Standing}
 use Rattle.trace_text.specs.Worlds.{Machine, in_state}
 
-pub told_step : (old : Option Machine) (asked : Option (ℕ × Step)) (g : Option GhostLists) (new : Option Machine)
+pub report_of_step : (old : Option Machine) (asked : Option (ℕ × Step)) (g : Option GhostLists) (new : Option Machine)
     (a b : List ℕ)
     → IsBefore old asked g
-    → Adds (TellsFrom g asked new) a b
-    → Adds (TellsStep old asked new) a b
-told_step (Some m) (Some (cpu, step)) (Some g) (Some n) a b is t =
-    subst (λ (x : Contents). Adds (TellsAll x n.state.contents cpu) a b) (ap (λ (s : Reference). s.contents) is.state) t
-told_step (Some m) (Some (cpu, step)) (Some g) None a b is t = t
-told_step (Some m) (Some (cpu, step)) None new a b is t = absurd is
-told_step (Some m) None None new a b is t = t
-told_step None asked None new a b is t = t
-told_step (Some m) None (Some g) new a b is t = absurd is
-told_step None asked (Some g) new a b is t = absurd is
+    → Adds (ReportsFrom g asked new) a b
+    → Adds (ReportsStep old asked new) a b
+report_of_step (Some m) (Some (cpu, step)) (Some g) (Some n) a b is t =
+    subst (λ (x : Contents). Adds (ReportsAll x n.state.contents cpu) a b)
+    (ap (λ (s : Reference). s.contents) is.state) t
+report_of_step (Some m) (Some (cpu, step)) (Some g) None a b is t = t
+report_of_step (Some m) (Some (cpu, step)) None new a b is t = absurd is
+report_of_step (Some m) None None new a b is t = t
+report_of_step None asked None new a b is t = t
+report_of_step (Some m) None (Some g) new a b is t = absurd is
+report_of_step None asked (Some g) new a b is t = absurd is
 
 pair_same : (a b : ℕ × Step) → ◌≡◌ {A = Option (ℕ × Step)} (Some a) (Some b) → a ≡ b
 pair_same a b e = cc
 
 -- a line that says a step is of a step
-step_said : (r : Result (Option Line) LineFault) (cpu : ℕ) (step : Step)
+step_of_line : (r : Result (Option Line) LineFault) (cpu : ℕ) (step : Step)
     → Some (cpu, step) ≡ step_of r
     → r ≡ Ok (Some (lines.Step cpu step))
-step_said (Err fault) cpu step e = absurd (let f : ◌≡◌ {A = Option (ℕ × Step)} (Some (cpu, step)) None = e in cc)
-step_said (Ok None) cpu step e = absurd (let f : ◌≡◌ {A = Option (ℕ × Step)} (Some (cpu, step)) None = e in cc)
-step_said (Ok (Some (lines.Step c s))) cpu step e = said_same c s cpu step e
+step_of_line (Err fault) cpu step e = absurd (let f : ◌≡◌ {A = Option (ℕ × Step)} (Some (cpu, step)) None = e in cc)
+step_of_line (Ok None) cpu step e = absurd (let f : ◌≡◌ {A = Option (ℕ × Step)} (Some (cpu, step)) None = e in cc)
+step_of_line (Ok (Some (lines.Step c s))) cpu step e = said_same c s cpu step e
   where
     said_same : (c : ℕ) (s : Step) (cpu : ℕ) (step : Step)
         → ◌≡◌ {A = Option (ℕ × Step)} (Some (cpu, step)) (Some (c, s))
         → ◌≡◌ {A = Result (Option Line) LineFault} (Ok (Some (lines.Step c s))) (Ok (Some (lines.Step cpu step)))
     said_same c s cpu step e =
         ap (λ (x : ℕ × Step). Ok (Some (lines.Step x.0 x.1))) (sym (pair_same (cpu, step) (c, s) e))
-step_said (Ok (Some (lines.Setting setting))) cpu step e =
+step_of_line (Ok (Some (lines.Setting setting))) cpu step e =
     absurd (let f : ◌≡◌ {A = Option (ℕ × Step)} (Some (cpu, step)) None = e in cc)
-step_said (Ok (Some lines.Boot)) cpu step e =
+step_of_line (Ok (Some lines.Boot)) cpu step e =
     absurd (let f : ◌≡◌ {A = Option (ℕ × Step)} (Some (cpu, step)) None = e in cc)
-step_said (Ok (Some (lines.Query query))) cpu step e =
+step_of_line (Ok (Some (lines.Query query))) cpu step e =
     absurd (let f : ◌≡◌ {A = Option (ℕ × Step)} (Some (cpu, step)) None = e in cc)
-step_said (Ok (Some (lines.Poke poke))) cpu step e =
+step_of_line (Ok (Some (lines.Poke poke))) cpu step e =
     absurd (let f : ◌≡◌ {A = Option (ℕ × Step)} (Some (cpu, step)) None = e in cc)
-step_said (Ok (Some lines.Start)) cpu step e =
+step_of_line (Ok (Some lines.Start)) cpu step e =
     absurd (let f : ◌≡◌ {A = Option (ℕ × Step)} (Some (cpu, step)) None = e in cc)
 
 not_err : (reported : List ReportLine) (stop : Stop) → ◌≡◌ {A = Answer} (Ok reported) (Err stop) → ⊥
@@ -116,7 +117,7 @@ same_layout number cpu step line m n old reported new played asks was is =
     (λ few.
     let does =
     subst (λ (r : Result (Option Line) LineFault). Follows agreed number r old (Ok reported) new)
-    (step_said _ cpu step asks) (played.runs few) in
+    (step_of_line _ cpu step asks) (played.runs few) in
     on_machine number cpu step old.machine m n old reported new was does is)
 
 pub has_frames : (number : ℕ) (line : List ℕ) (old : Standing) (reported : List ReportLine) (new : Standing)
@@ -145,13 +146,13 @@ pub block_made : (line : List ℕ) (old : Standing) (reported : List ReportLine)
     → asked ≡ step_at old line
     → looks ≡ seen old.machine asked
     → b ≡ a ++ line_with line asked looks reported new.machine
-    → Adds (TellsStep old.machine asked new.machine) b c
+    → Adds (ReportsStep old.machine asked new.machine) b c
     → Adds (IsBlock true line old reported new) a c
 block_made line old reported new asked looks a b c asks sees is (changed, t, e) =
     let all : b ≡ a ++ explained line old reported new =
     is ∙ ap (λ (x : List Look). a ++ line_with line asked x reported new.machine) sees
     ∙ ap (λ (x : Option (ℕ × Step)). a ++ line_with line x (seen old.machine x) reported new.machine) asks in (
       explained line old reported new ++ changed,
-      (changed, subst (λ (x : Option (ℕ × Step)). TellsStep old.machine x new.machine changed) asks t, refl),
+      (changed, subst (λ (x : Option (ℕ × Step)). ReportsStep old.machine x new.machine changed) asks t, refl),
       e ∙ ap (λ x. x ++ changed) all ∙ append_assoc a (explained line old reported new) changed,
     )

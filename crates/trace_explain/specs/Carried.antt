@@ -3,7 +3,7 @@ use Rattle.std.specs.Prelude.{◌≡◌, ℕ, Bool, List, [], Option, Some, None
 use Rattle.ghost_oracle.specs.Found.{HasRowsOf}
 use Rattle.ghost_spec.specs.declared.lists.GhostLists.{GhostLists}
 use Rattle.ghost_spec.specs.States.{contents_in, ghost_state}
-use Rattle.state_changes.specs.Changed.{TellsAll}
+use Rattle.state_changes.specs.Changed.{ReportsAll}
 use Rattle.state_changes.specs.Together.{Adds}
 use Rattle.call_table.specs.declared.step.Step.{Step}
 use Rattle.trace_explain.specs.Explained.{IsBlock}
@@ -44,7 +44,7 @@ HasFrames (Some g) (Some n) = HasRowsOf n.layout g
 HasFrames g machine = Unit {0}
 
 -- what changed from a state to that of a machine
-abbrev pub TellsFrom : Option GhostLists → Option (ℕ × Step) → Option Machine → List ℕ → Type 0
-TellsFrom (Some g) (Some (cpu, step)) (Some n) text =
-    TellsAll (contents_in g) n.state.contents cpu text
-TellsFrom g asked machine text = text ≡ []
+abbrev pub ReportsFrom : Option GhostLists → Option (ℕ × Step) → Option Machine → List ℕ → Type 0
+ReportsFrom (Some g) (Some (cpu, step)) (Some n) text =
+    ReportsAll (contents_in g) n.state.contents cpu text
+ReportsFrom g asked machine text = text ≡ []

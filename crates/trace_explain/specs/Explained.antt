@@ -1,6 +1,6 @@
 -- What `explain` says of a trace (profile).
 use Rattle.std.specs.Prelude.{◌≡◌, ℕ, ◌+◌, ◌==◌, Bool, true, false, List, [], ◌∷◌, ◌++◌, codes, Option, Some, None, Result, Ok, Err, is_some}
-use Rattle.state_changes.specs.Changed.{TellsAll}
+use Rattle.state_changes.specs.Changed.{ReportsAll}
 use Rattle.call_table.specs.declared.reply.Reply.TheVariants.{Refused}
 use Rattle.call_table.specs.declared.step.Step.{Step}
 use Rattle.trace_check.specs.Shown.{shown}
@@ -76,10 +76,10 @@ faulty name all place line fault =
 
 -- the changes of a step: all that differs between the machine before it and the one after it.
 -- Without a step or a machine there are none
-abbrev pub TellsStep : Option Machine → Option (ℕ × Step) → Option Machine → List ℕ → Type 0
-TellsStep (Some m) (Some (cpu, step)) (Some n) text =
-    TellsAll m.state.contents n.state.contents cpu text
-TellsStep old asked new text = text ≡ []
+abbrev pub ReportsStep : Option Machine → Option (ℕ × Step) → Option Machine → List ℕ → Type 0
+ReportsStep (Some m) (Some (cpu, step)) (Some n) text =
+    ReportsAll m.state.contents n.state.contents cpu text
+ReportsStep old asked new text = text ≡ []
 
 -- whether a line is shown, by its number: each one, or only the line of the number given
 abbrev pub is_shown : Option ℕ → ℕ → Bool
@@ -92,7 +92,7 @@ abbrev pub IsBlock : Bool → List ℕ → Standing → List ReportLine → Stan
 IsBlock false line old reported new text = text ≡ []
 IsBlock true line old reported new text =
     (changed : List ℕ)
-    × TellsStep old.machine (step_at old line) new.machine changed
+    × ReportsStep old.machine (step_at old line) new.machine changed
     × (text ≡ explained line old reported new ++ changed)
 
 module _ (only : Option ℕ) (name : List ℕ) (all : List (List ℕ)) where

@@ -11,28 +11,29 @@ use Rattle.reference_model.specs.declared.changes.Loaded.{Loaded}
 use Rattle.reference_model.specs.declared.changes.Ticket.{Ticket as CpuTicket}
 use Rattle.call_table.specs.declared.step.Step.{Step}
 use Rattle.call_table.specs.declared.step.Step.TheVariants as steps
-use Rattle.trace_text.specs.Worlds.{Machine, free_told}
+use Rattle.trace_text.specs.Worlds.{Machine, shared_free_count}
 use Rattle.trace_explain.specs.declared.place.Place.{Place}
 use Rattle.trace_explain.specs.declared.place.Place.TheVariants.{Host, Hyp, GuestPage, Owner, FreeShared, Guest, Vm, Vcpu, Loaded as LoadedPlace, Hand, Ticket}
 use Rattle.trace_explain.specs.Texts.{look_line, name_of, text_of_guest, text_of_hand, text_of_loaded, text_of_slot, text_of_ticket, text_of_vcpu}
 
 -- the contents in a machine, for a step of this CPU
-abbrev pub told_at : Machine → ℕ → Place → List ℕ
-told_at m cpu (Host page) = text_of_entry (m.state.contents.shared.host.map page)
-told_at m cpu (Hyp page) = text_of_entry (m.state.contents.shared.hyp.map page)
-told_at m cpu (GuestPage slot page) = text_of_entry ((m.state.contents.guest slot).tree.map page)
-told_at m cpu (Owner frame) =
+abbrev pub text_at_place : Machine → ℕ → Place → List ℕ
+text_at_place m cpu (Host page) = text_of_entry (m.state.contents.shared.host.map page)
+text_at_place m cpu (Hyp page) = text_of_entry (m.state.contents.shared.hyp.map page)
+text_at_place m cpu (GuestPage slot page) =
+    text_of_entry ((m.state.contents.guest slot).tree.map page)
+text_at_place m cpu (Owner frame) =
     if has_memory m.layout.memory frame then text_of_row (m.state.contents.shared.row frame)
     else codes "no memory"
-told_at m cpu FreeShared = decimal (free_told m)
-told_at m cpu (Guest slot) = text_of_guest (m.state.contents.guest slot)
-told_at m cpu (Vm slot) =
+text_at_place m cpu FreeShared = decimal (shared_free_count m)
+text_at_place m cpu (Guest slot) = text_of_guest (m.state.contents.guest slot)
+text_at_place m cpu (Vm slot) =
     if nat_lt slot 64 then text_of_slot (m.state.contents.vms.slot slot) else codes "no slot"
-told_at m cpu (Vcpu slot vcpu) =
+text_at_place m cpu (Vcpu slot vcpu) =
     if nat_lt slot 64 then text_of_vcpu (m.state.contents.vms.slot slot) vcpu else codes "no slot"
-told_at m cpu LoadedPlace = text_of_loaded (m.state.contents.cpu cpu).loaded
-told_at m cpu Hand = text_of_hand (m.state.contents.cpu cpu).hand
-told_at m cpu Ticket = text_of_ticket (m.state.contents.cpu cpu).ticket
+text_at_place m cpu LoadedPlace = text_of_loaded (m.state.contents.cpu cpu).loaded
+text_at_place m cpu Hand = text_of_hand (m.state.contents.cpu cpu).hand
+text_at_place m cpu Ticket = text_of_ticket (m.state.contents.cpu cpu).ticket
 
 -- a memory frame: the host's entry of it, the hypervisor's, and its owner row
 abbrev pub frame_places : Memory → ℕ → List Place
@@ -140,7 +141,7 @@ Look = Place × List ℕ
 
 -- places, with their contents for a step of a CPU, and so those that a step looks at
 abbrev pub seen_at : Machine → ℕ → List Place → List Look
-seen_at m cpu places = map (λ place. (place, told_at m cpu place)) places
+seen_at m cpu places = map (λ place. (place, text_at_place m cpu place)) places
 
 abbrev pub seen_by : Machine → ℕ → Step → List Look
 seen_by m cpu step = seen_at m cpu (places_of m cpu step)
@@ -154,7 +155,7 @@ seen machine asked = []
 abbrev pub look_lines : Machine → ℕ → List Look → List ℕ
 look_lines m cpu [] = []
 look_lines m cpu ((place, before) ∷ more) =
-    look_line (name_of place) before (told_at m cpu place) ++ look_lines m cpu more
+    look_line (name_of place) before (text_at_place m cpu place) ++ look_lines m cpu more
 
 -- the lines of what a step looked at, if there is a machine and a step
 abbrev pub looked : Option Machine → Option (ℕ × Step) → List Look → List ℕ

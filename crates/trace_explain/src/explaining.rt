@@ -2,9 +2,9 @@
 ghost use Rattle.std.specs.Prelude.{◌≡◌, ℕ, ◌+◌, ◌<◌, ◌≤◌, [], ◌++◌, List, IfOk, OnOk, is_some, length, true, false};
 ghost use Rattle.ghost_oracle.specs.Found.{HasRowsOf};
 ghost use Rattle.ghost_spec.specs.States.{contents_in};
-ghost use Rattle.state_changes.specs.Changed.{TellsAll};
+ghost use Rattle.state_changes.specs.Changed.{ReportsAll};
 ghost use Rattle.state_changes.specs.Together.{Adds};
-ghost use Rattle.trace_explain.specs.Carried.{HasFrames, IsBefore, TellsFrom};
+ghost use Rattle.trace_explain.specs.Carried.{HasFrames, IsBefore, ReportsFrom};
 ghost use Rattle.trace_explain.specs.Explained.{ExplainsAll, caused_line, ended, is_shown, plain_line, report_line, report_lines, step_at};
 ghost use Rattle.trace_explain.specs.Looks.{look_lines, looked, seen, seen_at, seen_by};
 ghost use Rattle.trace_explain.specs.Texts.{look_line, name_of};
@@ -15,15 +15,15 @@ ghost use Rattle.trace_text.specs.Session.{allowed as allowed_by, at_start};
 ghost use Rattle.trace_text.specs.View.{lines_reported, machine_of, standing_of};
 
 use crate::causes::cause_of;
-use crate::looking::told_at;
+use crate::looking::text_at_place;
 use crate::place::Place;
 use crate::places::add_places;
 use call_table::{Reply, Step};
 use ghost_spec::state::Ghost;
 use state_changes::add_changes;
 use std::alloc::{AllocError, Allocator, Global};
+use trace_check::lines_of_report;
 use trace_check::shown::shown;
-use trace_check::told_lines;
 use trace_faults::add_place;
 use trace_lines::{Allows, Line, Response, said};
 use trace_reader::{Outcome, lines};
@@ -173,7 +173,7 @@ fn show_line<A: Allocator + Copy>(
     ensures steps { (standing_of session.new).steps ≤ place + 1 }
     ensures ready { IsReady session.new }
 {
-    let asked = step_said(session, lines[place]);
+    let asked = step_of_line(session, lines[place]);
     let looks = looks_before(global, session, asked)?;
     let before = state_before(global, session, asked)?;
     let shown = show_run(
@@ -252,7 +252,7 @@ fn add_changed<A: Allocator + Copy>(
     requires frames { HasFrames before.now (standing_of session.now).machine }
     ensures { OnOk result
         (Adds
-        (TellsFrom before.now asked (standing_of session.now).machine) text.old.items
+        (ReportsFrom before.now asked (standing_of session.now).machine) text.old.items
         text.new.items) }
 {
     let Some(before) = before else {
@@ -278,7 +278,7 @@ fn add_changed_to<A: Allocator>(
     requires frames { HasRowsOf (machine_of world.now).layout before.now }
     ensures { OnOk result
         (Adds
-        (TellsAll (contents_in before.now)
+        (ReportsAll (contents_in before.now)
         (machine_of world.now).state.contents cpu) text.old.items text.new.items) }
 {
     let after = world.to_ghost(global)?;
@@ -308,7 +308,7 @@ fn line_run<A: Allocator + Copy>(
 }
 
 /// The step that a line says, with its CPU.
-fn step_said<A: Allocator + Copy>(session: &Session<A>, line: &[u8]) -> Option<(u64, Step)>
+fn step_of_line<A: Allocator + Copy>(session: &Session<A>, line: &[u8]) -> Option<(u64, Step)>
     ensures { result ≡ step_at (standing_of session.now) line.now }
 {
     match said(allowed(session), session.settings(), line) {
@@ -370,7 +370,7 @@ fn looks_at<A: Allocator>(
 {
     let mut looks = Vec::new(global);
     for place in places {
-        let before = told_at(global, world, cpu, *place)?;
+        let before = text_at_place(global, world, cpu, *place)?;
         looks.push(Look {
             place: *place,
             before,
@@ -394,7 +394,7 @@ fn add_line<A: Allocator + Copy>(
         ≡ text.old.items ++ told_line session.now line.now asked looks.now reported) }
 {
     add_ended(text, line)?;
-    let told = told_lines(global, session, reported)?;
+    let told = lines_of_report(global, session, reported)?;
     add_report(text, global, asked, told.as_slice())?;
     add_looked(text, global, session, asked, looks)
 }
@@ -517,7 +517,7 @@ fn add_looks<A: Allocator>(
         ≡ text.old.items ++ look_lines (machine_of world.now) cpu (looks_in looks.now)) }
 {
     for look in looks {
-        let after = told_at(global, world, cpu, look.place)?;
+        let after = text_at_place(global, world, cpu, look.place)?;
         add_look(
             text,
             global,

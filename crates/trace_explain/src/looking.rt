@@ -1,16 +1,16 @@
 //! The contents of a place in a world.
 ghost use Rattle.std.specs.Prelude.{◌≡◌, ◌<◌, IfOk, MatchOption, None, Some, string_bytes};
-ghost use Rattle.trace_explain.specs.Looks.{told_at as told_by};
+ghost use Rattle.trace_explain.specs.Looks.{text_at_place as told_by};
 ghost use Rattle.trace_explain.specs.Texts.{text_of_guest, text_of_vcpu};
 ghost use Rattle.trace_text.specs.View.{body_at, machine_of};
 ghost use Rattle.vm_table.specs.View.{slot_of};
 
 use crate::place::Place;
-use crate::words::{told_body, told_entry};
+use crate::words::{body_text, entry_text};
 use guest_component::Body;
 use page_state::{Entry, Frame, Page, PageRange};
 use reference_model::{Loaded, Ticket};
-use state_changes::{told_cpu, told_hand, told_loaded, told_ticket};
+use state_changes::{cpu_text, hand_text, loaded_text, ticket_text};
 use std::alloc::{AllocError, Allocator, Global};
 use vm_table::Slot;
 use world::World;
@@ -69,7 +69,7 @@ pub(crate) fn guest_entry<A: Allocator>(world: &World<A>, slot: u64, page: u64) 
 }
 
 /// The contents of a place, in words.
-pub(crate) fn told_at<A: Allocator>(
+pub(crate) fn text_at_place<A: Allocator>(
     global: Global,
     world: &World<A>,
     cpu: u64,
@@ -85,18 +85,18 @@ pub(crate) fn told_at<A: Allocator>(
             format!(in global; "{}", world.parts().shared.hyp.tree().look(Page(page)))
         }
         Place::GuestPage { slot, page } => format!(in global; "{}", guest_entry(world, slot, page)),
-        Place::Owner(frame) => told_row(global, world, frame),
+        Place::Owner(frame) => row_text(global, world, frame),
         Place::FreeShared => format!(in global; "{}", world.parts().shared.pool.free()),
-        Place::Guest(slot) => told_guest(global, world, slot),
-        Place::Vm(slot) => told_slot(global, world, slot),
-        Place::Vcpu { slot, vcpu } => told_holder(global, world, slot, vcpu),
-        Place::Loaded => told_loaded(global, own_of(world, cpu).loaded),
-        Place::Hand => told_hand(global, own_of(world, cpu).hand),
-        Place::Ticket => told_ticket(global, own_of(world, cpu).ticket),
+        Place::Guest(slot) => guest_text(global, world, slot),
+        Place::Vm(slot) => slot_text(global, world, slot),
+        Place::Vcpu { slot, vcpu } => holder_text(global, world, slot, vcpu),
+        Place::Loaded => loaded_text(global, own_of(world, cpu).loaded),
+        Place::Hand => hand_text(global, own_of(world, cpu).hand),
+        Place::Ticket => ticket_text(global, own_of(world, cpu).ticket),
     }
 }
 
-fn told_row<A: Allocator>(
+fn row_text<A: Allocator>(
     global: Global,
     world: &World<A>,
     frame: u64,
@@ -112,7 +112,7 @@ fn told_row<A: Allocator>(
     format!(in global; "{row}")
 }
 
-fn told_guest<A: Allocator>(
+fn guest_text<A: Allocator>(
     global: Global,
     world: &World<A>,
     slot: u64,
@@ -122,12 +122,12 @@ fn told_guest<A: Allocator>(
         ≡ text_of_guest ((machine_of world.now).state.contents.guest slot)) }
 {
     match guest_body(world, slot) {
-        Some(body) => told_body(global, body),
+        Some(body) => body_text(global, body),
         None => String::from_str(global, "empty"),
     }
 }
 
-fn told_slot<A: Allocator>(
+fn slot_text<A: Allocator>(
     global: Global,
     world: &World<A>,
     slot: u64,
@@ -137,10 +137,10 @@ fn told_slot<A: Allocator>(
     if slot >= SLOTS {
         return String::from_str(global, "no slot");
     }
-    told_entry(global, world.parts().vms.table.slot(slot))
+    entry_text(global, world.parts().vms.table.slot(slot))
 }
 
-fn told_holder<A: Allocator>(
+fn holder_text<A: Allocator>(
     global: Global,
     world: &World<A>,
     slot: u64,
@@ -152,17 +152,17 @@ fn told_holder<A: Allocator>(
     if slot >= SLOTS {
         return String::from_str(global, "no slot");
     }
-    told_vcpu(global, world.parts().vms.table.slot(slot), vcpu)
+    vcpu_text(global, world.parts().vms.table.slot(slot), vcpu)
 }
 
 /// The CPU that has a vCPU of a slot loaded.
-fn told_vcpu(global: Global, slot: Slot, vcpu: u64) -> Result<String, AllocError>
+fn vcpu_text(global: Global, slot: Slot, vcpu: u64) -> Result<String, AllocError>
     ensures { IfOk result (λ text. string_bytes text ≡ text_of_vcpu (slot_of slot) vcpu) }
 {
     if vcpu >= VCPUS {
         return String::from_str(global, "no vcpu");
     }
-    told_cpu(global, holder_of(slot, vcpu))
+    cpu_text(global, holder_of(slot, vcpu))
 }
 
 fn holder_of(slot: Slot, vcpu: u64) -> Option<u64>

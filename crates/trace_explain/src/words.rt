@@ -14,7 +14,7 @@ use std::fmt;
 use vm_table::Slot;
 
 /// A guest that isn't Empty.
-pub(crate) fn told_body<A: Allocator>(global: Global, body: &Body<A>) -> Result<String, AllocError>
+pub(crate) fn body_text<A: Allocator>(global: Global, body: &Body<A>) -> Result<String, AllocError>
     ensures { IfOk result (λ text. string_bytes text ≡ text_of_guest (guest_in (Some body.now))) }
 {
     let line = GuestLine {
@@ -27,7 +27,7 @@ pub(crate) fn told_body<A: Allocator>(global: Global, body: &Body<A>) -> Result<
 }
 
 /// A VM slot.
-pub(crate) fn told_entry(global: Global, slot: Slot) -> Result<String, AllocError>
+pub(crate) fn entry_text(global: Global, slot: Slot) -> Result<String, AllocError>
     ensures { IfOk result (λ text. string_bytes text ≡ text_of_slot (slot_of slot)) }
 {
     let line = SlotLine(slot);

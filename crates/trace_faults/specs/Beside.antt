@@ -35,9 +35,9 @@ place_of name lines number fault =
 
 -- the text beside the report of these lines, whose run had this fault at the line of this number,
 -- or none
-abbrev pub said_beside : List ℕ → List (List ℕ) → Option (ℕ × Fault) → Bool → List ℕ
-said_beside name lines (Some (number, fault)) races = place_of name lines number fault
-said_beside name lines None races = remark name lines races
+abbrev pub text_beside : List ℕ → List (List ℕ) → Option (ℕ × Fault) → Bool → List ℕ
+text_beside name lines (Some (number, fault)) races = place_of name lines number fault
+text_beside name lines None races = remark name lines races
 
 -- the fault of a line, by its name
 abbrev pub line_fault : List ℕ → Option LineFault
@@ -94,5 +94,5 @@ abbrev pub is_told : List (List ℕ) → Bool
 is_told words =
     elim (slice_get words 1) [ Some word ↦ bytes_eq word (codes "fault") | None ↦ false ]
 
-abbrev pub fault_told : List ℕ → Option (ℕ × Fault)
-fault_told told = if is_told (words_of told) then fault_in_words (words_of told) else None
+abbrev pub fault_reported : List ℕ → Option (ℕ × Fault)
+fault_reported told = if is_told (words_of told) then fault_in_words (words_of told) else None

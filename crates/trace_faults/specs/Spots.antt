@@ -31,8 +31,8 @@ abbrev pub said_of : List ℕ → List ℕ → List ℕ
 said_of found wanted = codes "found " ++ found ++ codes ", wanted " ++ wanted
 
 -- a word, or a line
-abbrev pub word_said : List ℕ → List ℕ
-word_said word = codes "`" ++ word ++ codes "`"
+abbrev pub word_text : List ℕ → List ℕ
+word_text word = codes "`" ++ word ++ codes "`"
 
 -- of something that is no word
 abbrev pub at : ℕ → ℕ → List ℕ → List ℕ → Told
@@ -41,14 +41,14 @@ at number column found wanted =
 
 -- of a whole line
 abbrev pub of_line : ℕ → List ℕ → List ℕ → Told
-of_line number line wanted = at number 1 (word_said line) wanted
+of_line number line wanted = at number 1 (word_text line) wanted
 
 -- the spot of the word at a place of a line, or of the line's end if there is none
 abbrev pub at_word : ℕ → List ℕ → ℕ → List ℕ → Told
 at_word number line place wanted =
     at number (word_column line place)
     (elim (slice_get (words_of line) place)
-    [ Some word ↦ word_said word | None ↦ codes "the line's end" ]) wanted
+    [ Some word ↦ word_text word | None ↦ codes "the line's end" ]) wanted
 
 -- the same with the fault's name first
 abbrev pub with_fault : Fault → Told → Told
@@ -79,13 +79,13 @@ abbrev pub meant : List ℕ → List ℕ
 meant name = if length name == 0 then [] else asked name
 
 -- what is expected for an unknown word, by the line's first, and the name that it may be meant for
-unfoldable pub unknown_said : List ℕ → List ℕ → List ℕ
-unknown_said first word = unknown_wanted first ++ meant (nearest_of word (names_of first))
+unfoldable pub unknown_text : List ℕ → List ℕ → List ℕ
+unknown_text first word = unknown_wanted first ++ meant (nearest_of word (names_of first))
 
 -- the word that is unknown or missing
 abbrev pub unknown_at : ℕ → List ℕ → List ℕ → ℕ → Told
 unknown_at number line first place =
-    at_word number line place (unknown_said first (unwrap_or (slice_get (words_of line) place) []))
+    at_word number line place (unknown_text first (unwrap_or (slice_get (words_of line) place) []))
 
 abbrev pub unknown_spot : ℕ → List ℕ → Told
 unknown_spot number line =
@@ -112,15 +112,15 @@ wrong_spot number line =
     (first_wrong (words_of line) (forms (words_of line)) 0)
 
 -- a byte that no line may have, in words
-abbrev pub byte_said : ℕ → List ℕ
-byte_said byte =
+abbrev pub byte_text : ℕ → List ℕ
+byte_text byte =
     if byte == 9 then codes "a tab"
     else (if byte == 13 then codes "a carriage return" else codes "another byte")
 
 -- the first that a line has
 abbrev pub byte_found : List ℕ → List ℕ
 byte_found [] = codes "another byte"
-byte_found (byte ∷ bytes) = if is_stray byte then byte_said byte else byte_found bytes
+byte_found (byte ∷ bytes) = if is_stray byte then byte_text byte else byte_found bytes
 
 -- where a fault of a line is, by the line itself and by whether a line before it is `boot`
 abbrev pub line_spot : ℕ → List ℕ → LineFault → Bool → Told

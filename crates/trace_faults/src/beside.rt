@@ -5,14 +5,14 @@ ghost use Rattle.std.specs.Str.{bytes_eq};
 ghost use Rattle.trace_faults.specs.Beside.{
   boot_fault as boot_fault_by,
   fault_named as fault_named_by,
-  fault_told as fault_told_by,
+  fault_reported as fault_reported_by,
   file_line,
   layout_fault as layout_fault_by,
   line_fault as line_fault_by,
   place_of as place_of_by,
   plain_fault as plain_fault_by,
   remark as remark_by,
-  said_beside as said_beside_by,
+  text_beside as said_beside_by,
 };
 ghost use Rattle.trace_reader.specs.Reading.{lines_of};
 ghost use Rattle.trace_words.specs.Words.{is_silent as is_silent_line};
@@ -28,7 +28,7 @@ use world::BootFault;
 
 /// The text beside the report of a trace whose run had this fault at the line of this number, or none. `name` is the
 /// trace's file, and `races` says whether the steps after `start` are made at once. Empty if there is nothing to say.
-pub fn said_beside(
+pub fn text_beside(
     global: Global,
     name: &str,
     trace: &[u8],
@@ -134,8 +134,8 @@ fn has_started(lines: &[&[u8]]) -> bool
 }
 
 /// The fault of a report's line, and the number of the trace's line. None of a line without a fault.
-pub fn fault_told(told: &[u8]) -> Option<(u64, Fault)>
-    ensures { result ≡ fault_told_by told.now }
+pub fn fault_reported(told: &[u8]) -> Option<(u64, Fault)>
+    ensures { result ≡ fault_reported_by told.now }
 {
     let words = Words::of(told);
     if !is_name(words.get(1)?, b"fault") {

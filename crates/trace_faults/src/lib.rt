@@ -12,5 +12,5 @@ mod placing;
 mod saying;
 mod wanted;
 
-pub use beside::{add_file_line, fault_told, said_beside};
+pub use beside::{add_file_line, fault_reported, text_beside};
 pub use placing::add_place;

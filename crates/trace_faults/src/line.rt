@@ -1,6 +1,6 @@
 //! Faults of a line by itself.
 ghost use Rattle.std.specs.Prelude.{◌≡◌, ◌++◌, IfOk, OnOk};
-ghost use Rattle.trace_faults.specs.Spots.{asked, byte_found as byte_found_by, byte_said as byte_said_by, counted_spot, line_spot as line_spot_by, meant, spot_in, unknown_at as unknown_at_by, unknown_said as unknown_said_by, unknown_spot, wrong_spot};
+ghost use Rattle.trace_faults.specs.Spots.{asked, byte_found as byte_found_by, byte_text as byte_text_by, counted_spot, line_spot as line_spot_by, meant, spot_in, unknown_at as unknown_at_by, unknown_text as unknown_text_by, unknown_spot, wrong_spot};
 
 use crate::column::{space_column, stray_column};
 use crate::form::{first_wrong, forms};
@@ -53,14 +53,14 @@ fn byte_found(line: &[u8]) -> &'static [u8]
 {
     for byte in line {
         if *byte < 0x20 || *byte > 0x7e {
-            return byte_said(*byte);
+            return byte_text(*byte);
         }
     }
     b"another byte"
 }
 
-fn byte_said(byte: u8) -> &'static [u8]
-    ensures { result.now ≡ byte_said_by byte }
+fn byte_text(byte: u8) -> &'static [u8]
+    ensures { result.now ≡ byte_text_by byte }
 {
     match byte {
         b'\t' => b"a tab",
@@ -88,14 +88,14 @@ fn unknown_at(
     ensures { IfOk result (λ spot. spot_in spot ≡ unknown_at_by number line.now first.now place) }
 {
     let word = Words::of(line).get(place).unwrap_or(b"");
-    let wanted = unknown_said(global, first, word)?;
+    let wanted = unknown_text(global, first, word)?;
     at_word(global, number, line, place, wanted.as_slice())
 }
 
 /// What is expected for an unknown word, and the name that it may be meant for.
-#[tactic(auto, unfolding(crate::specs::Spots::unknown_said))]
-fn unknown_said(global: Global, first: &[u8], word: &[u8]) -> Result<Vec<u8>, AllocError>
-    ensures { IfOk result (λ said. said.items ≡ unknown_said_by first.now word.now) }
+#[tactic(auto, unfolding(crate::specs::Spots::unknown_text))]
+fn unknown_text(global: Global, first: &[u8], word: &[u8]) -> Result<Vec<u8>, AllocError>
+    ensures { IfOk result (λ said. said.items ≡ unknown_text_by first.now word.now) }
 {
     let mut said = Vec::from_slice(global, unknown_wanted(first))?;
     let name = meant_name(global, first, word)?;

@@ -1,6 +1,6 @@
 //! A spot, with its words.
 ghost use Rattle.std.specs.Prelude.{◌≡◌, ◌++◌, IfOk, OnOk};
-ghost use Rattle.trace_faults.specs.Spots.{at as at_by, at_word as at_word_by, of_line as of_line_by, said_of, spot_in, spot_line, with_fault as with_fault_by, word_said};
+ghost use Rattle.trace_faults.specs.Spots.{at as at_by, at_word as at_word_by, of_line as of_line_by, said_of, spot_in, spot_line, with_fault as with_fault_by, word_text};
 
 use crate::column::word_column;
 use std::alloc::{AllocError, Global};
@@ -70,7 +70,7 @@ pub(crate) fn at(
 
 /// A text between two backquotes.
 fn quoted(global: Global, text: &[u8]) -> Result<Vec<u8>, AllocError>
-    ensures { IfOk result (λ said. said.items ≡ word_said text.now) }
+    ensures { IfOk result (λ said. said.items ≡ word_text text.now) }
 {
     let mut said = Vec::from_slice(global, b"`")?;
     said.extend_from_slice(text)?;

@@ -18,7 +18,7 @@ use Rattle.call_table.specs.declared.step.Step.TheVariants.{ShareHyp, OwnerOf}
 use Rattle.reference_model.proofs.conditions.RunsLegal.{accepted_usable}
 use Rattle.reference_model.specs.model.Rules.{rule, guest_slot, names}
 use Rattle.reference_model.specs.model.State.{Reference, all_rooms}
-use Rattle.reference_model.specs.model.Step.{answer, fails, foretell, is_full, is_short, predict, refusal}
+use Rattle.reference_model.specs.model.Step.{answer, fails, predict_step, is_full, is_short, predict, refusal}
 use Rattle.reference_model.specs.model.Used.{Used, UsedRooms, rooms_of, used_of}
 use Rattle.trace_generate.specs.Reading.{IsIn64Bits}
 use Rattle.trace_generate.specs.Suggested.{IsChosen}
@@ -98,7 +98,7 @@ owner_made : (l : Layout) (s : Reference) (cpu f : ℕ)
     → is_memory l f ≡ true
     → s.rooms ≡ all_rooms 1
     → is_refused l s (record { cpu = cpu; step = OwnerOf f }) ≡ false
-unfolding foretell
+unfolding predict_step
 owner_made l s cpu f e room =
     let step = OwnerOf f in
     let slot = guest_slot (s.contents.cpu cpu) step in

@@ -7,7 +7,7 @@ use Rattle.page_state.proofs.Cases.{by_test}
 use Rattle.page_state.specs.LayoutFaults.{IsAccepted}
 use Rattle.page_state.specs.Layouts.{Layout, is_memory}
 use Rattle.reference_model.specs.model.Rules.{rule, guest_slot, names}
-use Rattle.reference_model.specs.model.Step.{answer, fails, foretell, is_full, predict, refusal}
+use Rattle.reference_model.specs.model.Step.{answer, fails, predict_step, is_full, predict, refusal}
 use Rattle.reference_model.specs.declared.changes.Ticket.{Ticket}
 use Rattle.reference_model.specs.model.State.{Reference}
 use Rattle.reference_model.specs.model.Used.{Used, UsedRooms, rooms_of, used_of}
@@ -105,7 +105,7 @@ share_predicted l cpu slot f x r e =
 pub share_refused : (l : Layout) (s : Reference) (cpu f : ℕ)
     → is_memory l f ≡ false
     → is_refused l s (record { cpu = cpu; step = ShareHyp f }) ≡ true
-unfolding foretell
+unfolding predict_step
 share_refused l s cpu f e =
     let step = ShareHyp f in
     let slot = guest_slot (s.contents.cpu cpu) step in

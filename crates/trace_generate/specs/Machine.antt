@@ -26,8 +26,8 @@ carve_range o =
     record { first = record { 0 = 0x40000 + (o.pages - carve_count o) }; count = carve_count o }
 
 -- the memory: one region
-abbrev pub memory_told : Options → Memory
-memory_told o =
+abbrev pub asked_memory : Options → Memory
+asked_memory o =
     record {
       regions = record { kind = kinds.Memory; pages = memory_range o }
           ∷ [];
@@ -35,8 +35,8 @@ memory_told o =
     }
 
 -- the configuration: logs with room for every step
-abbrev pub config_told : ℕ → Options → Config
-config_told steps o = record { cpus = o.cpus; log = max steps 1; geometry = o.geometry }
+abbrev pub asked_config : ℕ → Options → Config
+asked_config steps o = record { cpus = o.cpus; log = max steps 1; geometry = o.geometry }
 
 -- the settings that a trace begins with
 abbrev pub settings_of : ℕ → Options → SettingLines
@@ -51,8 +51,8 @@ settings_of steps o =
 
 -- the layout of the machine that these settings boot
 pub record IsLayoutOf (steps : ℕ) (o : Options) (l : Layout) : Type 0 where
-  pub memory : l.memory ≡ memory_told o
-  pub config : l.config ≡ config_told steps o
+  pub memory : l.memory ≡ asked_memory o
+  pub config : l.config ≡ asked_config steps o
   pub depth : HasItsDepth l
 
 -- no more steps than a trace has lines
@@ -79,7 +79,7 @@ pub record IsInRange (steps : ℕ) (o : Options) : Type 0 where
 -- frames
 abbrev pub CannotBoot : ℕ → Options → Type 0
 CannotBoot steps o =
-    ¬ IsAccepted (memory_told o) ⊎ ((l : Layout) × IsLayoutOf steps o l × ¬ IsCarveEnough l)
+    ¬ IsAccepted (asked_memory o) ⊎ ((l : Layout) × IsLayoutOf steps o l × ¬ IsCarveEnough l)
 
 -- what each fault says
 abbrev pub IsFault : GenerateFault → ℕ → Options → Type 0

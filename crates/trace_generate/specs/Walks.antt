@@ -3,7 +3,7 @@
 use Rattle.std.specs.Prelude.{◌≡◌, ◌⊎◌, ℕ, ◌+◌, ◌*◌, ◌/◌, ◌<◌, Bool, true, false, not, ◌==◌, List, [], ◌∷◌}
 use Rattle.page_state.specs.Layouts.{Layout}
 use Rattle.reference_model.specs.model.State.{Reference}
-use Rattle.reference_model.specs.model.Step.{foretell}
+use Rattle.reference_model.specs.model.Step.{predict_step}
 use Rattle.call_table.specs.declared.reply.Reply.{Reply}
 use Rattle.call_table.specs.declared.reply.Reply.TheVariants.{Done, Refused}
 use Rattle.call_table.specs.declared.step.Step.TheVariants.{OwnerOf}
@@ -21,11 +21,11 @@ is_refusal (Refused why) = true
 
 -- whether the model refuses a call in a state
 abbrev pub is_refused : Layout → Reference → StepLine → Bool
-is_refused l s c = is_refusal (foretell l s c.cpu c.step).0
+is_refused l s c = is_refusal (predict_step l s c.cpu c.step).0
 
 -- the state after a call
 abbrev pub after : Layout → Reference → StepLine → Reference
-after l s c = (foretell l s c.cpu c.step).1
+after l s c = (predict_step l s c.cpu c.step).1
 
 -- a call that is to be refused is; any other is made, or asks who owns the first page of memory
 abbrev pub IsAsWanted : Layout → Bool → Reference → StepLine → Type 0

@@ -1,6 +1,6 @@
 //! What a trace is made with, and the settings that follow from it.
 ghost use Rattle.std.specs.Prelude.{◌≡◌, ◌≤◌, ◌+◌, OnOk, IfErr, Ok, Err};
-ghost use Rattle.trace_generate.specs.Machine.{IsFault, IsInRange, carve_range, config_told, memory_range};
+ghost use Rattle.trace_generate.specs.Machine.{IsFault, IsInRange, carve_range, asked_config, memory_range};
 
 use page_state::{Config, Page, PageRange};
 use thiserror::Error;
@@ -101,7 +101,7 @@ pub(crate) fn carve(options: Options) -> PageRange
 
 /// The configuration: logs with room for every step.
 pub(crate) fn config(steps: u64, options: Options) -> Config
-    ensures { result ≡ config_told steps options }
+    ensures { result ≡ asked_config steps options }
 {
     Config {
         cpus: options.cpus,

@@ -2,7 +2,7 @@
 ghost use Rattle.std.specs.Prelude.{◌≡◌, ◌+◌, ◌*◌, ◌^◌, ◌<◌, ◌≤◌, true, false, IfOk, IfErr, IfSome, OnOk, Ok, Err, None, if◌then◌else◌};
 ghost use Rattle.page_state.specs.LayoutView.{layout_of};
 ghost use Rattle.reference_model.specs.model.Boot.{boot};
-ghost use Rattle.reference_model.specs.model.Step.{foretell};
+ghost use Rattle.reference_model.specs.model.Step.{predict_step};
 ghost use Rattle.ghost_spec.specs.States.{ghost_state};
 ghost use Rattle.trace_generate.specs.Chance.{drawn};
 ghost use Rattle.trace_generate.specs.Machine.{IsFault, IsInRange, IsLayoutOf};

@@ -26,7 +26,7 @@ use Rattle.trace_lines.specs.declared.place.Verb.TheVariants as verbs
 use Rattle.trace_lines.specs.Arguments.{number_at, range_of, level_word_at, slot_word_at}
 use Rattle.trace_lines.specs.Asked.{asked, asked_from, begins_with_digit, headers, of_call, of_number, of_range, of_tree, of_poke, of_show, poke_of, pools, tree_names, word_of}
 use Rattle.trace_lines.specs.Calls.{called as called_by}
-use Rattle.trace_lines.specs.Places.{IsAllowed, may_stand, may_tell}
+use Rattle.trace_lines.specs.Places.{IsAllowed, may_stand, may_set}
 use Rattle.trace_lines.specs.Said.{said_by_asked, said_by_words}
 use Rattle.trace_lines.specs.Settings.{Told}
 use Rattle.trace_words.specs.Words.{named}
@@ -202,7 +202,7 @@ stands : (allows : Allows) (told : Told) (verb : Verb) (line : Line)
     → IsOf verb line
     → IsTrue (may_stand allows told verb)
     → IsAllowed allows line
-stands allows told (verbs.Setting name) (lines.Setting setting) h may = first allows.settings (may_tell told name) may
+stands allows told (verbs.Setting name) (lines.Setting setting) h may = first allows.settings (may_set told name) may
 stands allows told verbs.Boot lines.Boot h may = first allows.boot (is_some told.carve) may
 stands allows told verbs.Step (lines.Step cpu step) h may = may
 stands allows told verbs.Query (lines.Query query) h may = may

@@ -70,18 +70,18 @@ after_poke =
     }
 
 -- whether a setting may come after these: any number of regions, and all else once
-abbrev pub may_tell : Told → SettingName → Bool
-may_tell told Geometry = is_none told.geometry
-may_tell told Cpus = is_none told.cpus
-may_tell told Log = is_none told.log
-may_tell told Memory = true
-may_tell told Device = true
-may_tell told Carve = is_none told.carve
+abbrev pub may_set : Told → SettingName → Bool
+may_set told Geometry = is_none told.geometry
+may_set told Cpus = is_none told.cpus
+may_set told Log = is_none told.log
+may_set told Memory = true
+may_set told Device = true
+may_set told Carve = is_none told.carve
 
 -- whether a line may come after these settings if the program allows these lines: the boot only
 -- after the carve-out
 abbrev pub may_stand : Allows → Told → Verb → Bool
-may_stand allows told (Setting name) = allows.settings && may_tell told name
+may_stand allows told (Setting name) = allows.settings && may_set told name
 may_stand allows told Boot = allows.boot && is_some told.carve
 may_stand allows told Step = allows.steps
 may_stand allows told Query = allows.queries

@@ -30,8 +30,8 @@ told_of s =
     }
 
 -- no settings
-abbrev pub nothing_told : Told
-nothing_told = record { geometry = None; cpus = None; log = None; regions = []; carve = None }
+abbrev pub no_settings : Told
+no_settings = record { geometry = None; cpus = None; log = None; regions = []; carve = None }
 
 -- the settings with one more region, after the others
 abbrev pub with_region : RegionKind → PageRange → Told → Told

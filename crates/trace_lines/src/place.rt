@@ -4,7 +4,7 @@ ghost use Rattle.trace_lines.specs.Places.{
   after_poke as after_poke_by,
   before_boot as before_boot_by,
   may_stand as may_stand_by,
-  may_tell as may_tell_by,
+  may_set as may_set_by,
   of_audit as of_audit_by,
   of_race as of_race_by,
   of_replay as of_replay_by,
@@ -123,7 +123,7 @@ pub fn may_stand(allows: Allows, settings: &Settings, verb: Verb) -> bool
     ensures { result ≡ may_stand_by allows (told_of settings.now) verb }
 {
     match verb {
-        Verb::Setting(name) => allows.settings && may_tell(settings, name),
+        Verb::Setting(name) => allows.settings && may_set(settings, name),
         Verb::Boot => allows.boot && settings.carve.is_some(),
         Verb::Step => allows.steps,
         Verb::Query => allows.queries,
@@ -133,8 +133,8 @@ pub fn may_stand(allows: Allows, settings: &Settings, verb: Verb) -> bool
 }
 
 /// Whether a setting may come after these: any number of regions, and all else once.
-fn may_tell(settings: &Settings, name: SettingName) -> bool
-    ensures { result ≡ may_tell_by (told_of settings.now) name }
+fn may_set(settings: &Settings, name: SettingName) -> bool
+    ensures { result ≡ may_set_by (told_of settings.now) name }
 {
     match name {
         SettingName::Geometry => settings.geometry.is_none(),

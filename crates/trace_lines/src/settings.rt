@@ -1,6 +1,6 @@
 //! What a trace says before its boot.
 ghost use Rattle.std.specs.Prelude.{◌≡◌, OnOk, OnErr};
-ghost use Rattle.trace_lines.specs.Settings.{config_of, nothing_told, told_after, told_of, with_region};
+ghost use Rattle.trace_lines.specs.Settings.{config_of, no_settings, told_after, told_of, with_region};
 
 use crate::line::Setting;
 use page_state::{Config, PageRange, Region, RegionKind};
@@ -19,7 +19,7 @@ pub struct Settings {
 impl Settings {
     /// No settings.
     pub fn new(global: Global) -> Settings
-        ensures { told_of result ≡ nothing_told }
+        ensures { told_of result ≡ no_settings }
     {
         Settings {
             geometry: None,

@@ -11,8 +11,8 @@ use Rattle.trace_outcomes.specs.declared.finding.Outcomes.{Outcomes}
 use Rattle.trace_outcomes.specs.declared.telling.Told.{Told}
 use Rattle.trace_outcomes.specs.Finds.{Finds, FindsOn}
 use Rattle.trace_outcomes.specs.Races.{first_of, raced_of}
-use Rattle.trace_outcomes.specs.Texts.{all_said, end_said, too_many_said}
-use Rattle.trace_outcomes.specs.Told.{IsBoot, IsNoBoot, TellsClean, TellsFault, TellsOutcomes, TellsRaced, TellsUnclean}
+use Rattle.trace_outcomes.specs.Texts.{all_text, end_text, too_many_text}
+use Rattle.trace_outcomes.specs.Told.{IsBoot, IsNoBoot, ReportsClean, ReportsFault, ReportsOutcomes, ReportsRaced, ReportsUnclean}
 
 -- what is told where a boot is refused, where nothing boots, and where a machine does
 on_boot : {T U : Type 0} (F : ℕ → Fault → T → Type 0) (I : T → Type 0) (P : Machine → T → Type 0)
@@ -56,39 +56,39 @@ all_idle e = let same = e in cc
 
 module _ (limit : ℕ) (a : Asking) (t : Told) where
   told_by : (f : Found)
-      → ((n : ℕ) (fault : Fault) → f ≡ founds.Fault n fault → TellsFault n fault t)
-      → (f ≡ founds.Idle → TellsClean (end_said 0 0) t)
-      → ((m : Machine) → FindsOn limit a m f → TellsRaced limit a m t)
-      → Finds limit a f → TellsOutcomes limit (Ok a) t
+      → ((n : ℕ) (fault : Fault) → f ≡ founds.Fault n fault → ReportsFault n fault t)
+      → (f ≡ founds.Idle → ReportsClean (end_text 0 0) t)
+      → ((m : Machine) → FindsOn limit a m f → ReportsRaced limit a m t)
+      → Finds limit a f → ReportsOutcomes limit (Ok a) t
   told_by f faults idle on h =
-      on_boot (λ number fault f. f ≡ founds.Fault number fault) (λ f. f ≡ founds.Idle) (FindsOn limit a) TellsFault
-      (TellsClean (end_said 0 0)) (TellsRaced limit a) a f t faults idle on a.boot a.told.carve h
+      on_boot (λ number fault f. f ≡ founds.Fault number fault) (λ f. f ≡ founds.Idle) (FindsOn limit a) ReportsFault
+      (ReportsClean (end_text 0 0)) (ReportsRaced limit a) a f t faults idle on a.boot a.told.carve h
 
-  pub idle_told : Finds limit a founds.Idle → TellsClean (end_said 0 0) t → TellsOutcomes limit (Ok a) t
+  pub idle_told : Finds limit a founds.Idle → ReportsClean (end_text 0 0) t → ReportsOutcomes limit (Ok a) t
   idle_told h tells = told_by founds.Idle (λ n fault e. no_fault e) (λ _. tells) (λ m no. absurd no) h
 
-  pub fault_told : (line : ℕ) (fault : Fault)
+  pub fault_reported : (line : ℕ) (fault : Fault)
       → Finds limit a (founds.Fault line fault)
-      → TellsFault line fault t
-      → TellsOutcomes limit (Ok a) t
-  fault_told line fault h tells =
+      → ReportsFault line fault t
+      → ReportsOutcomes limit (Ok a) t
+  fault_reported line fault h tells =
       told_by (founds.Fault line fault)
-      (λ n other e. subst (λ f. TellsFault n f t) (fault_same e)
-      (subst (λ n. TellsFault n fault t) (fault_number e) tells))
+      (λ n other e. subst (λ f. ReportsFault n f t) (fault_same e)
+      (subst (λ n. ReportsFault n fault t) (fault_number e) tells))
       (λ e. no_idle e) (λ m no. absurd no) h
 
   pub many_told : (made : ℕ)
       → Finds limit a (founds.TooMany made)
-      → TellsUnclean (too_many_said made) t
-      → TellsOutcomes limit (Ok a) t
+      → ReportsUnclean (too_many_text made) t
+      → ReportsOutcomes limit (Ok a) t
   many_told made h tells =
       told_by (founds.TooMany made) (λ n fault e. many_fault e) (λ e. many_idle e)
       (λ m more. inr (record { made = made; more = more; tells = tells })) h
 
   pub all_told : (o : Outcomes)
       → Finds limit a (founds.All o)
-      → TellsClean (all_said (first_of a) o.replies.items (raced_of a) o.found.items) t
-      → TellsOutcomes limit (Ok a) t
+      → ReportsClean (all_text (first_of a) o.replies.items (raced_of a) o.found.items) t
+      → ReportsOutcomes limit (Ok a) t
   all_told o h tells =
       told_by (founds.All o) (λ n fault e. all_fault e) (λ e. all_idle e)
       (λ m all. inl
@@ -97,7 +97,7 @@ module _ (limit : ℕ) (a : Asking) (t : Told) where
         all = all.all;
         tells =
             subst
-            (λ rs. TellsClean (all_said (first_of a) rs (raced_of a) o.found.items) t) all.replies tells;
+            (λ rs. ReportsClean (all_text (first_of a) rs (raced_of a) o.found.items) t) all.replies tells;
       })) h
 
 -- as many replies as there are steps before `start`

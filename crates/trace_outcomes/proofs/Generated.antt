@@ -5,11 +5,11 @@ use Rattle.page_state.proofs.Common.{both}
 use Rattle.page_state.specs.Layouts.{Layout}
 use Rattle.call_table.specs.declared.reply.Reply.{Reply}
 use Rattle.reference_model.specs.model.State.{Reference}
-use Rattle.reference_model.specs.model.Step.{foretell}
+use Rattle.reference_model.specs.model.Step.{predict_step}
 use Rattle.race_outcomes.specs.declared.finding.OutcomesFault.{OutcomesFault}
 use Rattle.race_outcomes.specs.declared.finding.OutcomesFault.TheVariants.{Generation, NoMemory, TooMany}
 use Rattle.race_outcomes.specs.declared.node.Turn.{Turn}
-use Rattle.race_outcomes.specs.Orders.{IsOutcomesFault, IsStepFault, Leads, Point, is_wanting, told_along, told_to}
+use Rattle.race_outcomes.specs.Orders.{IsOutcomesFault, IsStepFault, Leads, Point, is_wanting, replies_along, model_reply}
 use Rattle.race_outcomes.proofs.Counts.{order_few}
 use Rattle.race_outcomes.proofs.Told.{told_plain, told_want}
 use Rattle.trace_race.specs.Judged.{HasGenerationsTo}
@@ -22,12 +22,12 @@ module _ (l : Layout) where
   told_low : (n : ℕ) (s : Reference) (turn : Turn)
       → 1 ≤ n
       → HasGenerationsTo n s.contents
-      → HasGenerationsTo (n + 1) (told_to l s turn).1.contents
-  told_low n s turn some low = by_want (both (is_wanting turn (foretell l s turn.cpu turn.step).0))
+      → HasGenerationsTo (n + 1) (model_reply l s turn).1.contents
+  told_low n s turn some low = by_want (both (is_wanting turn (predict_step l s turn.cpu turn.step).0))
     where
-      by_want : (is_wanting turn (foretell l s turn.cpu turn.step).0 ≡ true)
-          ⊎ (is_wanting turn (foretell l s turn.cpu turn.step).0 ≡ false)
-          → HasGenerationsTo (n + 1) (told_to l s turn).1.contents
+      by_want : (is_wanting turn (predict_step l s turn.cpu turn.step).0 ≡ true)
+          ⊎ (is_wanting turn (predict_step l s turn.cpu turn.step).0 ≡ false)
+          → HasGenerationsTo (n + 1) (model_reply l s turn).1.contents
       by_want (inl so) =
           subst (λ (r : Reply × Reference). HasGenerationsTo (n + 1) r.1.contents) (sym (told_want l s turn so))
           (stays_to n some l s turn.cpu turn.step low)
@@ -38,11 +38,11 @@ module _ (l : Layout) where
   pub along_low : (n : ℕ) (s : Reference) (turns : List Turn)
       → 1 ≤ n
       → HasGenerationsTo n s.contents
-      → HasGenerationsTo (n + length turns) (told_along l s turns).1.contents
+      → HasGenerationsTo (n + length turns) (replies_along l s turns).1.contents
   along_low n s [] some low = subst (λ k. HasGenerationsTo k s.contents) (omega arith) low
   along_low n s (t ∷ more) some low =
-      subst (λ k. HasGenerationsTo k (told_along l s (t ∷ more)).1.contents) (omega arith)
-      (along_low (n + 1) (told_to l s t).1 more (omega arith) (told_low n s t some low))
+      subst (λ k. HasGenerationsTo k (replies_along l s (t ∷ more)).1.contents) (omega arith)
+      (along_low (n + 1) (model_reply l s t).1 more (omega arith) (told_low n s t some low))
 
   leads_low : (turns : List Turn) (n : ℕ) (order : List ℕ) (p q : Point)
       → 1 ≤ n
@@ -86,6 +86,6 @@ module _ (l : Layout) where
       let short = length-take k turns in
       absurd
       (last
-      (next_to (n + length (take k turns)) (told_along l s (take k turns)).1.contents turn.cpu turn.step
+      (next_to (n + length (take k turns)) (replies_along l s (take k turns)).1.contents turn.cpu turn.step
       (omega (arith, short, few)) there))
   steps_refused s turns n NoMemory some few low h = refl

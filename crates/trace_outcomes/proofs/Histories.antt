@@ -18,13 +18,13 @@ use Rattle.reference_model.specs.model.Parts.{lacks_slot}
 use Rattle.reference_model.specs.model.Rules.{guest_slot, names}
 use Rattle.reference_model.specs.model.Run.{Runs}
 use Rattle.reference_model.specs.model.State.{Reference}
-use Rattle.reference_model.specs.model.Step.{Answered, FindsFull, Steps, fails, foretell, is_short, or_else, refusal, rooms_by, rule_of, used_by}
+use Rattle.reference_model.specs.model.Step.{Answered, FindsFull, Steps, fails, predict_step, is_short, or_else, refusal, rooms_by, rule_of, used_by}
 use Rattle.reference_model.specs.model.Used.{Used, used_of}
 use Rattle.reference_model.proofs.Steps.{log_full_keeps}
-use Rattle.ghost_spec.proofs.Foretold.{foretold-full}
+use Rattle.ghost_spec.proofs.Predictions.{predicted-full}
 use Rattle.race_outcomes.specs.declared.node.Turn.{Turn}
 use Rattle.race_outcomes.specs.Laws.{AreTheirs, IsPlain, answers_of, is_want}
-use Rattle.race_outcomes.specs.Orders.{AreWanted, IsOutcome, told_along, told_to}
+use Rattle.race_outcomes.specs.Orders.{AreWanted, IsOutcome, replies_along, model_reply}
 use Rattle.race_outcomes.proofs.Runs.{runs_are_outcomes}
 use Rattle.race_outcomes.proofs.Told.{call_told, told_plain}
 use Rattle.trace_race.specs.declared.course.Asked.{Asked}
@@ -32,8 +32,8 @@ use Rattle.trace_race.specs.Courses.{in_order_of}
 use Rattle.trace_race.specs.Judged.{told_of}
 use Rattle.trace_race.specs.Made.{answers_of as answers_asked, asked_with, is_stored, stored_in}
 use Rattle.trace_race.proofs.Past.{behind_all}
-use Rattle.trace_outcomes.specs.Laws.{HistoriesAreOutcomes, RacesAreTold, turns_told}
-use Rattle.trace_outcomes.specs.Races.{first_of, nothing_told, nothing_wanted, raced_of, told_first, turns_of, turns_raced}
+use Rattle.trace_outcomes.specs.Laws.{HistoriesAreOutcomes, RacesAreReported, turns_replied}
+use Rattle.trace_outcomes.specs.Races.{first_of, no_replies, nothing_wanted, raced_of, first_replies, turns_of, turns_raced}
 
 -- a plain reply is stored
 plain_stored : (r : Reply) → IsPlain r → is_stored r ≡ true
@@ -52,16 +52,16 @@ module _ (cpu : ℕ) where
   all_stored : (steps : List Asked) (rs : List Reply)
       → All IsPlain rs
       → filter (λ (a : Step × Reply). is_stored a.1) (answers_asked cpu steps rs)
-      ≡ answers_of cpu (turns_told steps rs) rs
+      ≡ answers_of cpu (turns_replied steps rs) rs
   all_stored [] rs h = refl
   all_stored (a ∷ steps) [] h = refl
   all_stored (a ∷ steps) (r ∷ rs) h = by_own (both (a.cpu == cpu)) (all_stored steps rs (All-tail IsPlain r rs h))
     where
       by_own : ((a.cpu == cpu) ≡ true) ⊎ ((a.cpu == cpu) ≡ false)
           → filter (λ (x : Step × Reply). is_stored x.1) (answers_asked cpu steps rs)
-          ≡ answers_of cpu (turns_told steps rs) rs
+          ≡ answers_of cpu (turns_replied steps rs) rs
           → filter (λ (x : Step × Reply). is_stored x.1) (answers_asked cpu (a ∷ steps) (r ∷ rs))
-          ≡ answers_of cpu (turns_told (a ∷ steps) (r ∷ rs)) (r ∷ rs)
+          ≡ answers_of cpu (turns_replied (a ∷ steps) (r ∷ rs)) (r ∷ rs)
       by_own (inl own) rest =
           let kept = plain_stored r (All-head IsPlain r rs h) in
           rw own (rw kept (ap (λ (xs : List (Step × Reply)). (a.step, r) ∷ xs) rest))
@@ -72,15 +72,15 @@ module _ (cpu : ℕ) where
       → n ≤ cpu
       → (steps : List Asked) (rs : List Reply)
       → All (λ a. a.cpu < n) steps
-      → answers_of cpu (turns_told steps rs) rs ≡ []
+      → answers_of cpu (turns_replied steps rs) rs ≡ []
   none_asked n less [] rs h = refl
   none_asked n less (a ∷ steps) [] h = refl
   none_asked n less (a ∷ steps) (r ∷ rs) h =
       by_own (both (a.cpu == cpu)) (none_asked n less steps rs (All-tail (λ (x : Asked). x.cpu < n) a steps h))
     where
       by_own : ((a.cpu == cpu) ≡ true) ⊎ ((a.cpu == cpu) ≡ false)
-          → answers_of cpu (turns_told steps rs) rs ≡ []
-          → answers_of cpu (turns_told (a ∷ steps) (r ∷ rs)) (r ∷ rs) ≡ []
+          → answers_of cpu (turns_replied steps rs) rs ≡ []
+          → answers_of cpu (turns_replied (a ∷ steps) (r ∷ rs)) (r ∷ rs) ≡ []
       by_own (inl own) rest =
           let there : a.cpu < n = All-head (λ (x : Asked). x.cpu < n) a steps h in
           let same = eq-same a.cpu cpu own in
@@ -101,12 +101,12 @@ module _ (cpu : ℕ) where
 
 same_count : (steps : List Asked) (rs : List Reply)
     → length rs ≡ length steps
-    → length (turns_told steps rs) ≡ length steps
+    → length (turns_replied steps rs) ≡ length steps
 same_count [] rs n = refl
 same_count (a ∷ steps) [] n = absurd (omega arith)
 same_count (a ∷ steps) (r ∷ rs) n = ap suc (same_count steps rs (omega (arith, n)))
 
-all_theirs : (steps : List Asked) (rs : List Reply) → All IsPlain rs → AreTheirs (turns_told steps rs) rs
+all_theirs : (steps : List Asked) (rs : List Reply) → All IsPlain rs → AreTheirs (turns_replied steps rs) rs
 all_theirs [] rs h = tt
 all_theirs (a ∷ steps) [] h = tt
 all_theirs (a ∷ steps) (r ∷ rs) h = (refl, All-head IsPlain r rs h, all_theirs steps rs (All-tail IsPlain r rs h))
@@ -158,7 +158,7 @@ slot_found l s t c h = h.on.slot
 -- a call is told what its step is told, also where a log is full
 told_by_call : (l : Layout) (s t : Reference) (c : Call)
     → Steps l s c t
-    → ◌≡◌ {A = Reply × Reference} (told_to l s (record { cpu = c.cpu; step = c.step; wants = is_want c.reply }))
+    → ◌≡◌ {A = Reply × Reference} (model_reply l s (record { cpu = c.cpu; step = c.step; wants = is_want c.reply }))
     (c.reply, t)
 told_by_call l s t c h = elim h.on.answers [
   | inl f ↦ full f
@@ -170,14 +170,14 @@ told_by_call l s t c h = elim h.on.answers [
     same_pair r q u v e f = cc
 
     full : FindsFull c (used_by c s) (rooms_by c s) h.after h.left
-        → ◌≡◌ {A = Reply × Reference} (told_to l s (record { cpu = c.cpu; step = c.step; wants = is_want c.reply }))
+        → ◌≡◌ {A = Reply × Reference} (model_reply l s (record { cpu = c.cpu; step = c.step; wants = is_want c.reply }))
         (c.reply, t)
     full f =
         let none : is_want c.reply ≡ false = ap is_want f.reply in
-        let is : foretell l s c.cpu c.step ≡ (Refused refusals.LogFull, s) =
-        foretold-full l s c.cpu c.step c.slot (slot_found l s t c h) f.full in
+        let is : predict_step l s c.cpu c.step ≡ (Refused refusals.LogFull, s) =
+        predicted-full l s c.cpu c.step c.slot (slot_found l s t c h) f.full in
         let stays : t ≡ s = log_full_keeps l s t c h f.reply in
-        ap (λ (b : Bool). told_to l s (record { cpu = c.cpu; step = c.step; wants = b })) none
+        ap (λ (b : Bool). model_reply l s (record { cpu = c.cpu; step = c.step; wants = b })) none
         ∙ told_plain l s (record { cpu = c.cpu; step = c.step; wants = false }) refl ∙ is
         ∙ same_pair (Refused refusals.LogFull) c.reply s t (sym f.reply) (sym stays)
 
@@ -186,7 +186,7 @@ told_run : (l : Layout) (calls : List Call) (s t : Reference) (steps : List Aske
     → length rs ≡ length steps
     → told_of calls ≡ asked_with steps rs
     → Runs (Steps l) s calls t
-    → ◌≡◌ {A = List Reply × Reference} (told_along l s (turns_told steps rs)) (rs, t)
+    → ◌≡◌ {A = List Reply × Reference} (replies_along l s (turns_replied steps rs)) (rs, t)
 told_run l [] s t [] [] n e run = λ i. ([], run i)
 told_run l [] s t [] (r ∷ rs) n e run = absurd (omega (arith, n))
 told_run l [] s t (a ∷ steps) [] n e run = absurd (omega (arith, n))
@@ -198,12 +198,12 @@ told_run l (c ∷ calls) s t (a ∷ steps) (r ∷ rs) n e run =
     ap (λ (z : List (ℕ × Step × Reply)). get_or z 0 (c.cpu, c.step, c.reply)) e in
     let tail : told_of calls ≡ asked_with steps rs = ap (λ (z : List (ℕ × Step × Reply)). drop 1 z) e in
     let turn : Turn = record { cpu = a.cpu; step = a.step; wants = is_want r } in
-    let one : told_to l s turn ≡ (r, run.0) =
-    sym (ap (λ (z : ℕ × Step × Reply). told_to l s (record { cpu = z.0; step = z.1; wants = is_want z.2 })) head)
+    let one : model_reply l s turn ≡ (r, run.0) =
+    sym (ap (λ (z : ℕ × Step × Reply). model_reply l s (record { cpu = z.0; step = z.1; wants = is_want z.2 })) head)
     ∙ told_by_call l s run.0 c run.1 ∙ ap (λ (z : ℕ × Step × Reply). (z.2, run.0)) head in
     let rest = told_run l calls run.0 t steps rs (omega (arith, n)) tail run.2 in
-    let more : List Turn = turns_told steps rs in
-    ap (λ (z : Reply × Reference). (z.0 ∷ (told_along l z.1 more).0, (told_along l z.1 more).1)) one
+    let more : List Turn = turns_replied steps rs in
+    ap (λ (z : Reply × Reference). (z.0 ∷ (replies_along l z.1 more).0, (replies_along l z.1 more).1)) one
     ∙ ap (λ (z : List Reply × Reference). (r ∷ z.0, z.1)) rest
 
 dropped_below : (n k : ℕ) (steps : List Asked) → All (λ a. a.cpu < n) steps → All (λ a. a.cpu < n) (drop k steps)
@@ -232,7 +232,7 @@ same_take (suc n) (x ∷ xs) (y ∷ ys) e = ap suc (same_take n xs ys (omega (ar
 pub histories_are_outcomes : HistoriesAreOutcomes
 histories_are_outcomes l start steps rs count below h plain = (
   ap (λ (z : List Reply × Reference). z.0) first,
-  subst (λ (s : Reference). IsOutcome l s (turns_told raced told) told)
+  subst (λ (s : Reference). IsOutcome l s (turns_replied raced told) told)
       (sym (ap (λ (z : List Reply × Reference). z.1) first)) outcome,
 )
   where
@@ -242,7 +242,8 @@ histories_are_outcomes l start steps rs count below h plain = (
     told : List Reply
     told = drop start rs
 
-    first : ◌≡◌ {A = List Reply × Reference} (told_along l (boot l) (turns_told (take start steps) (take start rs)))
+    first : ◌≡◌ {A = List Reply × Reference}
+        (replies_along l (boot l) (turns_replied (take start steps) (take start rs)))
         (take start rs, h.at)
     first =
         told_run l h.first (boot l) h.at (take start steps) (take start rs)
@@ -252,19 +253,20 @@ histories_are_outcomes l start steps rs count below h plain = (
     inside = behind_all (λ (c : Call). c.cpu < l.config.cpus) (stored_in h.first) h.log h.run.cpus
 
     each : (cpu : ℕ)
-        → map (λ (c : Call). (c.step, c.reply)) (calls_by cpu h.log) ≡ answers_of cpu (turns_told raced told) told
+        → map (λ (c : Call). (c.step, c.reply)) (calls_by cpu h.log) ≡ answers_of cpu (turns_replied raced told) told
     each cpu = by_place (cases_lt cpu l.config.cpus)
       where
         by_place : (cpu < l.config.cpus) ⊎ (l.config.cpus ≤ cpu)
-            → map (λ (c : Call). (c.step, c.reply)) (calls_by cpu h.log) ≡ answers_of cpu (turns_told raced told) told
+            → map (λ (c : Call). (c.step, c.reply)) (calls_by cpu h.log)
+            ≡ answers_of cpu (turns_replied raced told) told
         by_place (inl less) = (h.each cpu less).calls ∙ all_stored cpu raced told plain
         by_place (inr more) =
             ap (map (λ (c : Call). (c.step, c.reply))) (none_called cpu l.config.cpus more h.log inside)
             ∙ sym (none_asked cpu l.config.cpus more raced told (dropped_below l.config.cpus start steps below))
 
-    outcome : IsOutcome l h.at (turns_told raced told) told
+    outcome : IsOutcome l h.at (turns_replied raced told) told
     outcome =
-        runs_are_outcomes l h.at h.end (turns_told raced told) told h.log h.goes
+        runs_are_outcomes l h.at h.end (turns_replied raced told) told h.log h.goes
         (record {
           count = same_drop start rs steps count
               ∙ sym (same_count raced told (same_drop start rs steps count));
@@ -277,19 +279,19 @@ histories_are_outcomes l start steps rs count below h plain = (
 none_want : (steps : List Asked) (rs : List Reply)
     → length rs ≡ length steps
     → All (λ r. is_want r ≡ false) rs
-    → turns_told steps rs ≡ turns_of steps (nothing_told steps)
+    → turns_replied steps rs ≡ turns_of steps (no_replies steps)
 none_want [] rs n h = refl
 none_want (a ∷ steps) [] n h = absurd (omega (arith, n))
 none_want (a ∷ steps) (r ∷ rs) n h =
     (λ i. record { cpu = a.cpu; step = a.step; wants = All-head (λ (x : Reply). is_want x ≡ false) r rs h i }
     ∷ none_want steps rs (omega (arith, n)) (All-tail (λ (x : Reply). is_want x ≡ false) r rs h) i)
 
-told_drop : (n : ℕ) (steps : List Asked) → nothing_told (drop n steps) ≡ drop n (nothing_told steps)
+told_drop : (n : ℕ) (steps : List Asked) → no_replies (drop n steps) ≡ drop n (no_replies steps)
 told_drop zero steps = refl
 told_drop (suc n) [] = refl
 told_drop (suc n) (a ∷ steps) = told_drop n steps
 
-told_take : (n : ℕ) (steps : List Asked) → nothing_told (take n steps) ≡ take n (nothing_told steps)
+told_take : (n : ℕ) (steps : List Asked) → no_replies (take n steps) ≡ take n (no_replies steps)
 told_take zero steps = refl
 told_take (suc n) [] = refl
 told_take (suc n) (a ∷ steps) = ap (λ xs. None ∷ xs) (told_take n steps)
@@ -311,8 +313,8 @@ all_wanted [] told = tt
 all_wanted (a ∷ steps) [] = tt
 all_wanted (a ∷ steps) (t ∷ told) = (tt, all_wanted steps told)
 
-pub races_are_told : RacesAreTold
-races_are_told m a rs found booted count below h wants plain all =
+pub races_are_reported : RacesAreReported
+races_are_reported m a rs found booted count below h wants plain all =
     (told, all.complete raced outcome (all_wanted (raced_of a) (map Some raced)))
   where
     n : ℕ
@@ -322,31 +324,31 @@ races_are_told m a rs found booted count below h wants plain all =
     raced = drop n rs
 
     from : List Reply × Reference
-    from = told_along m.layout (boot m.layout) (turns_told (take n a.steps) (take n rs))
+    from = replies_along m.layout (boot m.layout) (turns_replied (take n a.steps) (take n rs))
 
-    base : (from.0 ≡ take n rs) × IsOutcome m.layout from.1 (turns_told (drop n a.steps) raced) raced
+    base : (from.0 ≡ take n rs) × IsOutcome m.layout from.1 (turns_replied (drop n a.steps) raced) raced
     base = histories_are_outcomes m.layout n a.steps rs count below h plain
 
-    first_turns : turns_told (take n a.steps) (take n rs) ≡ turns_of (first_of a) (take n (nothing_told a.steps))
+    first_turns : turns_replied (take n a.steps) (take n rs) ≡ turns_of (first_of a) (take n (no_replies a.steps))
     first_turns =
         none_want (take n a.steps) (take n rs) (same_take n rs a.steps count) (taken_all n rs wants)
         ∙ ap (turns_of (first_of a)) (told_take n a.steps)
 
-    raced_turns : turns_told (drop n a.steps) raced ≡ turns_raced a (nothing_told a.steps)
+    raced_turns : turns_replied (drop n a.steps) raced ≡ turns_raced a (no_replies a.steps)
     raced_turns =
         none_want (drop n a.steps) raced (same_drop n rs a.steps count) (dropped_all n rs wants)
         ∙ ap (turns_of (raced_of a)) (told_drop n a.steps)
 
-    along : ◌≡◌ {A = List Reply × Reference} from (told_first m a (nothing_told a.steps))
+    along : ◌≡◌ {A = List Reply × Reference} from (first_replies m a (no_replies a.steps))
     along =
-        ap (told_along m.layout (boot m.layout)) first_turns
-        ∙ ap (λ (s : Reference). told_along m.layout s (turns_of (first_of a) (take n (nothing_told a.steps))))
+        ap (replies_along m.layout (boot m.layout)) first_turns
+        ∙ ap (λ (s : Reference). replies_along m.layout s (turns_of (first_of a) (take n (no_replies a.steps))))
         (sym booted)
 
-    told : (told_first m a (nothing_told a.steps)).0 ≡ take n rs
+    told : (first_replies m a (no_replies a.steps)).0 ≡ take n rs
     told = sym (ap (λ (z : List Reply × Reference). z.0) along) ∙ base.0
 
-    outcome : IsOutcome m.layout (told_first m a (nothing_told a.steps)).1 (turns_raced a (nothing_told a.steps)) raced
+    outcome : IsOutcome m.layout (first_replies m a (no_replies a.steps)).1 (turns_raced a (no_replies a.steps)) raced
     outcome =
         subst (λ (z : Reference × List Turn). IsOutcome m.layout z.0 z.1 raced)
         (λ i. ((along i).1, raced_turns i)) base.1

@@ -13,7 +13,7 @@ use Rattle.trace_lines.specs.Texts.{text_of_response}
 use Rattle.trace_words.specs.Numbers.{is_decimal_digit}
 use Rattle.trace_words.specs.Words.{words_of}
 use Rattle.trace_outcomes.specs.Laws.{LinesAreRead}
-use Rattle.trace_outcomes.specs.Reports.{behind_space, first_word, is_passed, step_said, told_with}
+use Rattle.trace_outcomes.specs.Reports.{behind_space, first_word, is_passed, step_of_line, told_with}
 use Rattle.trace_outcomes.proofs.Decimals.{decimal_is, spelled}
 use Rattle.trace_outcomes.proofs.Replies.{replies_are_read}
 
@@ -68,7 +68,7 @@ module _ (line cpu : ℕ) (rest : List ℕ) (h : line < 2 ^ 64) (k : cpu < 2 ^ 6
       (slice_split_at (λ byte. byte == 0x20) (decimal cpu) 32 rest
       (all_no (decimal cpu) (spelled cpu k).tests) refl)
 
-  said : step_said (whole line cpu rest) ≡ Some (line, cpu)
+  said : step_of_line (whole line cpu rest) ≡ Some (line, cpu)
   said = rw words (rw (decimal_is line h, decimal_is cpu k) refl)
 
   behind : behind_space (behind_space (whole line cpu rest)) ≡ rest

@@ -23,9 +23,9 @@ use Rattle.trace_outcomes.specs.declared.making.Race.{Race}
 use Rattle.trace_outcomes.specs.declared.telling.Told.{Told}
 use Rattle.trace_outcomes.specs.Finds.{FindsAll, FindsOn}
 use Rattle.trace_outcomes.specs.Made.{HasMade}
-use Rattle.trace_outcomes.specs.Races.{Texts, first_of, nothing_told, nothing_wanted, raced_of, texts_in, told_first, turns_raced}
-use Rattle.trace_outcomes.specs.Texts.{none_said, order_said, otherwise_said, too_many_said}
-use Rattle.trace_outcomes.specs.Told.{TellsBehind, TellsClean, TellsObserved, TellsTooMany, TellsUnclean, first_apart, is_read}
+use Rattle.trace_outcomes.specs.Races.{Texts, first_of, no_replies, nothing_wanted, raced_of, texts_in, first_replies, turns_raced}
+use Rattle.trace_outcomes.specs.Texts.{none_text, order_text, otherwise_text, too_many_text}
+use Rattle.trace_outcomes.specs.Told.{ReportsBehind, ReportsClean, ReportsObserved, ReportsTooMany, ReportsUnclean, first_apart, is_read}
 use Rattle.trace_outcomes.proofs.Noting.{no_step}
 use Rattle.trace_outcomes.proofs.Turns.{moved, texts_before, texts_behind, texts_nothing, wanted_behind}
 
@@ -33,8 +33,8 @@ module _ (m : Machine) (a : Asking) (r : Race) (turns : List Turn) (same : turns
   many : (texts : Texts) (wanted : List (Option (Vec ℕ Global))) (limit : ℕ) (fault : OutcomesFault) (t : Told)
       → HasMade m a texts r
       → IsOutcomesFault (layout_of r.state.layout) (ghost_state r.state) turns wanted limit fault
-      → (made : ℕ) × (fault ≡ TooMany made) × TellsUnclean (too_many_said made) t
-      → TellsTooMany m a texts wanted limit t
+      → (made : ℕ) × (fault ≡ TooMany made) × ReportsUnclean (too_many_text made) t
+      → ReportsTooMany m a texts wanted limit t
   many texts wanted limit fault t made why (n, is, tells) = record {
     made = n;
     more =
@@ -46,7 +46,7 @@ module _ (m : Machine) (a : Asking) (r : Race) (turns : List Turn) (same : turns
 
   module _ (texts : List (Option (Vec ℕ Global))) (n : ℕ) (order : n ≡ in_order_of a) where
     module _ (nothing : texts ≡ nothing_wanted a.steps) (made : HasMade m a (texts_in texts) r) where
-      none_made : HasMade m a (nothing_told a.steps) r
+      none_made : HasMade m a (no_replies a.steps) r
       none_made = subst (λ ts. HasMade m a ts r) (ap texts_in nothing ∙ texts_nothing a.steps) made
 
       none_wanted : drop n texts ≡ nothing_wanted (raced_of a)
@@ -62,11 +62,11 @@ module _ (m : Machine) (a : Asking) (r : Race) (turns : List Turn) (same : turns
         count = ap length replies ∙ count;
         all =
             subst
-            (AllOutcomes m.layout (told_first m a (nothing_told a.steps)).1 (turns_raced a (nothing_told a.steps))
+            (AllOutcomes m.layout (first_replies m a (no_replies a.steps)).1 (turns_raced a (no_replies a.steps))
             (nothing_wanted (raced_of a)))
             (sym is)
             (moved (λ l s ts. AllOutcomes l s ts (nothing_wanted (raced_of a)) found) m a
-            (nothing_told a.steps) r none_made
+            (no_replies a.steps) r none_made
             (subst (λ w. AllOutcomes (layout_of r.state.layout) (ghost_state r.state) r.turns.items w found) none_wanted
             (subst
             (λ ts. AllOutcomes (layout_of r.state.layout) (ghost_state r.state) ts (drop n texts) found) same
@@ -79,7 +79,7 @@ module _ (m : Machine) (a : Asking) (r : Race) (turns : List Turn) (same : turns
       many_found limit fault f why (k, is, found) =
           subst (FindsOn limit a m) (sym found)
           (moved (λ l s ts. HasMorePoints l s ts (nothing_wanted (raced_of a)) limit k) m a
-          (nothing_told a.steps) r none_made
+          (no_replies a.steps) r none_made
           (subst
           (λ w. HasMorePoints (layout_of r.state.layout) (ghost_state r.state) r.turns.items w limit k) none_wanted
           (subst (λ ts. HasMorePoints (layout_of r.state.layout) (ghost_state r.state) ts (drop n texts) limit k) same
@@ -94,8 +94,8 @@ module _ (m : Machine) (a : Asking) (r : Race) (turns : List Turn) (same : turns
       pub order_tells : (found seen : List ℕ)
           → seen ≡ found
           → GivesWanted (layout_of r.state.layout) (ghost_state r.state) turns (drop n texts) found
-          → TellsClean (order_said (raced_of a) seen) t
-          → TellsBehind m a (texts_in texts) limit t
+          → ReportsClean (order_text (raced_of a) seen) t
+          → ReportsBehind m a (texts_in texts) limit t
       order_tells found seen is gives tells = record {
         wanted = drop n texts;
         wanted_is = behind;
@@ -105,13 +105,13 @@ module _ (m : Machine) (a : Asking) (r : Race) (turns : List Turn) (same : turns
               (subst
               (λ ts. GivesWanted (layout_of r.state.layout) (ghost_state r.state) ts (drop n texts) found) same
               gives),
-          subst (λ xs. TellsClean (order_said (raced_of a) xs) t) is tells,
+          subst (λ xs. ReportsClean (order_text (raced_of a) xs) t) is tells,
         ));
       }
 
       pub none_tells : NoneWanted (layout_of r.state.layout) (ghost_state r.state) turns (drop n texts)
-          → TellsUnclean none_said t
-          → TellsBehind m a (texts_in texts) limit t
+          → ReportsUnclean none_text t
+          → ReportsBehind m a (texts_in texts) limit t
       none_tells none tells = record {
         wanted = drop n texts;
         wanted_is = behind;
@@ -128,7 +128,8 @@ module _ (m : Machine) (a : Asking) (r : Race) (turns : List Turn) (same : turns
 
       pub behind_many : (fault : OutcomesFault)
           → IsOutcomesFault (layout_of r.state.layout) (ghost_state r.state) turns (drop n texts) limit fault
-          → (k : ℕ) × (fault ≡ TooMany k) × TellsUnclean (too_many_said k) t → TellsBehind m a (texts_in texts) limit t
+          → (k : ℕ) × (fault ≡ TooMany k) × ReportsUnclean (too_many_text k) t
+          → ReportsBehind m a (texts_in texts) limit t
       behind_many fault why tells =
           record {
             wanted = drop n texts;
@@ -140,22 +141,22 @@ module _ (m : Machine) (a : Asking) (r : Race) (turns : List Turn) (same : turns
 module _ (m : Machine) (a : Asking) (r : Race) (texts : List (Option (Vec ℕ Global))) (n : ℕ)
     (order : n ≡ in_order_of a) (made : HasMade m a (texts_in texts) r) where
   apart : first_apart (take n a.steps) r.replies.items (texts_in (take n texts))
-      ≡ first_apart (first_of a) (told_first m a (texts_in texts)).0 (take (in_order_of a) (texts_in texts))
+      ≡ first_apart (first_of a) (first_replies m a (texts_in texts)).0 (take (in_order_of a) (texts_in texts))
   apart =
       ap (λ rs. first_apart (take n a.steps) rs (texts_in (take n texts)))
       (ap (λ (x : List Reply × Reference). x.0) made.told)
-      ∙ ap (first_apart (take n a.steps) (told_first m a (texts_in texts)).0) (texts_before n texts)
-      ∙ ap (λ k. first_apart (take k a.steps) (told_first m a (texts_in texts)).0 (take k (texts_in texts))) order
+      ∙ ap (first_apart (take n a.steps) (first_replies m a (texts_in texts)).0) (texts_before n texts)
+      ∙ ap (λ k. first_apart (take k a.steps) (first_replies m a (texts_in texts)).0 (take k (texts_in texts))) order
 
   pub observed : (limit : ℕ) (t : Told) (o : Option (ℕ × Reply))
       → o ≡ first_apart (take n a.steps) r.replies.items (texts_in (take n texts))
-      → MatchOption o (TellsBehind m a (texts_in texts) limit t)
-      (λ x. TellsUnclean (otherwise_said x.0 (text_of_reply x.1)) t)
-      → TellsObserved m a (texts_in texts) limit t
+      → MatchOption o (ReportsBehind m a (texts_in texts) limit t)
+      (λ x. ReportsUnclean (otherwise_text x.0 (text_of_reply x.1)) t)
+      → ReportsObserved m a (texts_in texts) limit t
   observed limit t o e h =
       subst
-      (λ (x : Option (ℕ × Reply)). MatchOption x (TellsBehind m a (texts_in texts) limit t)
-      (λ x. TellsUnclean (otherwise_said x.0 (text_of_reply x.1)) t))
+      (λ (x : Option (ℕ × Reply)). MatchOption x (ReportsBehind m a (texts_in texts) limit t)
+      (λ x. ReportsUnclean (otherwise_text x.0 (text_of_reply x.1)) t))
       (e ∙ apart) h
 
 -- nothing boots, or a machine does

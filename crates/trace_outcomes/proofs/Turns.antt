@@ -12,7 +12,7 @@ use Rattle.reference_model.specs.model.State.{Reference}
 use Rattle.ghost_spec.specs.declared.state.Ghost.{Ghost}
 use Rattle.ghost_spec.specs.States.{ghost_state}
 use Rattle.race_outcomes.specs.declared.node.Turn.{Turn}
-use Rattle.race_outcomes.specs.Orders.{told_along, told_to}
+use Rattle.race_outcomes.specs.Orders.{replies_along, model_reply}
 use Rattle.trace_lines.specs.Settings.{config_of}
 use Rattle.trace_race.specs.Booted.{machine_in}
 use Rattle.trace_race.specs.declared.course.Asked.{Asked}
@@ -21,7 +21,7 @@ use Rattle.trace_race.specs.Judged.{HasGenerationsTo}
 use Rattle.trace_text.specs.Worlds.{Machine}
 use Rattle.trace_outcomes.specs.declared.making.Race.{Race}
 use Rattle.trace_outcomes.specs.Made.{HasMade, IsReady}
-use Rattle.trace_outcomes.specs.Races.{Texts, first_of, nothing_told, nothing_wanted, texts_in, told_first, turns_of, turns_raced, wants}
+use Rattle.trace_outcomes.specs.Races.{Texts, first_of, no_replies, nothing_wanted, texts_in, first_replies, turns_of, turns_raced, wants}
 use Rattle.trace_outcomes.proofs.Generated.{along_low}
 
 pub turns_below : (n : ℕ) (steps : List Asked) (texts : Texts)
@@ -41,11 +41,11 @@ turns_count [] texts h = refl
 turns_count (a ∷ steps) [] h = absurd (omega (arith, h))
 turns_count (a ∷ steps) (text ∷ texts) h = ap suc (turns_count steps texts (omega (arith, h)))
 
-pub along_count : (l : Layout) (s : Reference) (turns : List Turn) → length (told_along l s turns).0 ≡ length turns
+pub along_count : (l : Layout) (s : Reference) (turns : List Turn) → length (replies_along l s turns).0 ≡ length turns
 along_count l s [] = refl
-along_count l s (t ∷ more) = ap suc (along_count l (told_to l s t).1 more)
+along_count l s (t ∷ more) = ap suc (along_count l (model_reply l s t).1 more)
 
-pub texts_nothing : (steps : List Asked) → texts_in (nothing_wanted steps) ≡ nothing_told steps
+pub texts_nothing : (steps : List Asked) → texts_in (nothing_wanted steps) ≡ no_replies steps
 texts_nothing [] = refl
 texts_nothing (a ∷ more) = ap (λ (ts : Texts). None ∷ ts) (texts_nothing more)
 
@@ -90,7 +90,7 @@ module _ (a : Asking) (g : Ghost) (r : Race) (steps : List Asked) (is : steps �
     (front : first ≡ turns_of (take n steps) (texts_in (take n texts)))
     (rest : r.turns.items
     ≡ turns_of (slice_range steps n (length steps)) (texts_in (slice_range texts n (length texts))))
-    (told : (r.replies.items, ghost_state r.state) ≡ told_along (layout_of g.layout) (ghost_state g) first)
+    (told : (r.replies.items, ghost_state r.state) ≡ replies_along (layout_of g.layout) (ghost_state g) first)
     (layout : layout_of r.state.layout ≡ layout_of g.layout) where
   before : first ≡ turns_of (take n a.steps) (texts_in (take n texts))
   before = front ∙ ap (λ xs. turns_of (take n xs) (texts_in (take n texts))) is
@@ -105,7 +105,7 @@ module _ (a : Asking) (g : Ghost) (r : Race) (steps : List Asked) (is : steps �
   has_made = record {
     told =
         told
-        ∙ ap (told_along (layout_of g.layout) (ghost_state g))
+        ∙ ap (replies_along (layout_of g.layout) (ghost_state g))
         (before ∙ ap (turns_of (take n a.steps)) (texts_before n texts)
         ∙ ap (λ k. turns_of (take k a.steps) (take k (texts_in texts))) order);
     layout = layout;
@@ -151,7 +151,7 @@ module _ (a : Asking) (g : Ghost) (r : Race) (steps : List Asked) (is : steps �
         (sym (ap (λ (x : List Reply × Reference). x.1) told))
         (subst
         (λ k. HasGenerationsTo (1 + k)
-        (told_along (layout_of g.layout) (ghost_state g) first).1.contents) count_before
+        (replies_along (layout_of g.layout) (ghost_state g) first).1.contents) count_before
         (along_low (layout_of g.layout) 1 (ghost_state g) first (omega arith) low));
   }
     where
@@ -178,9 +178,9 @@ module _ (a : Asking) (g : Ghost) (r : Race) (steps : List Asked) (is : steps �
 pub moved : (P : Layout → Reference → List Turn → Type 0) (m : Machine) (a : Asking) (texts : Texts) (r : Race)
     → HasMade m a texts r
     → P (layout_of r.state.layout) (ghost_state r.state) r.turns.items
-    → P m.layout (told_first m a texts).1 (turns_raced a texts)
+    → P m.layout (first_replies m a texts).1 (turns_raced a texts)
 moved P m a texts r made p =
-    subst (λ l. P l (told_first m a texts).1 (turns_raced a texts)) made.layout
+    subst (λ l. P l (first_replies m a texts).1 (turns_raced a texts)) made.layout
     (subst (λ s. P (layout_of r.state.layout) s (turns_raced a texts))
     (ap (λ (x : List Reply × Reference). x.1) made.told)
     (subst (λ ts. P (layout_of r.state.layout) (ghost_state r.state) ts) made.turns p))

@@ -8,27 +8,27 @@ use Rattle.trace_outcomes.specs.declared.finding.Found.TheVariants as founds
 use Rattle.trace_outcomes.specs.declared.finding.Outcomes.{Outcomes}
 use Rattle.trace_outcomes.specs.declared.making.Race.{Race}
 use Rattle.trace_outcomes.specs.Made.{HasMade}
-use Rattle.trace_outcomes.specs.Races.{Texts, first_of, nothing_told, nothing_wanted, raced_of, told_first, turns_raced}
-use Rattle.trace_outcomes.specs.Texts.{all_said}
+use Rattle.trace_outcomes.specs.Races.{Texts, first_of, no_replies, nothing_wanted, raced_of, first_replies, turns_raced}
+use Rattle.trace_outcomes.specs.Texts.{all_text}
 use Rattle.trace_outcomes.specs.Told.{OnBoot}
 
 -- the replies to the steps before `start`, and all outcomes of those after it, from the state that
 -- those before lead to
 pub record FindsAll (m : Machine) (a : Asking) (o : Outcomes) : Type 0 where
-  pub replies : o.replies.items ≡ (told_first m a (nothing_told a.steps)).0
+  pub replies : o.replies.items ≡ (first_replies m a (no_replies a.steps)).0
   pub count : length o.replies.items ≡ length (first_of a)
-  pub all : AllOutcomes m.layout (told_first m a (nothing_told a.steps)).1
-      (turns_raced a (nothing_told a.steps)) (nothing_wanted (raced_of a)) o.found.items
+  pub all : AllOutcomes m.layout (first_replies m a (no_replies a.steps)).1
+      (turns_raced a (no_replies a.steps)) (nothing_wanted (raced_of a)) o.found.items
 
 -- the lines that report it
-abbrev pub found_said : Asking → Outcomes → List ℕ
-found_said a o = all_said (first_of a) o.replies.items (raced_of a) o.found.items
+abbrev pub found_text : Asking → Outcomes → List ℕ
+found_text a o = all_text (first_of a) o.replies.items (raced_of a) o.found.items
 
 -- orders of `made` steps lead to more points than the limit
 abbrev pub HasTooMany : ℕ → Machine → Asking → ℕ → Type 0
 HasTooMany limit m a made =
-    HasMorePoints m.layout (told_first m a (nothing_told a.steps)).1
-    (turns_raced a (nothing_told a.steps)) (nothing_wanted (raced_of a)) limit made
+    HasMorePoints m.layout (first_replies m a (no_replies a.steps)).1
+    (turns_raced a (no_replies a.steps)) (nothing_wanted (raced_of a)) limit made
 
 -- the finding for the steps that are made on a machine
 abbrev pub FindsOn : ℕ → Asking → Machine → Found → Type 0

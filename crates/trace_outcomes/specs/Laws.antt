@@ -7,7 +7,7 @@ use Rattle.reference_model.specs.model.Boot.{boot}
 use Rattle.race_outcomes.specs.declared.finding.Outcome.{Outcome as RaceOutcome}
 use Rattle.race_outcomes.specs.declared.node.Turn.{Turn}
 use Rattle.race_outcomes.specs.Laws.{IsPlain, is_want}
-use Rattle.race_outcomes.specs.Orders.{AllOutcomes, IsOutcome, told_along}
+use Rattle.race_outcomes.specs.Orders.{AllOutcomes, IsOutcome, replies_along}
 use Rattle.trace_lines.specs.declared.response.Response.TheVariants as responses
 use Rattle.trace_lines.specs.Texts.{text_of_response}
 use Rattle.trace_race.specs.declared.course.Asked.{Asked}
@@ -15,15 +15,15 @@ use Rattle.trace_race.specs.Courses.{Asking, in_order_of}
 use Rattle.trace_race.specs.Made.{OneHistory}
 use Rattle.trace_race.specs.Raced.{HasOneHistory}
 use Rattle.trace_text.specs.Worlds.{Machine}
-use Rattle.trace_outcomes.specs.Races.{Texts, nothing_told, nothing_wanted, raced_of, told_first, turns_raced, wants}
+use Rattle.trace_outcomes.specs.Races.{Texts, no_replies, nothing_wanted, raced_of, first_replies, turns_raced, wants}
 use Rattle.trace_outcomes.specs.Reports.{is_reply, place_of, told_with}
 
 -- steps with their replies, of which exactly those with the reply `nomemory` find no memory
-abbrev pub turns_told : List Asked → List Reply → List Turn
-turns_told [] replies = []
-turns_told (a ∷ more) [] = []
-turns_told (a ∷ more) (reply ∷ replies) =
-    record { cpu = a.cpu; step = a.step; wants = is_want reply } ∷ turns_told more replies
+abbrev pub turns_replied : List Asked → List Reply → List Turn
+turns_replied [] replies = []
+turns_replied (a ∷ more) [] = []
+turns_replied (a ∷ more) (reply ∷ replies) =
+    record { cpu = a.cpu; step = a.step; wants = is_want reply } ∷ turns_replied more replies
 
 -- If replies have one legal history, the model gives the steps before `start` these replies, made
 -- in order. From the state that they lead to, the others are an outcome of the steps after `start`,
@@ -36,15 +36,15 @@ HistoriesAreOutcomes =
     → OneHistory l start steps replies
     → All IsPlain (drop start replies)
     →
-    let first = told_along l (boot l) (turns_told (take start steps) (take start replies)) in
+    let first = replies_along l (boot l) (turns_replied (take start steps) (take start replies)) in
     (first.0 ≡ take start replies)
-    × IsOutcome l first.1 (turns_told (drop start steps) (drop start replies))
+    × IsOutcome l first.1 (turns_replied (drop start steps) (drop start replies))
     (drop start replies)
 
 -- So if none is `nomemory`, the steps before `start` have the replies that the outcomes of the
 -- trace begin with, and the others are among these
-abbrev pub RacesAreTold : Type 0
-RacesAreTold =
+abbrev pub RacesAreReported : Type 0
+RacesAreReported =
     (m : Machine) (a : Asking) (replies : List Reply) (found : List RaceOutcome)
     → m.state ≡ boot m.layout
     → length replies ≡ length a.steps
@@ -52,9 +52,9 @@ RacesAreTold =
     → HasOneHistory m a replies
     → All (λ r. is_want r ≡ false) replies
     → All IsPlain (drop (in_order_of a) replies)
-    → AllOutcomes m.layout (told_first m a (nothing_told a.steps)).1
-    (turns_raced a (nothing_told a.steps)) (nothing_wanted (raced_of a)) found
-    → ((told_first m a (nothing_told a.steps)).0 ≡ take (in_order_of a) replies)
+    → AllOutcomes m.layout (first_replies m a (no_replies a.steps)).1
+    (turns_raced a (no_replies a.steps)) (nothing_wanted (raced_of a)) found
+    → ((first_replies m a (no_replies a.steps)).0 ≡ take (in_order_of a) replies)
     × Contains (map (λ o. o.replies.items) found) (drop (in_order_of a) replies)
 
 -- The text of each reply is read as that of a reply, and just `nomemory` as that of a step that

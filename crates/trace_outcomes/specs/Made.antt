@@ -10,7 +10,7 @@ use Rattle.trace_race.specs.Judged.{HasGenerationsTo}
 use Rattle.trace_text.specs.Worlds.{Machine}
 use Rattle.trace_outcomes.specs.declared.making.Race.{Race}
 use Rattle.trace_outcomes.specs.declared.telling.Told.{Told}
-use Rattle.trace_outcomes.specs.Races.{Texts, first_of, told_first, turns_raced}
+use Rattle.trace_outcomes.specs.Races.{Texts, first_of, first_replies, turns_raced}
 
 -- the steps that are made at once are of CPUs that exist, the list of wanted texts has an entry for
 -- each, each step before them has its reply, and no generation is near the last
@@ -28,7 +28,7 @@ IsNoGeneration other = Unit {0}
 
 -- they are made, and those after `start` are to be made now
 pub record HasMade (m : Machine) (a : Asking) (texts : Texts) (r : Race) : Type 0 where
-  pub told : (r.replies.items, ghost_state r.state) ≡ told_first m a texts
+  pub told : (r.replies.items, ghost_state r.state) ≡ first_replies m a texts
   pub layout : layout_of r.state.layout ≡ m.layout
   pub turns : r.turns.items ≡ turns_raced a texts
 

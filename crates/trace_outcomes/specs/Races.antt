@@ -5,7 +5,7 @@ use Rattle.std.specs.Str.{bytes_eq}
 use Rattle.call_table.specs.declared.reply.Reply.{Reply}
 use Rattle.reference_model.specs.model.State.{Reference}
 use Rattle.race_outcomes.specs.declared.node.Turn.{Turn}
-use Rattle.race_outcomes.specs.Orders.{told_along}
+use Rattle.race_outcomes.specs.Orders.{replies_along}
 use Rattle.trace_race.specs.declared.course.Asked.{Asked}
 use Rattle.trace_race.specs.Courses.{Asking, in_order_of}
 use Rattle.trace_text.specs.Worlds.{Machine}
@@ -18,8 +18,8 @@ abbrev pub texts_in : List (Option (Vec ℕ Global)) → Texts
 texts_in texts = map (option_map (λ v. v.items)) texts
 
 -- nothing of any of these
-abbrev pub nothing_told : List Asked → Texts
-nothing_told steps = map (λ a. None) steps
+abbrev pub no_replies : List Asked → Texts
+no_replies steps = map (λ a. None) steps
 
 -- no wanted text for any of these steps
 abbrev pub nothing_wanted : List Asked → List (Option (Vec ℕ Global))
@@ -49,6 +49,6 @@ abbrev pub turns_raced : Asking → Texts → List Turn
 turns_raced a texts = turns_of (raced_of a) (drop (in_order_of a) texts)
 
 -- the model's replies to the steps before `start`, made in order, and the state after them
-abbrev pub told_first : Machine → Asking → Texts → List Reply × Reference
-told_first m a texts =
-    told_along m.layout m.state (turns_of (first_of a) (take (in_order_of a) texts))
+abbrev pub first_replies : Machine → Asking → Texts → List Reply × Reference
+first_replies m a texts =
+    replies_along m.layout m.state (turns_of (first_of a) (take (in_order_of a) texts))

@@ -30,8 +30,8 @@ abbrev pub both : Option ℕ → Option ℕ → Option (ℕ × ℕ)
 both (Some number) (Some cpu) = Some (number, cpu)
 both number cpu = None
 
-abbrev pub step_said : List ℕ → Option (ℕ × ℕ)
-step_said line =
+abbrev pub step_of_line : List ℕ → Option (ℕ × ℕ)
+step_of_line line =
     both (option_and_then decimal_of (slice_get (words_of line) 0))
     (option_and_then decimal_of (slice_get (words_of line) 1))
 
@@ -73,7 +73,7 @@ told_by steps texts line (Some (number, cpu)) =
 -- the replies with one line more
 abbrev pub told_with : List Asked → Texts → List ℕ → Result Texts ReportFault
 told_with steps texts line =
-    if is_passed line then Ok texts else told_by steps texts line (step_said line)
+    if is_passed line then Ok texts else told_by steps texts line (step_of_line line)
 
 -- the form expected of a line that can't be read
 abbrev pub wanted_of : ReportFault → List ℕ
@@ -84,20 +84,21 @@ wanted_of Twice = codes "a step of which no line before this tells"
 
 -- the place of a fault, with the text found and the form expected there; `name` is the report's
 -- file
-abbrev pub place_said : List ℕ → ℕ → List ℕ
-place_said name number = name ++ (codes ":" ++ decimal number ++ codes ":1: ")
+abbrev pub place_text : List ℕ → ℕ → List ℕ
+place_text name number = name ++ (codes ":" ++ decimal number ++ codes ":1: ")
 
-abbrev pub found_said : List ℕ → List ℕ → List ℕ
-found_said line wanted = codes "found `" ++ line ++ codes "`, wanted " ++ wanted ++ 10 ∷ []
+abbrev pub found_text : List ℕ → List ℕ → List ℕ
+found_text line wanted = codes "found `" ++ line ++ codes "`, wanted " ++ wanted ++ 10 ∷ []
 
-abbrev pub fault_said : List ℕ → ℕ → List ℕ → ReportFault → List ℕ
-fault_said name number line fault = place_said name number ++ found_said line (wanted_of fault)
+abbrev pub report_fault_text : List ℕ → ℕ → List ℕ → ReportFault → List ℕ
+report_fault_text name number line fault =
+    place_text name number ++ found_text line (wanted_of fault)
 
 -- the texts of lines from a number on, or the place of the first fault
 abbrev pub onward : List ℕ → ℕ → List ℕ → Result Texts ReportFault → (Texts → Result Texts (List ℕ))
     → Result Texts (List ℕ)
 onward name number line (Ok texts) more = more texts
-onward name number line (Err fault) more = Err (fault_said name number line fault)
+onward name number line (Err fault) more = Err (report_fault_text name number line fault)
 
 abbrev pub told_in : List ℕ → List Asked → ℕ → Texts → List (List ℕ) → Result Texts (List ℕ)
 told_in name steps number texts [] = Ok texts

@@ -20,9 +20,9 @@ use Rattle.trace_text.specs.Session.{IsNoWorld}
 use Rattle.trace_text.specs.Texts.{text_of_report}
 use Rattle.trace_text.specs.Worlds.{IsBootOf, Machine}
 use Rattle.trace_outcomes.specs.declared.telling.Told.{Told}
-use Rattle.trace_outcomes.specs.Races.{Texts, first_of, nothing_told, nothing_wanted, raced_of, texts_in, told_first, turns_raced}
+use Rattle.trace_outcomes.specs.Races.{Texts, first_of, no_replies, nothing_wanted, raced_of, texts_in, first_replies, turns_raced}
 use Rattle.trace_outcomes.specs.Reports.{told_in}
-use Rattle.trace_outcomes.specs.Texts.{all_said, end_said, none_said, order_said, otherwise_said, too_many_said}
+use Rattle.trace_outcomes.specs.Texts.{all_text, end_text, none_text, order_text, otherwise_text, too_many_text}
 
 -- this text, how it ends, and the trace's fault with the number of its line
 pub record Tells (text : List ℕ) (outcome : Outcome) (fault : Option (ℕ × Fault))
@@ -32,20 +32,20 @@ pub record Tells (text : List ℕ) (outcome : Outcome) (fault : Option (ℕ × F
   pub fault_is : t.fault ≡ fault
 
 -- a text that is clean, and one that isn't, of a trace without a fault
-abbrev pub TellsClean : List ℕ → Told → Type 0
-TellsClean text = Tells text outcomes.Clean None
+abbrev pub ReportsClean : List ℕ → Told → Type 0
+ReportsClean text = Tells text outcomes.Clean None
 
-abbrev pub TellsUnclean : List ℕ → Told → Type 0
-TellsUnclean text = Tells text outcomes.Disagreed None
+abbrev pub ReportsUnclean : List ℕ → Told → Type 0
+ReportsUnclean text = Tells text outcomes.Disagreed None
 
 -- a fault of a line is the whole text
-abbrev pub TellsFault : ℕ → Fault → Told → Type 0
-TellsFault line fault =
+abbrev pub ReportsFault : ℕ → Fault → Told → Type 0
+ReportsFault line fault =
     Tells (text_of_report (report.Fault line fault ∷ [])) outcomes.Fault (Some (line, fault))
 
 -- so is the place of a fault of the report
-abbrev pub TellsPlace : List ℕ → Told → Type 0
-TellsPlace said = Tells said outcomes.Fault None
+abbrev pub ReportsPlace : List ℕ → Told → Type 0
+ReportsPlace said = Tells said outcomes.Fault None
 
 -- no machine was booted: the layout was refused, or the boot
 pub record IsNoBoot {T : Type 0} (Faults : ℕ → Fault → T → Type 0) (a : Asking) (carve : PageRange)
@@ -77,33 +77,34 @@ OnBoot Faults Idle Tells a t =
 
 -- the report of what a whole trace asks for; a fault of a line is the whole text
 abbrev pub OnRead : (Asking → Told → Type 0) → Result Asking (ℕ × Fault) → Told → Type 0
-OnRead Tells (Err told) t = TellsFault told.0 told.1 t
+OnRead Tells (Err told) t = ReportsFault told.0 told.1 t
 OnRead Tells (Ok a) t = Tells a t
 
 -- a layer has more points than the limit: orders of `made` steps, whose replies have the wanted
 -- texts, lead to them
-pub record TellsTooMany (m : Machine) (a : Asking) (texts : Texts)
+pub record ReportsTooMany (m : Machine) (a : Asking) (texts : Texts)
     (wanted : List (Option (Vec ℕ Global))) (limit : ℕ) (t : Told) : Type 0 where
   pub made : ℕ
-  pub more : HasMorePoints m.layout (told_first m a texts).1 (turns_raced a texts) wanted limit made
-  pub tells : TellsUnclean (too_many_said made) t
+  pub more : HasMorePoints m.layout (first_replies m a texts).1
+      (turns_raced a texts) wanted limit made
+  pub tells : ReportsUnclean (too_many_text made) t
 
 -- all outcomes of the steps after `start`, from the state that those before it lead to
-pub record TellsAll (m : Machine) (a : Asking) (t : Told) : Type 0 where
+pub record ReportsAll (m : Machine) (a : Asking) (t : Told) : Type 0 where
   pub found : List RaceOutcome
-  pub all : AllOutcomes m.layout (told_first m a (nothing_told a.steps)).1
-      (turns_raced a (nothing_told a.steps)) (nothing_wanted (raced_of a)) found
-  pub tells : TellsClean
-      (all_said (first_of a) (told_first m a (nothing_told a.steps)).0 (raced_of a) found) t
+  pub all : AllOutcomes m.layout (first_replies m a (no_replies a.steps)).1
+      (turns_raced a (no_replies a.steps)) (nothing_wanted (raced_of a)) found
+  pub tells : ReportsClean
+      (all_text (first_of a) (first_replies m a (no_replies a.steps)).0 (raced_of a) found) t
 
-abbrev pub TellsRaced : ℕ → Asking → Machine → Told → Type 0
-TellsRaced limit a m t =
-    TellsAll m a t ⊎ TellsTooMany m a (nothing_told a.steps) (nothing_wanted (raced_of a)) limit t
+abbrev pub ReportsRaced : ℕ → Asking → Machine → Told → Type 0
+ReportsRaced limit a m t =
+    ReportsAll m a t ⊎ ReportsTooMany m a (no_replies a.steps) (nothing_wanted (raced_of a)) limit t
 
 -- all outcomes of a trace
-abbrev pub TellsOutcomes : ℕ → Result Asking (ℕ × Fault) → Told → Type 0
-TellsOutcomes limit =
-    OnRead (λ a. OnBoot TellsFault (TellsClean (end_said 0 0)) (TellsRaced limit a) a)
+abbrev pub ReportsOutcomes : ℕ → Result Asking (ℕ × Fault) → Told → Type 0
+ReportsOutcomes limit =
+    OnRead (λ a. OnBoot ReportsFault (ReportsClean (end_text 0 0)) (ReportsRaced limit a) a)
 
 -- a reply has the given text, if one was given
 abbrev pub is_read : List ℕ → Option (List ℕ) → Bool
@@ -122,33 +123,34 @@ first_apart (a ∷ more) (reply ∷ replies) (text ∷ texts) =
 module _ (m : Machine) (a : Asking) (texts : Texts) where
   -- some order of the steps after `start` gives these replies, and the text has it; or no order
   -- does
-  abbrev pub TellsOrder : List (Option (Vec ℕ Global)) → Told → Type 0
-  TellsOrder wanted t =
+  abbrev pub ReportsOrder : List (Option (Vec ℕ Global)) → Told → Type 0
+  ReportsOrder wanted t =
       ((order : List ℕ)
-      × GivesWanted m.layout (told_first m a texts).1 (turns_raced a texts) wanted order
-      × TellsClean (order_said (raced_of a) order) t)
-      ⊎ (NoneWanted m.layout (told_first m a texts).1 (turns_raced a texts) wanted
-      × TellsUnclean none_said t)
+      × GivesWanted m.layout (first_replies m a texts).1 (turns_raced a texts) wanted order
+      × ReportsClean (order_text (raced_of a) order) t)
+      ⊎ (NoneWanted m.layout (first_replies m a texts).1 (turns_raced a texts) wanted
+      × ReportsUnclean none_text t)
 
   -- so it is with the replies to these steps, unless there are too many points
-  pub record TellsBehind (limit : ℕ) (t : Told) : Type 0 where
+  pub record ReportsBehind (limit : ℕ) (t : Told) : Type 0 where
     pub wanted : List (Option (Vec ℕ Global))
     pub wanted_is : texts_in wanted ≡ drop (in_order_of a) texts
-    pub tells : TellsOrder wanted t ⊎ TellsTooMany m a texts wanted limit t
+    pub tells : ReportsOrder wanted t ⊎ ReportsTooMany m a texts wanted limit t
 
   -- and if the replies to the steps before `start` are the model's
-  abbrev pub TellsObserved : ℕ → Told → Type 0
-  TellsObserved limit t =
-      MatchOption (first_apart (first_of a) (told_first m a texts).0 (take (in_order_of a) texts))
-      (TellsBehind limit t) (λ x. TellsUnclean (otherwise_said x.0 (text_of_reply x.1)) t)
+  abbrev pub ReportsObserved : ℕ → Told → Type 0
+  ReportsObserved limit t =
+      MatchOption
+      (first_apart (first_of a) (first_replies m a texts).0 (take (in_order_of a) texts))
+      (ReportsBehind limit t) (λ x. ReportsUnclean (otherwise_text x.0 (text_of_reply x.1)) t)
 
 -- the answer for a report, or the place of its fault
-abbrev pub TellsBy : ℕ → Asking → Result Texts (List ℕ) → Told → Type 0
-TellsBy limit a (Err said) t = TellsPlace said t
-TellsBy limit a (Ok texts) t =
-    OnBoot TellsFault (TellsClean (order_said [] [])) (λ m. TellsObserved m a texts limit) a t
+abbrev pub ReportsBy : ℕ → Asking → Result Texts (List ℕ) → Told → Type 0
+ReportsBy limit a (Err said) t = ReportsPlace said t
+ReportsBy limit a (Ok texts) t =
+    OnBoot ReportsFault (ReportsClean (order_text [] [])) (λ m. ReportsObserved m a texts limit) a t
 
 -- whether some order of a trace's steps gives the replies of a report of these lines
-abbrev pub TellsReported : List ℕ → List (List ℕ) → ℕ → Result Asking (ℕ × Fault) → Told → Type 0
-TellsReported name lines limit =
-    OnRead (λ a. TellsBy limit a (told_in name a.steps 1 (nothing_told a.steps) lines))
+abbrev pub AnswersReport : List ℕ → List (List ℕ) → ℕ → Result Asking (ℕ × Fault) → Told → Type 0
+AnswersReport name lines limit =
+    OnRead (λ a. ReportsBy limit a (told_in name a.steps 1 (no_replies a.steps) lines))

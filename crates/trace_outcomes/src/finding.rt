@@ -10,7 +10,7 @@ ghost use Rattle.trace_outcomes.specs.Made.{IsNoGeneration, IsReady};
 ghost use Rattle.trace_outcomes.specs.Races.{nothing_wanted, texts_in};
 
 use crate::booting::boot_state;
-use crate::making::{Race, first_made, nothing_told};
+use crate::making::{Race, first_made, no_replies};
 use call_table::Reply;
 use ghost_spec::state::Ghost;
 use race_outcomes::{Outcome, OutcomesFault, outcomes};
@@ -81,7 +81,7 @@ fn found_from<P: Progress>(
     requires low { HasGenerationsTo 1 (contents_in state) }
     ensures { IfOk result (FindsOn limit (course_in course.now) (machine_in state)) }
 {
-    let texts = nothing_told(global, course.steps.as_slice())?;
+    let texts = no_replies(global, course.steps.as_slice())?;
     match first_made(global, state, course, texts.as_slice()) {
         Ok(race) => found_of(global, race, course, texts.as_slice(), limit, progress),
         Err(_) => Err(AllocError),

@@ -1,5 +1,5 @@
 //! The report of a race is an outcome of its steps, and its replies are read. Each function does nothing, and its contract is the law.
-ghost use Rattle.trace_outcomes.specs.Laws.{HistoriesAreOutcomes, LinesAreRead, RacesAreTold, RepliesAreRead};
+ghost use Rattle.trace_outcomes.specs.Laws.{HistoriesAreOutcomes, LinesAreRead, RacesAreReported, RepliesAreRead};
 
 /// If replies have one legal history, as those of each race have, the model gives the steps before `start` exactly
 /// these replies, and from there on the others are an outcome of the steps after `start`, unless one of them reports a
@@ -10,8 +10,8 @@ pub fn histories_are_outcomes()
 
 /// All outcomes of a trace have the replies of each of its races that reports no lack of memory, and after `start` no
 /// full log.
-pub fn races_are_told()
-    ensures { RacesAreTold }
+pub fn races_are_reported()
+    ensures { RacesAreReported }
 {}
 
 /// The text of each reply is read as that of a reply, and just `nomemory` as that of a step that finds no memory.

@@ -13,5 +13,5 @@ mod writing;
 
 pub use finding::{Found, Outcomes, find_outcomes};
 pub use reading::{Read, read_trace};
-pub use telling::{Told, tell_order, tell_outcomes};
+pub use telling::{Told, report_order, report_outcomes};
 pub use writing::{add_kinds, add_places, is_among, kinds_at, text_at};

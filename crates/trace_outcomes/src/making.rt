@@ -2,7 +2,7 @@
 ghost use Rattle.std.specs.Prelude.{◌≡◌, ◌<◌, ◌^◌, All, IfOk, drop, length, option_map};
 ghost use Rattle.page_state.specs.LayoutView.{layout_of};
 ghost use Rattle.ghost_spec.specs.States.{contents_in, ghost_state};
-ghost use Rattle.race_outcomes.specs.Orders.{told_along};
+ghost use Rattle.race_outcomes.specs.Orders.{replies_along};
 ghost use Rattle.trace_lines.specs.Settings.{config_of};
 ghost use Rattle.trace_race.specs.Booted.{machine_in};
 ghost use Rattle.trace_race.specs.Courses.{IsSound, course_in, in_order_of};
@@ -29,7 +29,7 @@ pub(crate) struct Race {
 }
 
 /// No reply to any of these steps.
-pub(crate) fn nothing_told(
+pub(crate) fn no_replies(
     global: Global,
     steps: &[Asked],
 ) -> Result<Vec<Option<Vec<u8>>>, AllocError>
@@ -115,7 +115,7 @@ fn steps_made(
     requires low { HasGenerationsTo 1 (contents_in state) }
     ensures told { IfOk result
         (λ r. (r.0.items, ghost_state r.1)
-        ≡ told_along (layout_of state.layout) (ghost_state state) turns.now) }
+        ≡ replies_along (layout_of state.layout) (ghost_state state) turns.now) }
     ensures layout { IfOk result (λ r. layout_of r.1.layout ≡ layout_of state.layout) }
 {
     match first_steps(global, state, turns) {

@@ -3,7 +3,7 @@ ghost use Rattle.std.specs.Prelude.{◌≡◌, ◌<◌, ◌++◌, IfOk, OnOk, le
 ghost use Rattle.trace_reader.specs.Reading.{lines_of};
 ghost use Rattle.trace_outcomes.specs.Noted.{IsCounted, IsNoted, IsReportOf};
 ghost use Rattle.trace_outcomes.specs.Races.{texts_in};
-ghost use Rattle.trace_outcomes.specs.Reports.{behind_space as behind_space_of, fault_said as fault_said_by, found_said, place_said as place_said_by, is_passed as is_passed_line, is_refusal as is_refusal_text, is_reply as is_reply_text, place_of as place_by, put as put_by, step_said as step_said_by, told_in, told_with, wanted_of as wanted_by};
+ghost use Rattle.trace_outcomes.specs.Reports.{behind_space as behind_space_of, report_fault_text as report_fault_text_by, found_text, place_text as place_text_by, is_passed as is_passed_line, is_refusal as is_refusal_text, is_reply as is_reply_text, place_of as place_by, put as put_by, step_of_line as step_of_line_by, told_in, told_with, wanted_of as wanted_by};
 
 use std::alloc::{AllocError, Global};
 use std::mem;
@@ -58,8 +58,8 @@ fn behind_space(line: &[u8]) -> &[u8]
 }
 
 /// The line and the CPU of a step, at the front of a line.
-fn step_said(line: &[u8]) -> Option<(u64, u64)>
-    ensures { result ≡ step_said_by line.now }
+fn step_of_line(line: &[u8]) -> Option<(u64, u64)>
+    ensures { result ≡ step_of_line_by line.now }
 {
     let words = Words::of(line);
     let number = decimal(words.get(0)?)?;
@@ -111,7 +111,7 @@ fn read_line(
     if is_passed(line) {
         return Ok(None);
     }
-    let Some((number, cpu)) = step_said(line) else {
+    let Some((number, cpu)) = step_of_line(line) else {
         return Ok(Some(ReportFault::Form));
     };
     let Some(place) = place_of(steps, number, cpu) else {
@@ -176,7 +176,7 @@ fn read_lines(
     let mut texts = texts;
     for place in 0..lines.len() {
         if let Some(fault) = read_line(global, steps, lines[place], &mut texts)? {
-            let said = fault_said(global, name, place as u64 + 1, lines[place], fault)?;
+            let said = report_fault_text(global, name, place as u64 + 1, lines[place], fault)?;
             return Ok(Report::Fault(said));
         }
     }
@@ -196,22 +196,22 @@ fn wanted_of(fault: ReportFault) -> &'static str
 }
 
 /// The line for the place of a fault.
-fn fault_said(
+fn report_fault_text(
     global: Global,
     name: &str,
     number: u64,
     line: &[u8],
     fault: ReportFault,
 ) -> Result<Vec<u8>, AllocError>
-    ensures { IfOk result (λ said. said.items ≡ fault_said_by name.now number line.now fault) }
+    ensures { IfOk result (λ said. said.items ≡ report_fault_text_by name.now number line.now fault) }
 {
-    let mut said = place_said(global, name, number)?;
+    let mut said = place_text(global, name, number)?;
     add_found(&mut said, line, wanted_of(fault))?;
     Ok(said)
 }
 
-fn place_said(global: Global, name: &str, number: u64) -> Result<Vec<u8>, AllocError>
-    ensures { IfOk result (λ said. said.items ≡ place_said_by name.now number) }
+fn place_text(global: Global, name: &str, number: u64) -> Result<Vec<u8>, AllocError>
+    ensures { IfOk result (λ said. said.items ≡ place_text_by name.now number) }
 {
     let place = format!(in global; ":{number}:1: ")?;
     let mut said = Vec::from_slice(global, name.as_bytes())?;
@@ -221,7 +221,7 @@ fn place_said(global: Global, name: &str, number: u64) -> Result<Vec<u8>, AllocE
 
 /// The word found in a line, and the form expected there.
 fn add_found(said: &mut Vec<u8>, line: &[u8], wanted: &str) -> Result<(), AllocError>
-    ensures { OnOk result (said.new.items ≡ said.old.items ++ found_said line.now wanted.now) }
+    ensures { OnOk result (said.new.items ≡ said.old.items ++ found_text line.now wanted.now) }
 {
     said.extend_from_slice(b"found `")?;
     said.extend_from_slice(line)?;

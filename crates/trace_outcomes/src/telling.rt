@@ -7,15 +7,15 @@ ghost use Rattle.ghost_spec.specs.States.{contents_in};
 ghost use Rattle.trace_race.specs.Booted.{machine_in};
 ghost use Rattle.trace_race.specs.Judged.{HasGenerationsTo};
 ghost use Rattle.trace_race.specs.Courses.{IsSound, course_in, course_of, in_order_of, nothing_asked};
-ghost use Rattle.trace_outcomes.specs.Finds.{found_said};
+ghost use Rattle.trace_outcomes.specs.Finds.{found_text};
 ghost use Rattle.trace_outcomes.specs.Made.{IsNoGeneration, IsReady, OnMade};
 ghost use Rattle.trace_outcomes.specs.Races.{first_of, raced_of, texts_in};
-ghost use Rattle.trace_outcomes.specs.Texts.{end_said, none_said, order_said, otherwise_said, too_many_said};
-ghost use Rattle.trace_outcomes.specs.Told.{TellsBehind, TellsBy, TellsClean, TellsFault, TellsObserved, TellsOutcomes, TellsReported, TellsUnclean, first_apart as first_apart_of, is_read};
+ghost use Rattle.trace_outcomes.specs.Texts.{end_text, none_text, order_text, otherwise_text, too_many_text};
+ghost use Rattle.trace_outcomes.specs.Told.{ReportsBehind, ReportsBy, ReportsClean, ReportsFault, ReportsObserved, ReportsOutcomes, AnswersReport, ReportsUnclean, first_apart as first_apart_of, is_read};
 
 use crate::booting::boot_state;
 use crate::finding::{Found, Outcomes, find_outcomes};
-use crate::making::{Race, first_made, nothing_told};
+use crate::making::{Race, first_made, no_replies};
 use crate::observed::{Report, read_report};
 use crate::reading::{Read, read_trace};
 use crate::writing::{
@@ -41,7 +41,7 @@ pub struct Told {
 
 /// A fault of the trace.
 fn faulty(global: Global, line: u64, fault: Fault) -> Result<Told, AllocError>
-    ensures { IfOk result (TellsFault line fault) }
+    ensures { IfOk result (ReportsFault line fault) }
 {
     let mut text = Vec::new(global);
     add_fault(&mut text, global, line, fault)?;
@@ -54,7 +54,7 @@ fn faulty(global: Global, line: u64, fault: Fault) -> Result<Told, AllocError>
 
 /// A text that is clean.
 fn clean(text: Vec<u8>) -> Told
-    ensures { TellsClean text.items result }
+    ensures { ReportsClean text.items result }
 {
     Told {
         text,
@@ -65,7 +65,7 @@ fn clean(text: Vec<u8>) -> Told
 
 /// A text that isn't.
 fn unclean(text: Vec<u8>) -> Told
-    ensures { TellsUnclean text.items result }
+    ensures { ReportsUnclean text.items result }
 {
     Told {
         text,
@@ -80,7 +80,7 @@ fn too_many(global: Global, fault: OutcomesFault) -> Result<Told, AllocError>
     ensures { IfOk result
         (λ t. (made : ℕ)
         × (fault ≡ OutcomesFault.TooMany made)
-        × TellsUnclean (too_many_said made) t) }
+        × ReportsUnclean (too_many_text made) t) }
 {
     match fault {
         OutcomesFault::TooMany(made) => many_told(global, made),
@@ -93,13 +93,13 @@ fn too_many(global: Global, fault: OutcomesFault) -> Result<Told, AllocError>
 /// that keeps each CPU's own. Each list of replies comes once, with an order that gives it. If orders of some number of
 /// steps lead to more points than `limit`, which are states with the replies so far, that is the whole text. Err if
 /// memory was refused. `progress` gets a call for each point that is left.
-pub fn tell_outcomes<P: Progress>(
+pub fn report_outcomes<P: Progress>(
     global: Global,
     trace: &[u8],
     limit: usize,
     progress: &P,
 ) -> Result<Told, AllocError>
-    ensures { IfOk result (TellsOutcomes limit (course_of 1 nothing_asked (lines_of trace.now))) }
+    ensures { IfOk result (ReportsOutcomes limit (course_of 1 nothing_asked (lines_of trace.now))) }
 {
     match read_trace(global, trace)? {
         Read::Whole(course) => outcomes_of(global, &course, limit, progress),
@@ -109,7 +109,7 @@ pub fn tell_outcomes<P: Progress>(
 
 /// Nothing boots.
 fn idle(global: Global) -> Result<Told, AllocError>
-    ensures { IfOk result (TellsClean (end_said 0 0)) }
+    ensures { IfOk result (ReportsClean (end_text 0 0)) }
 {
     let mut text = Vec::new(global);
     add_end(&mut text, global, 0, 0)?;
@@ -124,7 +124,7 @@ fn outcomes_of<P: Progress>(
     progress: &P,
 ) -> Result<Told, AllocError>
     requires { IsSound (course_in course.now) }
-    ensures { IfOk result (TellsOutcomes limit (Ok (course_in course.now))) }
+    ensures { IfOk result (ReportsOutcomes limit (Ok (course_in course.now))) }
 {
     match find_outcomes(global, course, limit, progress)? {
         Found::Idle => idle(global),
@@ -136,7 +136,7 @@ fn outcomes_of<P: Progress>(
 
 /// That there are too many points.
 fn many_told(global: Global, made: u64) -> Result<Told, AllocError>
-    ensures { IfOk result (TellsUnclean (too_many_said made)) }
+    ensures { IfOk result (ReportsUnclean (too_many_text made)) }
 {
     let mut text = Vec::new(global);
     add_too_many(&mut text, global, made)?;
@@ -147,7 +147,7 @@ fn many_told(global: Global, made: u64) -> Result<Told, AllocError>
 fn all_told(global: Global, course: &Course, outcomes: &Outcomes) -> Result<Told, AllocError>
     requires sound { IsSound (course_in course.now) }
     requires count { length outcomes.now.replies.items ≡ length (first_of (course_in course.now)) }
-    ensures { IfOk result (TellsClean (found_said (course_in course.now) outcomes.now)) }
+    ensures { IfOk result (ReportsClean (found_text (course_in course.now) outcomes.now)) }
 {
     let count = course.in_order();
     let steps = course.steps.as_slice();
@@ -167,7 +167,7 @@ fn all_told(global: Global, course: &Course, outcomes: &Outcomes) -> Result<Told
 /// first step before `start` whose reply in the report isn't the model's. `name` is the report's file, for the place of
 /// its first fault. A step without a reply in it may get any reply but `nomemory`. Too many points, and Err, are as for
 /// all outcomes.
-pub fn tell_order<P: Progress>(
+pub fn report_order<P: Progress>(
     global: Global,
     trace: &[u8],
     name: &str,
@@ -176,7 +176,7 @@ pub fn tell_order<P: Progress>(
     progress: &P,
 ) -> Result<Told, AllocError>
     ensures { IfOk result
-        (TellsReported name.now (lines_of report.now) limit
+        (AnswersReport name.now (lines_of report.now) limit
         (course_of 1 nothing_asked (lines_of trace.now))) }
 {
     match read_trace(global, trace)? {
@@ -195,9 +195,9 @@ fn order_of<P: Progress>(
     progress: &P,
 ) -> Result<Told, AllocError>
     requires { IsSound (course_in course.now) }
-    ensures { IfOk result (TellsReported name.now (lines_of report.now) limit (Ok (course_in course.now))) }
+    ensures { IfOk result (AnswersReport name.now (lines_of report.now) limit (Ok (course_in course.now))) }
 {
-    let texts = nothing_told(global, course.steps.as_slice())?;
+    let texts = no_replies(global, course.steps.as_slice())?;
     match read_report(global, name, report, course.steps.as_slice(), texts)? {
         Report::Texts(texts) => order_by(global, course, texts.as_slice(), limit, progress),
         Report::Fault(text) => Ok(Told {
@@ -210,7 +210,7 @@ fn order_of<P: Progress>(
 
 /// Nothing boots, so no step is made.
 fn idle_order(global: Global) -> Result<Told, AllocError>
-    ensures { IfOk result (TellsClean (order_said [] [])) }
+    ensures { IfOk result (ReportsClean (order_text [] [])) }
 {
     let mut text = Vec::new(global);
     add_order(&mut text, global, &[], &[])?;
@@ -227,7 +227,7 @@ fn order_by<P: Progress>(
 ) -> Result<Told, AllocError>
     requires sound { IsSound (course_in course.now) }
     requires count { length texts.now ≡ length course.now.steps.items }
-    ensures { IfOk result (TellsBy limit (course_in course.now) (Ok (texts_in texts.now))) }
+    ensures { IfOk result (ReportsBy limit (course_in course.now) (Ok (texts_in texts.now))) }
 {
     let boot = match course.boot {
         Some(boot) => boot,
@@ -258,7 +258,7 @@ fn order_from<P: Progress>(
     requires low { HasGenerationsTo 1 (contents_in state) }
     requires count { length texts.now ≡ length course.now.steps.items }
     ensures { IfOk result
-        (TellsObserved (machine_in state) (course_in course.now) (texts_in texts.now) limit) }
+        (ReportsObserved (machine_in state) (course_in course.now) (texts_in texts.now) limit) }
 {
     match first_made(global, state, course, texts) {
         Ok(race) => order_in(global, &race, course, texts, limit, progress),
@@ -268,7 +268,7 @@ fn order_from<P: Progress>(
 
 /// Reports that a step before `start` has another reply than the model's.
 fn otherwise(global: Global, line: u64, reply: Reply) -> Result<Told, AllocError>
-    ensures { IfOk result (TellsUnclean (otherwise_said line (text_of_reply reply))) }
+    ensures { IfOk result (ReportsUnclean (otherwise_text line (text_of_reply reply))) }
 {
     let reply = text_of(global, reply)?;
     let mut text = Vec::new(global);
@@ -290,7 +290,7 @@ fn order_in<P: Progress>(
     requires ready { IsReady (course_in course.now)
         (drop (in_order_of (course_in course.now)) texts.now) race.now }
     ensures { IfOk result
-        (OnMade (λ m a texts. TellsObserved m a texts limit) (course_in course.now)
+        (OnMade (λ m a texts. ReportsObserved m a texts limit) (course_in course.now)
         (texts_in texts.now) race.now) }
 {
     let count = course.in_order();
@@ -320,7 +320,7 @@ fn order_behind<P: Progress>(
     requires ready { IsReady (course_in course.now)
         (drop (in_order_of (course_in course.now)) texts.now) race.now }
     ensures { IfOk result
-        (OnMade (λ m a texts. TellsBehind m a texts limit) (course_in course.now)
+        (OnMade (λ m a texts. ReportsBehind m a texts limit) (course_in course.now)
         (texts_in texts.now) race.now) }
 {
     let count = course.in_order();
@@ -332,16 +332,16 @@ fn order_behind<P: Progress>(
         limit,
         progress,
     ) {
-        Ok(Some(order)) => order_told(global, course, order.as_slice()),
+        Ok(Some(order)) => order_reported(global, course, order.as_slice()),
         Ok(None) => none_told(global),
         Err(fault) => too_many(global, fault),
     }
 }
 
 /// Tells an order.
-fn order_told(global: Global, course: &Course, order: &[usize]) -> Result<Told, AllocError>
+fn order_reported(global: Global, course: &Course, order: &[usize]) -> Result<Told, AllocError>
     requires { IsSound (course_in course.now) }
-    ensures { IfOk result (TellsClean (order_said (raced_of (course_in course.now)) order.now)) }
+    ensures { IfOk result (ReportsClean (order_text (raced_of (course_in course.now)) order.now)) }
 {
     let count = course.in_order();
     let steps = course.steps.as_slice();
@@ -352,7 +352,7 @@ fn order_told(global: Global, course: &Course, order: &[usize]) -> Result<Told, 
 
 /// Tells that there is none.
 fn none_told(global: Global) -> Result<Told, AllocError>
-    ensures { IfOk result (TellsUnclean none_said) }
+    ensures { IfOk result (ReportsUnclean none_text) }
 {
     let text = Vec::from_slice(global, b"no order gives these replies\n")?;
     Ok(unclean(text))

@@ -5,24 +5,24 @@ ghost use Rattle.call_table.specs.Texts.{text_of_reply};
 ghost use Rattle.trace_race.specs.Raced.{step_lines};
 ghost use Rattle.trace_text.specs.Texts.{text_of as text_of_line, text_of_report};
 ghost use Rattle.trace_outcomes.specs.Texts.{
-  all_said,
+  all_text,
   behind_bars,
-  end_said,
+  end_text,
   is_among as is_among_of,
   kinds_at as kinds_at_of,
-  kinds_said,
+  kinds_text,
   line_at as line_at_of,
-  order_said,
-  otherwise_said,
+  order_text,
+  otherwise_text,
   outcome_line,
-  outcomes_said,
-  place_said,
-  places_said,
-  replies_said,
+  outcomes_text,
+  place_text,
+  places_text,
+  replies_text,
   step_line,
-  steps_said,
+  steps_text,
   text_at as text_at_of,
-  too_many_said,
+  too_many_text,
   varied_from,
   varied_reply,
   with_kind,
@@ -150,7 +150,7 @@ fn add_behind(text: &mut Vec<u8>, kinds: &[Vec<u8>]) -> Result<(), AllocError>
 
 /// Texts with ` | ` between them.
 pub fn add_kinds(text: &mut Vec<u8>, kinds: &[Vec<u8>]) -> Result<(), AllocError>
-    ensures { OnOk result (text.new.items ≡ text.old.items ++ kinds_said (map (λ v. v.items) kinds.now)) }
+    ensures { OnOk result (text.new.items ≡ text.old.items ++ kinds_text (map (λ v. v.items) kinds.now)) }
 {
     match kinds {
         [] => Ok(()),
@@ -186,7 +186,7 @@ fn add_steps(
     steps: &[Asked],
     found: &[Outcome],
 ) -> Result<Vec<bool>, AllocError>
-    ensures text { IfOk result (λ _. text.new.items ≡ text.old.items ++ steps_said found.now 0 steps.now) }
+    ensures text { IfOk result (λ _. text.new.items ≡ text.old.items ++ steps_text found.now 0 steps.now) }
     ensures varied { IfOk result (λ v. v.items ≡ varied_from found.now 0 steps.now) }
     ensures count { IfOk result (λ v. length v.items ≡ length steps.now) }
 {
@@ -235,7 +235,7 @@ fn add_replies(
 ) -> Result<(), AllocError>
     requires { length varied.now ≡ length steps.now }
     ensures { OnOk result
-        (text.new.items ≡ text.old.items ++ replies_said replies.now 0 steps.now varied.now) }
+        (text.new.items ≡ text.old.items ++ replies_text replies.now 0 steps.now varied.now) }
 {
     for place in 0..steps.len() {
         add_varied(text, global, steps[place], varied[place], replies, place)?;
@@ -260,7 +260,7 @@ pub(crate) fn add_order(
     steps: &[Asked],
     order: &[usize],
 ) -> Result<(), AllocError>
-    ensures { OnOk result (text.new.items ≡ text.old.items ++ order_said steps.now order.now) }
+    ensures { OnOk result (text.new.items ≡ text.old.items ++ order_text steps.now order.now) }
 {
     text.extend_from_slice(b"order")?;
     add_places(text, global, steps, order)?;
@@ -274,7 +274,7 @@ pub fn add_places(
     steps: &[Asked],
     order: &[usize],
 ) -> Result<(), AllocError>
-    ensures { OnOk result (text.new.items ≡ text.old.items ++ places_said steps.now order.now) }
+    ensures { OnOk result (text.new.items ≡ text.old.items ++ places_text steps.now order.now) }
 {
     for place in order {
         add_place(text, global, steps, *place)?;
@@ -288,7 +288,7 @@ fn add_place(
     steps: &[Asked],
     place: usize,
 ) -> Result<(), AllocError>
-    ensures { OnOk result (text.new.items ≡ text.old.items ++ place_said steps.now place) }
+    ensures { OnOk result (text.new.items ≡ text.old.items ++ place_text steps.now place) }
 {
     let line = line_at(steps, place);
     let said = format!(in global; " {line}")?;
@@ -322,7 +322,7 @@ fn add_outcomes(
 ) -> Result<(), AllocError>
     requires { length varied.now ≡ length steps.now }
     ensures { OnOk result
-        (text.new.items ≡ text.old.items ++ outcomes_said steps.now varied.now found.now) }
+        (text.new.items ≡ text.old.items ++ outcomes_text steps.now varied.now found.now) }
 {
     for outcome in found {
         add_outcome(text, global, steps, varied, outcome)?;
@@ -337,7 +337,7 @@ pub(crate) fn add_end(
     steps: usize,
     outcomes: usize,
 ) -> Result<(), AllocError>
-    ensures { OnOk result (text.new.items ≡ text.old.items ++ end_said steps outcomes) }
+    ensures { OnOk result (text.new.items ≡ text.old.items ++ end_text steps outcomes) }
 {
     let said = format!(in global; "end steps {steps} outcomes {outcomes}\n")?;
     text.extend_from_slice(said.as_bytes())?;
@@ -355,7 +355,7 @@ pub(crate) fn add_all(
 ) -> Result<(), AllocError>
     requires { length replies.now ≡ length first.now }
     ensures { OnOk result
-        (text.new.items ≡ text.old.items ++ all_said first.now replies.now steps.now found.now) }
+        (text.new.items ≡ text.old.items ++ all_text first.now replies.now steps.now found.now) }
 {
     add_first(text, global, first, replies)?;
     let varied = add_steps(text, global, steps, found)?;
@@ -365,7 +365,7 @@ pub(crate) fn add_all(
 
 /// That there are too many points.
 pub(crate) fn add_too_many(text: &mut Vec<u8>, global: Global, made: u64) -> Result<(), AllocError>
-    ensures { OnOk result (text.new.items ≡ text.old.items ++ too_many_said made) }
+    ensures { OnOk result (text.new.items ≡ text.old.items ++ too_many_text made) }
 {
     let said = format!(in global; "too many after {made} steps\n")?;
     text.extend_from_slice(said.as_bytes())?;
@@ -387,7 +387,7 @@ pub(crate) fn add_otherwise(
     line: u64,
     reply: &[u8],
 ) -> Result<(), AllocError>
-    ensures { OnOk result (text.new.items ≡ text.old.items ++ otherwise_said line reply.now) }
+    ensures { OnOk result (text.new.items ≡ text.old.items ++ otherwise_text line reply.now) }
 {
     add_number(text, global, line)?;
     text.extend_from_slice(b" told otherwise than ")?;

@@ -17,7 +17,7 @@ use Rattle.trace_text.specs.View.{machine_of}
 use Rattle.trace_text.specs.Worlds.{IsBootOf, Machine}
 use Rattle.trace_text.proofs.Machines.{boots}
 use Rattle.trace_race.specs.declared.booting.Booted.{Booted}
-use Rattle.trace_race.specs.Booted.{IsBootedOf, StopsBoot, boot_told, machine_in}
+use Rattle.trace_race.specs.Booted.{IsBootedOf, StopsBoot, boot_response, machine_in}
 
 machine_made : Layout → Reference → Machine
 machine_made l s = record { layout = l; state = s }
@@ -35,14 +35,14 @@ pub booted_of : (m n : Memory) (c d : Config) (b : Booted)
     → n ≡ m
     → d ≡ c
     → IsBooted n d b.world.parts
-    → b.line ≡ boot_told (machine_of b.world)
+    → b.line ≡ boot_response (machine_of b.world)
     → layout_of b.state.layout ≡ parts_layout b.world.parts
     → ghost_state b.state ≡ state_of b.world.parts
     → IsBootedOf m c b
 booted_of m n c d b memory config world line layout state =
     subst (λ x. IsBootedOf x c b) memory (subst (λ x. IsBootedOf n x b) config record {
       booted = subst (IsBootOf n d) (sym same) (boots n d b.world world);
-      line = line ∙ ap boot_told (sym same);
+      line = line ∙ ap boot_response (sym same);
       layout = sym layout;
       world = world;
     })

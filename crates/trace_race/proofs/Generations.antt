@@ -22,7 +22,7 @@ use Rattle.reference_model.specs.model.Changes.{updated, vms_by}
 use Rattle.reference_model.specs.model.Parts.{lacks_slot, uses_vms}
 use Rattle.reference_model.specs.model.Rules.{rule, names, guest_slot}
 use Rattle.reference_model.specs.model.State.{Contents, Cpu, Reference, Slot, Vms, closing, no_slot, no_vms, opened, put_at, reserved}
-use Rattle.reference_model.specs.model.Step.{answer, changed, fails, foretell, is_full, made, predict, stored, with_rows}
+use Rattle.reference_model.specs.model.Step.{answer, changed, fails, predict_step, is_full, made, predict, stored, with_rows}
 use Rattle.reference_model.specs.model.Used.{Used, UsedRooms, put_back, rooms_of, used_of}
 use Rattle.reference_model.specs.model.VmRules.{is_open, next_slot, stand_eq}
 use Rattle.reference_model.proofs.conditions.Slots.{put-fact}
@@ -193,8 +193,8 @@ module _ (n : ℕ) (some : 1 ≤ n) where
     back_told true = back_same
     back_told false = back_answered (fails l cpu slot step x) refl
 
-    pub foretold_to : HasGenerationsTo (n + 1) (foretell l s cpu step).1.contents
-    unfolding foretell predict answer
+    pub foretold_to : HasGenerationsTo (n + 1) (predict_step l s cpu step).1.contents
+    unfolding predict_step predict answer
     foretold_to = back_told (is_full (names step) slot r)
 
     pub stays_to : HasGenerationsTo (n + 1) s.contents

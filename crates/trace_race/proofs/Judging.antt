@@ -18,7 +18,7 @@ use Rattle.reference_model.specs.model.Run.{Runs}
 use Rattle.reference_model.specs.model.Parts.{Names, uses_shared, uses_vms}
 use Rattle.reference_model.specs.model.Used.{Used, put_back, put_room, put_rooms, room_at, rooms_of, used_of}
 use Rattle.reference_model.specs.model.State.{Contents, Reference, Rooms, put_at}
-use Rattle.reference_model.specs.model.Step.{Steps, answer, foretell, is_full, predict, stored, rooms_by}
+use Rattle.reference_model.specs.model.Step.{Steps, answer, predict_step, is_full, predict, stored, rooms_by}
 use Rattle.reference_model.proofs.Steps.{refusal_keeps}
 use Rattle.ghost_judge.specs.Judgements.{JudgeAgrees, is_done}
 use Rattle.reference_model.specs.model.Rules.{may_grow, names, guest_slot}
@@ -29,9 +29,9 @@ use Rattle.page_state.proofs.Common.{eq-same}
 use Rattle.hypercalls.specs.declared.parts.Parts.{Parts}
 use Rattle.hypercalls.specs.Stands.{HasHistory, kept_of, parts_layout}
 use Rattle.world.specs.declared.merge.Histories.{Histories}
-use Rattle.world.specs.Merges.{AreLogsOf, IsMerged, IsOfHistory, TellsMerged, log_at}
+use Rattle.world.specs.Merges.{AreLogsOf, IsMerged, IsOfHistory, ReportsMerged, log_at}
 use Rattle.world.proofs.MergedLists.{merged_history}
-use Rattle.trace_race.specs.Judged.{ComparesAll, IsToldOf, Judges, JudgesAll, told_of, with_found}
+use Rattle.trace_race.specs.Judged.{ComparesAll, IsLegalReport, Judges, JudgesAll, told_of, with_found}
 
 -- no log has less room
 pub record HaveRoom (rooms more : Rooms) : Type 0 where
@@ -194,17 +194,17 @@ rooms_after cpu step s =
     put_rooms (names step) (slot_in cpu step s.contents) cpu s.rooms
     (stored (rooms_of (names step) (slot_in cpu step s.contents) cpu s.rooms))
 
-foretold : (l : Layout) (s : Reference) (cpu : ℕ) (step : Step)
+predicted : (l : Layout) (s : Reference) (cpu : ℕ) (step : Step)
     → is_full (names step) (slot_in cpu step s.contents)
     (rooms_of (names step) (slot_in cpu step s.contents) cpu s.rooms)
     ≡ false
-    → foretell l s cpu step
+    → predict_step l s cpu step
     ≡ (
       (answered l cpu step s.contents).0,
       record { contents = contents_after l cpu step s.contents; rooms = rooms_after cpu step s },
     )
-unfolding predict foretell
-foretold l s cpu step h = rw h refl
+unfolding predict predict_step
+predicted l s cpu step h = rw h refl
 
 own_cpu : (l : Layout) (s t : Reference) (c : Call) → Steps l s c t → c.slot ≡ slot_in c.cpu c.step s.contents
 unfolding used_of
@@ -212,9 +212,9 @@ own_cpu l s t c h = h.on.slot
 
 -- all that a stored call tells of a state like the one before it
 record Like (l : Layout) (s t g : Reference) (c : Call) : Type 0 where
-  reply_is : (foretell l g c.cpu c.step).0 ≡ (foretell l s c.cpu c.step).0
-  contents_are : (foretell l g c.cpu c.step).1.contents ≡ (foretell l s c.cpu c.step).1.contents
-  stored_rooms : HaveRoom t.rooms (foretell l g c.cpu c.step).1.rooms
+  reply_is : (predict_step l g c.cpu c.step).0 ≡ (predict_step l s c.cpu c.step).0
+  contents_are : (predict_step l g c.cpu c.step).1.contents ≡ (predict_step l s c.cpu c.step).1.contents
+  stored_rooms : HaveRoom t.rooms (predict_step l g c.cpu c.step).1.rooms
   kept_rooms : HaveRoom t.rooms g.rooms
 
 all_like : (l : Layout) (s t g : Reference) (c : Call)
@@ -233,8 +233,8 @@ all_like l s t g c h kept same =
     let room_g : is_full n (slot_in c.cpu c.step g.contents) (rooms_of n (slot_in c.cpu c.step g.contents) c.cpu g.rooms) ≡ false =
     subst (λ o. is_full n o (rooms_of n o c.cpu g.rooms) ≡ false) (sym also)
     (still_room n (slot_in c.cpu c.step s.contents) c.cpu s.rooms g.rooms same.rooms room_s) in
-    let at_s = foretold l s c.cpu c.step room_s in
-    let at_g = foretold l g c.cpu c.step room_g in
+    let at_s = predicted l s c.cpu c.step room_s in
+    let at_g = predicted l g c.cpu c.step room_g in
     record {
       reply_is =
           ap (λ r. r.0) at_g ∙ (ap (λ x. (answered l c.cpu c.step x).0) same.contents ∙ sym (ap (λ r. r.0) at_s));
@@ -293,13 +293,13 @@ goes_with l g h cpu step said found judges s t c goes kept cpu_is step_is reply_
     like : Like l s t g c
     like = all_like l s t g c goes kept same
 
-    told : foretell l g c.cpu c.step ≡ foretell l g cpu step
-    told = ap (λ k. foretell l g k c.step) cpu_is ∙ ap (foretell l g cpu) step_is
+    told : predict_step l g c.cpu c.step ≡ predict_step l g cpu step
+    told = ap (λ k. predict_step l g k c.step) cpu_is ∙ ap (predict_step l g cpu) step_is
 
     agrees : said ≡ Refused NoMemory
         → t.contents ≡ s.contents
-        → JudgeAgrees s.contents c.step c.reply t.contents (foretell l s c.cpu c.step)
-        → JudgeAgrees g.contents step said g.contents (foretell l g cpu step)
+        → JudgeAgrees s.contents c.step c.reply t.contents (predict_step l s c.cpu c.step)
+        → JudgeAgrees g.contents step said g.contents (predict_step l g cpu step)
     agrees want unchanged (inl p) = inl record {
       reply_is = sym reply_is ∙ (p.reply_is ∙ (sym like.reply_is ∙ ap (λ r. r.0) told));
       contents_are =
@@ -331,7 +331,7 @@ same_rooms r = record { vms = omega arith; shared = omega arith; guest = λ v. o
 -- at the start
 pub goes_first : (l : Layout) (g : Reference) (told : List (ℕ × Step × Reply))
     → g ≡ boot l
-    → IsToldOf l told
+    → IsLegalReport l told
     → GoesOn l g told
 goes_first l g told is of = record {
   before = boot l;
@@ -485,7 +485,7 @@ below_at logs n all k d few merged less = elim (cases_lt (get_or all k d).cpu (l
 
 pub told_below : (logs : Histories) (n : ℕ) (told : List (ℕ × Step × Reply))
     → length logs.cpus.items ≤ n
-    → TellsMerged logs told
+    → ReportsMerged logs told
     → All (λ c. c.0 < n) told
 told_below logs n told few t = subst (All (λ (c : ℕ × Step × Reply). c.0 < n)) t.tells each
   where

@@ -21,7 +21,7 @@ use Rattle.trace_text.proofs.Fronts.{appends_keeps}
 use Rattle.trace_text.proofs.Lined.{front_behind, front_first}
 use Rattle.trace_text.proofs.ReplayLemmas.{appends_lines, appends_none}
 use Rattle.trace_text.specs.declared.session.Stop.{Stop}
-use Rattle.trace_race.specs.Booted.{StopsBoot, boot_told}
+use Rattle.trace_race.specs.Booted.{StopsBoot, boot_response}
 use Rattle.trace_race.specs.declared.course.Asked.{Asked}
 use Rattle.trace_race.specs.Courses.{Asking, course_of, in_order_of, nothing_asked}
 use Rattle.page_state.specs.Layouts.{Layout}
@@ -36,7 +36,7 @@ use Rattle.trace_race.specs.declared.reading.Read.TheVariants as reads
 use Rattle.trace_race.specs.Readings.{asked_in}
 use Rattle.trace_race.specs.Made.{OneHistory}
 use Rattle.trace_race.specs.Raced.{HasOneHistory, IsBegunOf, IsIdle, IsNoRun, IsRaceBegun, IsRaceOf, IsRaced, IsRead, IsRun, found_lines, lines_behind, lines_of_run, step_lines}
-use Rattle.trace_race.specs.Told.{BeginsStop, RunBegins, RunEnds, StepsEnd, TellsBegun, TellsRace, TellsStop}
+use Rattle.trace_race.specs.Told.{BeginsStop, RunBegins, RunEnds, StepsEnd, ReportsBegun, ReportsRace, ReportsStop}
 
 -- ---- an answer of a replay's kind
 
@@ -117,7 +117,7 @@ made_fails steps replies old new front =
 
 pub run_ends : (m : Machine) (a : Asking) (replies : List Reply) (line : Response) (old mid new : Option (List ℕ))
     (outcome : Outcome)
-    → line ≡ boot_told m
+    → line ≡ boot_response m
     → length replies ≡ length a.steps
     → Appends old mid (text_of_report (report.Response line ∷ []))
     → StepsEnd m.layout (in_order_of a) a.steps replies mid new outcome
@@ -127,12 +127,12 @@ run_ends m a replies line old mid new outcome is count first rest = (
   replies,
   count,
   rest.1,
-  appends_lines old mid new (report.Response (boot_told m) ∷ []) (lines_behind a.steps replies)
+  appends_lines old mid new (report.Response (boot_response m) ∷ []) (lines_behind a.steps replies)
       (subst (λ l. Appends old mid (text_of_report (report.Response l ∷ []))) is first) rest.2,
 )
 
 pub run_begins : (m : Machine) (a : Asking) (replies : List Reply) (line : Response) (old mid new : Option (List ℕ))
-    → line ≡ boot_told m
+    → line ≡ boot_response m
     → length replies ≡ length a.steps
     → HasOneHistory m a replies
     → Appends old mid (text_of_report (report.Response line ∷ []))
@@ -143,23 +143,23 @@ run_begins m a replies line old mid new is count one first rest =
       replies,
       count,
       one,
-      front_behind old mid new (report.Response (boot_told m) ∷ []) (lines_behind a.steps replies)
+      front_behind old mid new (report.Response (boot_response m) ∷ []) (lines_behind a.steps replies)
           (subst (λ l. Appends old mid (text_of_report (report.Response l ∷ []))) is first) rest,
     )
 
 -- the boot line alone
 pub run_halts : (m : Machine) (a : Asking) (line : Response) (old mid : Option (List ℕ))
-    → line ≡ boot_told m
+    → line ≡ boot_response m
     → Appends old mid (text_of_report (report.Response line ∷ []))
     → RunBegins m a old mid
 run_halts m a line old mid is first =
     inl
-    (front_behind old mid mid (report.Response (boot_told m) ∷ []) []
+    (front_behind old mid mid (report.Response (boot_response m) ∷ []) []
     (subst (λ l. Appends old mid (text_of_report (report.Response l ∷ []))) is first) (0, appends_none mid))
 
 -- a front of it
 pub run_fails : (m : Machine) (a : Asking) (line : Response) (old new : Option (List ℕ))
-    → line ≡ boot_told m
+    → line ≡ boot_response m
     → WritesFront (report.Response line ∷ []) old new
     → RunBegins m a old new
 run_fails m a line old new is front = inl (subst (λ l. WritesFront (report.Response l ∷ []) old new) is front)
@@ -187,7 +187,7 @@ pub race_ends : (a : Asking) (number : ℕ) (carve : PageRange) (m : Machine) (o
     → a.boot ≡ Some number
     → a.told.carve ≡ Some carve
     → IsBootOf (memory_of a.told.regions carve) (config_of a.told) m
-    → RunEnds m a old new outcome → TellsRace (Ok a) old new outcome
+    → RunEnds m a old new outcome → ReportsRace (Ok a) old new outcome
 race_ends a number carve m old new outcome boot there booted ends = (
   lines_of_run m a.steps ends.1,
   race_of HasOneHistory a number carve _ outcome boot there
@@ -208,9 +208,9 @@ pub race_begins : (a : Asking) (number : ℕ) (carve : PageRange) (m : Machine) 
     → a.boot ≡ Some number
     → a.told.carve ≡ Some carve
     → IsBootOf (memory_of a.told.regions carve) (config_of a.told) m
-    → RunBegins m a old new → TellsBegun (Ok a) old new
+    → RunBegins m a old new → ReportsBegun (Ok a) old new
 race_begins a number carve m old new boot there booted (inl front) = inr (
-  report.Response (boot_told m) ∷ [],
+  report.Response (boot_response m) ∷ [],
   inr
       record {
         number = number;
@@ -248,7 +248,7 @@ pub boot_fails : (a : Asking) (number : ℕ) (carve : PageRange) (stop : Stop) (
     → a.boot ≡ Some number
     → a.told.carve ≡ Some carve
     → StopsBoot (memory_of a.told.regions carve) (config_of a.told) stop
-    → TellsStop number stop old new outcome → TellsRace (Ok a) old new outcome
+    → ReportsStop number stop old new outcome → ReportsRace (Ok a) old new outcome
 boot_fails a number carve (stops.Fault fault) old new outcome boot there refused told = (
   report.Fault number fault ∷ [],
   race_of HasOneHistory a number carve _ outcome boot there
@@ -261,7 +261,7 @@ pub boot_fault_begins : (a : Asking) (number : ℕ) (carve : PageRange) (stop : 
     → a.boot ≡ Some number
     → a.told.carve ≡ Some carve
     → StopsBoot (memory_of a.told.regions carve) (config_of a.told) stop
-    → BeginsStop number stop old new → TellsBegun (Ok a) old new
+    → BeginsStop number stop old new → ReportsBegun (Ok a) old new
 boot_fault_begins a number carve (stops.Fault fault) old new boot there refused front = inr (
   report.Fault number fault ∷ [],
   inl (
@@ -277,17 +277,17 @@ boot_fault_begins a number carve stops.NoMemory old new boot there refused none 
 pub fault_ends : (r : Read) (line : ℕ) (fault : Fault) (old new : Option (List ℕ)) (outcome : Outcome)
     → r ≡ reads.Fault line fault
     → (outcome ≡ outcomes.Fault) × Appends old new (text_of_report (report.Fault line fault ∷ []))
-    → TellsRace (asked_in r) old new outcome
+    → ReportsRace (asked_in r) old new outcome
 fault_ends r line fault old new outcome is told =
-    subst (λ (x : Read). TellsRace (asked_in x) old new outcome) (sym is)
+    subst (λ (x : Read). ReportsRace (asked_in x) old new outcome) (sym is)
     (report.Fault line fault ∷ [], (refl, told.0), told.1)
 
 pub fault_begins : (r : Read) (line : ℕ) (fault : Fault) (old new : Option (List ℕ))
     → r ≡ reads.Fault line fault
     → WritesFront (report.Fault line fault ∷ []) old new
-    → TellsBegun (asked_in r) old new
+    → ReportsBegun (asked_in r) old new
 fault_begins r line fault old new is front =
-    subst (λ (x : Read). TellsBegun (asked_in x) old new) (sym is) (inr (report.Fault line fault ∷ [], refl, front))
+    subst (λ (x : Read). ReportsBegun (asked_in x) old new) (sym is) (inr (report.Fault line fault ∷ [], refl, front))
 
 -- no boot
 idle_of : (Ran : Machine → Asking → List Reply → Type 0) (a : Asking) (lines : List ReportLine) (outcome : Outcome)
@@ -307,14 +307,14 @@ idle_of Ran a lines outcome (inr none) idle = by_boot a.boot
 pub idle_ends : (a : Asking) (old new : Option (List ℕ)) (outcome : Outcome)
     → (a.boot ≡ None) ⊎ (a.told.carve ≡ None)
     → (outcome ≡ outcomes.Clean) × Appends old new (text_of_report (report.End 0 0 ∷ []))
-    → TellsRace (Ok a) old new outcome
+    → ReportsRace (Ok a) old new outcome
 idle_ends a old new outcome none told =
     (report.End 0 0 ∷ [], idle_of HasOneHistory a _ outcome none (refl, told.0), told.1)
 
 pub idle_begins : (a : Asking) (old new : Option (List ℕ))
     → (a.boot ≡ None) ⊎ (a.told.carve ≡ None)
     → WritesFront (report.End 0 0 ∷ []) old new
-    → TellsBegun (Ok a) old new
+    → ReportsBegun (Ok a) old new
 idle_begins a old new none front =
     inr (report.End 0 0 ∷ [], inl (outcomes.Clean, idle_of HasOneHistory a _ outcomes.Clean none (refl, refl)), front)
 
@@ -322,7 +322,7 @@ idle_begins a old new none front =
 
 pub raced : (bytes old new : Option (List ℕ)) (asked : Result Asking (ℕ × Fault)) (outcome : Outcome)
     → IfSome bytes (λ all. course_of 1 nothing_asked (lines_of all) ≡ asked)
-    → TellsRace asked old new outcome
+    → ReportsRace asked old new outcome
     → IsRaced bytes old new outcome
 raced bytes old new asked outcome read told = record { lines = told.0; written = told.2; report = by_bytes bytes read }
   where
@@ -334,7 +334,7 @@ raced bytes old new asked outcome read told = record { lines = told.0; written =
 
 pub begun : (bytes old new : Option (List ℕ)) (asked : Result Asking (ℕ × Fault))
     → IfSome bytes (λ all. course_of 1 nothing_asked (lines_of all) ≡ asked)
-    → TellsBegun asked old new
+    → ReportsBegun asked old new
     → IsRaceBegun bytes old new
 begun bytes old new asked read (inl none) = inl (subst (λ o. Appends old o []) (sym none) (appends_none old))
 begun bytes old new asked read (inr told) =

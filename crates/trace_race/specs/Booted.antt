@@ -13,7 +13,7 @@ use Rattle.trace_lines.specs.declared.response.Response.TheVariants as responses
 use Rattle.trace_text.specs.declared.session.Stop.{Stop}
 use Rattle.trace_text.specs.declared.session.Stop.TheVariants as stops
 use Rattle.trace_text.specs.Session.{IsNoWorld}
-use Rattle.trace_text.specs.Worlds.{IsBootOf, Machine, free_told, tables_told}
+use Rattle.trace_text.specs.Worlds.{IsBootOf, Machine, shared_free_count, tree_table_count}
 use Rattle.trace_race.specs.declared.booting.Booted.{Booted}
 
 -- the model's machine in a state on lists
@@ -21,8 +21,9 @@ abbrev pub machine_in : Ghost → Machine
 machine_in g = record { layout = layout_of g.layout; state = ghost_state g }
 
 -- what a report says of a boot
-abbrev pub boot_told : Machine → Response
-boot_told m = responses.Boot (tables_told m Host) (tables_told m Hyp) (free_told m)
+abbrev pub boot_response : Machine → Response
+boot_response m =
+    responses.Boot (tree_table_count m Host) (tree_table_count m Hyp) (shared_free_count m)
 
 -- why there is no world: the layout's fault or the boot's, or memory was refused beside it
 abbrev pub StopsBoot : Memory → Config → Stop → Type 0
@@ -33,7 +34,7 @@ StopsBoot memory config stops.NoMemory = ⊤
 -- a world of its layout that has booted on them
 pub record IsBootedOf (memory : Memory) (config : Config) (b : Booted) : Type 0 where
   pub booted : IsBootOf memory config (machine_in b.state)
-  pub line : b.line ≡ boot_told (machine_in b.state)
+  pub line : b.line ≡ boot_response (machine_in b.state)
   pub layout : parts_layout b.world.parts ≡ layout_of b.state.layout
   pub world : IsBooted memory config b.world.parts
 

@@ -8,7 +8,7 @@ use Rattle.trace_lines.specs.declared.line.Line.TheVariants as lines
 use Rattle.trace_lines.specs.declared.place.Allows.{Allows}
 use Rattle.trace_lines.specs.Places.{before_boot, of_race}
 use Rattle.trace_lines.specs.Said.{said}
-use Rattle.trace_lines.specs.Settings.{Told, config_of, nothing_told, told_after, told_of}
+use Rattle.trace_lines.specs.Settings.{Told, config_of, no_settings, told_after, told_of}
 use Rattle.trace_text.specs.declared.fault.Fault.{Fault}
 use Rattle.trace_text.specs.declared.fault.Fault.TheVariants as faults
 use Rattle.trace_text.specs.declared.session.Stop.{Stop}
@@ -40,7 +40,7 @@ abbrev pub in_order_of : Asking → ℕ
 in_order_of a = unwrap_or a.start (length a.steps)
 
 abbrev pub nothing_asked : Asking
-nothing_asked = record { told = nothing_told; boot = None; steps = []; start = None }
+nothing_asked = record { told = no_settings; boot = None; steps = []; start = None }
 
 -- what `race` allows
 abbrev pub allowed_by : Option ℕ → Option ℕ → Allows

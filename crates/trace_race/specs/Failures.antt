@@ -2,7 +2,7 @@
 use Rattle.std.specs.Prelude.{◌≡◌, ℕ, Result, Ok, Err}
 use Rattle.trace_race.specs.declared.fault.RaceFault.{RaceFault}
 use Rattle.trace_race.specs.declared.fault.RaceFault.TheVariants.{Engine, Start}
-use Rattle.trace_text.specs.Failures.{CountsReads, CountsWrites, TellsWrite}
+use Rattle.trace_text.specs.Failures.{CountsReads, CountsWrites, ReportsWrite}
 
 -- as for a replay; if a thread couldn't start, neither has failed
 abbrev pub RaceReads : {X : Type 0} → ℕ → ℕ → Result X RaceFault → Type 0
@@ -15,7 +15,8 @@ RaceWrites before after (Ok x) = after ≡ before
 RaceWrites {X = X} before after (Err (Engine fault)) = CountsWrites {X = X} before after (Err fault)
 RaceWrites before after (Err Start) = after ≡ before
 
-abbrev pub RaceTells : {X : Type 0} → ℕ → ℕ → Result X RaceFault → Type 0
-RaceTells before after (Ok x) = after ≡ before
-RaceTells {X = X} before after (Err (Engine fault)) = TellsWrite {X = X} before after (Err fault)
-RaceTells before after (Err Start) = after ≡ before
+abbrev pub RaceReports : {X : Type 0} → ℕ → ℕ → Result X RaceFault → Type 0
+RaceReports before after (Ok x) = after ≡ before
+RaceReports {X = X} before after (Err (Engine fault)) =
+    ReportsWrite {X = X} before after (Err fault)
+RaceReports before after (Err Start) = after ≡ before

@@ -10,12 +10,12 @@ use Rattle.call_table.specs.declared.step.Step.{Step}
 use Rattle.reference_model.specs.model.History.{IsStored}
 use Rattle.reference_model.specs.model.Run.{IsRun}
 use Rattle.reference_model.specs.model.State.{Contents, Reference}
-use Rattle.reference_model.specs.model.Step.{foretell}
+use Rattle.reference_model.specs.model.Step.{predict_step}
 use Rattle.ghost_judge.specs.declared.disagreement.Disagreement.{Disagreement}
 use Rattle.ghost_judge.specs.declared.disagreement.Disagreement.TheVariants.{Reply as ReplyDiffers}
 use Rattle.ghost_judge.specs.Judgements.{IsFirstJudged, JudgeAgrees}
 use Rattle.world.specs.declared.merge.Histories.{Histories}
-use Rattle.world.specs.Merges.{TellsMerged}
+use Rattle.world.specs.Merges.{ReportsMerged}
 
 -- no slot has a generation above n, and no ticket one of a VM
 pub record HasGenerationsTo (n : ℕ) (s : Contents) : Type 0 where
@@ -31,8 +31,10 @@ pub record IsApart (said spec : Reply) (found : Option Disagreement) : Type 0 wh
 -- take memory, and otherwise the first difference
 pub record IsJudgedWant (l : Layout) (g : Reference) (cpu : ℕ) (step : Step) (said : Reply)
     (found : Option Disagreement) : Type 0 where
-  pub none : (found ≡ None) ↔ JudgeAgrees g.contents step said g.contents (foretell l g cpu step)
-  pub first : IfSome found (IsFirstJudged g.contents step said g.contents (foretell l g cpu step))
+  pub none : (found ≡ None)
+      ↔ JudgeAgrees g.contents step said g.contents (predict_step l g cpu step)
+  pub first : IfSome found
+      (IsFirstJudged g.contents step said g.contents (predict_step l g cpu step))
 
 -- the judgement of one call of a list on the state before it, and the state after it: a call that
 -- lacked memory leaves the state
@@ -40,7 +42,7 @@ pub record Judges (l : Layout) (g : Reference) (cpu : ℕ) (step : Step) (said :
     (found : Option Disagreement) (h : Reference) : Type 0 where
   pub wants : said ≡ Refused NoMemory → (h ≡ g) × IsJudgedWant l g cpu step said found
   pub other : said ≢ Refused NoMemory
-      → (h ≡ (foretell l g cpu step).1) × IsApart said (foretell l g cpu step).0 found
+      → (h ≡ (predict_step l g cpu step).1) × IsApart said (predict_step l g cpu step).0 found
 
 -- the finding at one call, followed by those of later calls
 abbrev pub with_found : Option Disagreement → List Disagreement → List Disagreement
@@ -63,7 +65,7 @@ abbrev pub told_of : List Call → List (ℕ × Step × Reply)
 told_of calls = map (λ c. (c.cpu, c.step, c.reply)) calls
 
 -- the calls are those of a legal history
-pub record IsToldOf (l : Layout) (told : List (ℕ × Step × Reply)) : Type 0 where
+pub record IsLegalReport (l : Layout) (told : List (ℕ × Step × Reply)) : Type 0 where
   pub log : List Call
   pub end : Reference
   pub run : IsRun l log end
@@ -73,4 +75,4 @@ pub record IsToldOf (l : Layout) (told : List (ℕ × Step × Reply)) : Type 0 w
 -- the replies of logs are judged along a merged list of them
 abbrev pub ComparesAll : Layout → Reference → Histories → List Disagreement → Type 0
 ComparesAll l g logs found =
-    (told : List (ℕ × Step × Reply)) × TellsMerged logs told × JudgesAll l g told found
+    (told : List (ℕ × Step × Reply)) × ReportsMerged logs told × JudgesAll l g told found

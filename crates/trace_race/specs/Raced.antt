@@ -20,7 +20,7 @@ use Rattle.trace_text.specs.Replay.{outcome_of}
 use Rattle.trace_text.specs.Session.{IsNoWorld}
 use Rattle.trace_text.specs.Texts.{text_of_report}
 use Rattle.trace_text.specs.Worlds.{IsBootOf, Machine}
-use Rattle.trace_race.specs.Booted.{boot_told}
+use Rattle.trace_race.specs.Booted.{boot_response}
 use Rattle.trace_race.specs.declared.course.Asked.{Asked}
 use Rattle.trace_race.specs.Courses.{Asking, course_of, in_order_of, nothing_asked}
 use Rattle.trace_race.specs.Made.{OneHistory}
@@ -49,7 +49,7 @@ lines_behind steps replies = step_lines steps replies ++ report.End (length step
 
 -- all lines
 abbrev pub lines_of_run : Machine → List Asked → List Reply → List ReportLine
-lines_of_run m steps replies = report.Response (boot_told m) ∷ lines_behind steps replies
+lines_of_run m steps replies = report.Response (boot_response m) ∷ lines_behind steps replies
 
 -- no machine was booted: the layout was refused, or the boot
 pub record IsNoRun (a : Asking) (carve : PageRange) (number : ℕ) (lines : List ReportLine)
@@ -105,7 +105,7 @@ pub record IsBootLine (a : Asking) (lines : List ReportLine) : Type 0 where
   pub carve_is : a.told.carve ≡ Some carve
   pub machine : Machine
   pub booted : IsBootOf (memory_of a.told.regions carve) (config_of a.told) machine
-  pub lines_are : lines ≡ report.Response (boot_told machine) ∷ []
+  pub lines_are : lines ≡ report.Response (boot_response machine) ∷ []
 
 -- the lines of a race that stops early: its whole report, or only the boot line, if not all steps
 -- were made

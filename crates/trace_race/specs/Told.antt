@@ -15,7 +15,7 @@ use Rattle.trace_text.specs.declared.session.Stop.TheVariants as stops
 use Rattle.trace_text.specs.Played.{WritesFront}
 use Rattle.trace_text.specs.Texts.{text_of_report}
 use Rattle.trace_text.specs.Worlds.{Machine}
-use Rattle.trace_race.specs.Booted.{IsBootedOf, boot_told}
+use Rattle.trace_race.specs.Booted.{IsBootedOf, boot_response}
 use Rattle.trace_race.specs.declared.booting.Booted.{Booted}
 use Rattle.trace_race.specs.declared.course.Asked.{Asked}
 use Rattle.trace_race.specs.Courses.{Asking}
@@ -51,30 +51,30 @@ RunEnds m a old new outcome =
 -- and a front of it, or of the boot line alone
 abbrev pub RunBegins : Machine → Asking → Option (List ℕ) → Option (List ℕ) → Type 0
 RunBegins m a old new =
-    WritesFront (report.Response (boot_told m) ∷ []) old new
+    WritesFront (report.Response (boot_response m) ∷ []) old new
     ⊎ ((replies : List Reply)
     × (length replies ≡ length a.steps)
     × HasOneHistory m a replies
     × WritesFront (lines_of_run m a.steps replies) old new)
 
 -- the whole report of what reading a trace came to
-abbrev pub TellsRace : Result Asking (ℕ × Fault) → Option (List ℕ) → Option (List ℕ) → Outcome
+abbrev pub ReportsRace : Result Asking (ℕ × Fault) → Option (List ℕ) → Option (List ℕ) → Outcome
     → Type 0
-TellsRace asked old new outcome =
+ReportsRace asked old new outcome =
     (lines : List ReportLine)
     × IsRead HasOneHistory asked lines outcome
     × Appends old new (text_of_report lines)
 
 -- and a front of the lines of a race that stops early, or nothing
-abbrev pub TellsBegun : Result Asking (ℕ × Fault) → Option (List ℕ) → Option (List ℕ) → Type 0
-TellsBegun asked old new =
+abbrev pub ReportsBegun : Result Asking (ℕ × Fault) → Option (List ℕ) → Option (List ℕ) → Type 0
+ReportsBegun asked old new =
     (new ≡ old) ⊎ ((lines : List ReportLine) × IsBegunOf asked lines × WritesFront lines old new)
 
 -- the line of a boot's fault
-abbrev pub TellsStop : ℕ → Stop → Option (List ℕ) → Option (List ℕ) → Outcome → Type 0
-TellsStop line (stops.Fault fault) old new outcome =
+abbrev pub ReportsStop : ℕ → Stop → Option (List ℕ) → Option (List ℕ) → Outcome → Type 0
+ReportsStop line (stops.Fault fault) old new outcome =
     (outcome ≡ outcomes.Fault) × Appends old new (text_of_report (report.Fault line fault ∷ []))
-TellsStop line stops.NoMemory old new outcome = ⊥
+ReportsStop line stops.NoMemory old new outcome = ⊥
 
 -- and a front of it; if memory was refused nothing was written
 abbrev pub BeginsStop : ℕ → Stop → Option (List ℕ) → Option (List ℕ) → Type 0

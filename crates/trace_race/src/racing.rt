@@ -5,12 +5,12 @@ ghost use Rattle.reference_model.specs.model.Boot.{boot};
 ghost use Rattle.ghost_spec.specs.States.{ghost_state};
 ghost use Rattle.trace_race.specs.Booted.{machine_in};
 ghost use Rattle.trace_race.specs.Courses.{IsSound, course_in};
-ghost use Rattle.trace_race.specs.Failures.{RaceReads, RaceTells, RaceWrites};
+ghost use Rattle.trace_race.specs.Failures.{RaceReads, RaceReports, RaceWrites};
 ghost use Rattle.trace_race.specs.Made.{IsMadeOf, OneHistory};
 ghost use Rattle.trace_race.specs.Raced.{IsRaceBegun, IsRaced, lines_behind};
 ghost use Rattle.trace_race.specs.Readings.{IsSoundRead, asked_in};
-ghost use Rattle.trace_race.specs.Told.{BeginsStop, EndsWith, IsBootedRun, RunBegins, RunEnds, StepsEnd, TellsBegun, TellsRace, TellsStop};
-ghost use Rattle.trace_text.specs.Failures.{TellsWrite};
+ghost use Rattle.trace_race.specs.Told.{BeginsStop, EndsWith, IsBootedRun, RunBegins, RunEnds, StepsEnd, ReportsBegun, ReportsRace, ReportsStop};
+ghost use Rattle.trace_text.specs.Failures.{ReportsWrite};
 ghost use Rattle.trace_text.specs.Played.{WritesFront};
 
 use crate::booting::{Booted, boot_world};
@@ -19,14 +19,14 @@ use crate::ending::{Compared, compared_at_end, dropped};
 use crate::fault::RaceFault;
 use crate::making::{Made, make};
 use crate::reading::{Read, read_all};
-use crate::telling::{tell_found, tell_steps};
+use crate::telling::{report_found, report_steps};
 use cpu_threads::Gate;
 use ghost_spec::state::Ghost;
 use std::alloc::Global;
 use std::sync::Wait;
 use std::thread::Threads;
 use trace_reader::{EngineFault, MOST_BYTES, Outcome, Source};
-use trace_text::{ReportLine, Sink, Stop, faulted, tell, tell_end};
+use trace_text::{ReportLine, Sink, Stop, faulted, report_end, tell};
 
 /// Reads a whole trace, and carries it out: the steps before `start` in order, those after it on one thread for each
 /// CPU, and writes its report. A fault of any line is the whole report. The gate hears of the calls that are made at
@@ -68,10 +68,10 @@ fn report<R: Threads + Wait + Sync, K: Sink, G: Gate + Sync>(
 ) -> Result<Outcome, RaceFault>
     requires sound { IsSoundRead read }
     ensures report { IfOk result
-        (λ outcome. TellsRace (asked_in read) (K.contents sink.old)
+        (λ outcome. ReportsRace (asked_in read) (K.contents sink.old)
         (K.contents sink.new) outcome) }
-    ensures begun { OnErr result (TellsBegun (asked_in read) (K.contents sink.old) (K.contents sink.new)) }
-    ensures counted { RaceTells (K.failures sink.old) (K.failures sink.new) result }
+    ensures begun { OnErr result (ReportsBegun (asked_in read) (K.contents sink.old) (K.contents sink.new)) }
+    ensures counted { RaceReports (K.failures sink.old) (K.failures sink.new) result }
 {
     match read {
         Read::Whole(course) => carry_out(rt, global, &course, sink, text, gate),
@@ -90,36 +90,36 @@ fn carry_out<R: Threads + Wait + Sync, K: Sink, G: Gate + Sync>(
 ) -> Result<Outcome, RaceFault>
     requires sound { IsSound (course_in course.now) }
     ensures report { IfOk result
-        (λ outcome. TellsRace (Ok (course_in course.now)) (K.contents sink.old)
+        (λ outcome. ReportsRace (Ok (course_in course.now)) (K.contents sink.old)
         (K.contents sink.new) outcome) }
     ensures begun { OnErr result
-        (TellsBegun (Ok (course_in course.now)) (K.contents sink.old) (K.contents sink.new)) }
-    ensures counted { RaceTells (K.failures sink.old) (K.failures sink.new) result }
+        (ReportsBegun (Ok (course_in course.now)) (K.contents sink.old) (K.contents sink.new)) }
+    ensures counted { RaceReports (K.failures sink.old) (K.failures sink.new) result }
 {
     let boot = match course.boot {
         Some(boot) => boot,
-        None => return tell_idle(sink, text),
+        None => return report_idle(sink, text),
     };
     let carve = match course.settings.carve {
         Some(carve) => carve,
-        None => return tell_idle(sink, text),
+        None => return report_idle(sink, text),
     };
     match boot_world(global, &course.settings, carve) {
         Ok(booted) => run(rt, global, booted, course, gate, sink, text),
-        Err(stop) => tell_stop(sink, text, boot, stop),
+        Err(stop) => report_stop(sink, text, boot, stop),
     }
 }
 
 /// Ends the report with the fault of a boot at this line.
-fn tell_stop<K: Sink>(
+fn report_stop<K: Sink>(
     sink: &mut K,
     text: &mut String,
     line: u64,
     stop: Stop,
 ) -> Result<Outcome, RaceFault>
-    ensures report { IfOk result (TellsStop line stop (K.contents sink.old) (K.contents sink.new)) }
+    ensures report { IfOk result (ReportsStop line stop (K.contents sink.old) (K.contents sink.new)) }
     ensures begun { OnErr result (BeginsStop line stop (K.contents sink.old) (K.contents sink.new)) }
-    ensures counted { RaceTells (K.failures sink.old) (K.failures sink.new) result }
+    ensures counted { RaceReports (K.failures sink.old) (K.failures sink.new) result }
 {
     match stop {
         Stop::Fault(fault) => engine(faulted(sink, text, line, fault)),
@@ -128,15 +128,15 @@ fn tell_stop<K: Sink>(
 }
 
 /// Writes the report of a trace that boots nothing.
-fn tell_idle<K: Sink>(sink: &mut K, text: &mut String) -> Result<Outcome, RaceFault>
+fn report_idle<K: Sink>(sink: &mut K, text: &mut String) -> Result<Outcome, RaceFault>
     ensures ok { IfOk result
         (EndsWith Outcome.Clean (ReportLine.End 0 0 ∷ []) (K.contents sink.old)
         (K.contents sink.new)) }
     ensures front { OnErr result
         (WritesFront (ReportLine.End 0 0 ∷ []) (K.contents sink.old) (K.contents sink.new)) }
-    ensures counted { RaceTells (K.failures sink.old) (K.failures sink.new) result }
+    ensures counted { RaceReports (K.failures sink.old) (K.failures sink.new) result }
 {
-    engine(tell_end(sink, text, 0, 0))
+    engine(report_end(sink, text, 0, 0))
 }
 
 /// Makes the steps on a booted machine, and writes the report.
@@ -157,7 +157,7 @@ fn run<R: Threads + Wait + Sync, K: Sink, G: Gate + Sync>(
     ensures begun { OnErr result
         (RunBegins (machine_in booted.state) (course_in course.now) (K.contents sink.old)
         (K.contents sink.new)) }
-    ensures counted { RaceTells (K.failures sink.old) (K.failures sink.new) result }
+    ensures counted { RaceReports (K.failures sink.old) (K.failures sink.new) result }
 {
     let Booted { world, line, state } = booted;
     if let Err(fault) = tell(sink, text, ReportLine::Response(line)) {
@@ -179,11 +179,11 @@ fn run<R: Threads + Wait + Sync, K: Sink, G: Gate + Sync>(
             return Err(RaceFault::Engine(EngineFault::NoMemory));
         }
     };
-    engine(tell_made(global, made, state, steps, start, sink, text))
+    engine(report_made(global, made, state, steps, start, sink, text))
 }
 
 /// Writes the lines of the steps that were made, compares, and writes the rest of the report. `state` is the model's at boot.
-fn tell_made<K: Sink>(
+fn report_made<K: Sink>(
     global: Global,
     made: Made,
     state: Ghost,
@@ -202,14 +202,14 @@ fn tell_made<K: Sink>(
         (WritesFront (lines_behind steps.now made.replies.items) (K.contents sink.old)
         (K.contents sink.new)) }
     ensures history { OneHistory (layout_of state.layout) start steps.now made.replies.items }
-    ensures counted { TellsWrite (K.failures sink.old) (K.failures sink.new) result }
+    ensures counted { ReportsWrite (K.failures sink.old) (K.failures sink.new) result }
 {
     let Made {
         machine,
         passes,
         replies,
     } = made;
-    if let Err(fault) = tell_steps(sink, text, steps, replies.as_slice()) {
+    if let Err(fault) = report_steps(sink, text, steps, replies.as_slice()) {
         drop(state);
         dropped(machine, passes, steps, start, replies.as_slice());
         return Err(fault);
@@ -226,7 +226,7 @@ fn tell_made<K: Sink>(
         return Err(EngineFault::NoMemory);
     };
     let Compared { judged, audited } = found;
-    tell_found(sink, text, judged.as_slice(), audited, steps.len() as u64)
+    report_found(sink, text, judged.as_slice(), audited, steps.len() as u64)
 }
 
 /// An answer of a replay's kind.

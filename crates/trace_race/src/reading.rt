@@ -1,7 +1,7 @@
 //! Reading a whole trace.
 ghost use Rattle.std.specs.Prelude.{◌≡◌, ◌<◌, ◌^◌, IfOk};
 ghost use Rattle.trace_reader.specs.Ahead.{left};
-ghost use Rattle.trace_reader.specs.Devices.{TellsRead};
+ghost use Rattle.trace_reader.specs.Devices.{ReportsRead};
 ghost use Rattle.trace_race.specs.Courses.{IsSound, course_in, nothing_asked};
 ghost use Rattle.trace_race.specs.Readings.{HasRead};
 
@@ -21,7 +21,7 @@ pub(crate) enum Read {
 /// Reads all lines.
 pub(crate) fn read_all<S: Source>(global: Global, source: &mut S) -> Result<Read, EngineFault>
     ensures read { IfOk result (HasRead (S.remaining source.old)) }
-    ensures counted { TellsRead (S.failures source.old) (S.failures source.new) result }
+    ensures counted { ReportsRead (S.failures source.old) (S.failures source.new) result }
 {
     let mut line = Vec::with_capacity(global, MOST_BYTES + 1).map_err(|_| EngineFault::NoMemory)?;
     let mut ahead = ReadAhead::new(global).map_err(|_| EngineFault::NoMemory)?;
@@ -36,7 +36,7 @@ fn read_lines<S: Source>(
 ) -> Result<Read, EngineFault>
     requires start { course_in course ≡ nothing_asked }
     ensures read { IfOk result (HasRead (left ahead.old (S.remaining source.old))) }
-    ensures counted { TellsRead (S.failures source.old) (S.failures source.new) result }
+    ensures counted { ReportsRead (S.failures source.old) (S.failures source.new) result }
 {
     let mut course = course;
     for number in 1..MOST_LINES + 1 {

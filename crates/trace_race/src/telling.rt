@@ -3,7 +3,7 @@ ghost use Rattle.std.specs.Prelude.{◌≡◌, ◌<◌, ◌^◌, ◌+◌, ◌++�
 ghost use Rattle.std.specs.Io.KnownBytes.{Appends};
 ghost use Rattle.trace_race.specs.Raced.{found_lines, found_outcome, step_lines as step_lines_of};
 ghost use Rattle.trace_race.specs.Told.{EndsWith};
-ghost use Rattle.trace_text.specs.Failures.{TellsWrite};
+ghost use Rattle.trace_text.specs.Failures.{ReportsWrite};
 ghost use Rattle.trace_text.specs.Played.{WritesFront};
 ghost use Rattle.trace_text.specs.Texts.{text_of_report};
 
@@ -13,10 +13,10 @@ use ghost_judge::disagreement::Disagreement;
 use std::alloc::{AllocError, Global};
 use trace_lines::Response;
 use trace_reader::{EngineFault, Outcome};
-use trace_text::{ReportLine, Sink, tell, tell_audited, tell_end};
+use trace_text::{ReportLine, Sink, report_audited, report_end, tell};
 
 /// Tells the lines of all steps, one after another.
-pub(crate) fn tell_steps<K: Sink>(
+pub(crate) fn report_steps<K: Sink>(
     sink: &mut K,
     text: &mut String,
     steps: &[Asked],
@@ -29,7 +29,7 @@ pub(crate) fn tell_steps<K: Sink>(
     ensures front { OnErr result
         (WritesFront (step_lines_of steps.now replies.now) (K.contents sink.old)
         (K.contents sink.new)) }
-    ensures counted { TellsWrite (K.failures sink.old) (K.failures sink.new) result }
+    ensures counted { ReportsWrite (K.failures sink.old) (K.failures sink.new) result }
 {
     for i in 0..steps.len() {
         tell(
@@ -53,7 +53,7 @@ fn step_line(asked: Asked, reply: Reply) -> Response
 }
 
 /// Tells what a judgement found, one after another.
-fn tell_judged<K: Sink>(
+fn report_judged<K: Sink>(
     sink: &mut K,
     text: &mut String,
     found: &[Disagreement],
@@ -64,7 +64,7 @@ fn tell_judged<K: Sink>(
     ensures front { OnErr result
         (WritesFront (map ReportLine.Judged found.now) (K.contents sink.old)
         (K.contents sink.new)) }
-    ensures counted { TellsWrite (K.failures sink.old) (K.failures sink.new) result }
+    ensures counted { ReportsWrite (K.failures sink.old) (K.failures sink.new) result }
 {
     for i in 0..found.len() {
         tell(sink, text, ReportLine::Judged(found[i]))?;
@@ -73,7 +73,7 @@ fn tell_judged<K: Sink>(
 }
 
 /// Reports what a judgement and an audit found, and ends the report of a trace that has `steps` step lines.
-pub(crate) fn tell_found<K: Sink>(
+pub(crate) fn report_found<K: Sink>(
     sink: &mut K,
     text: &mut String,
     judged: &[Disagreement],
@@ -86,10 +86,10 @@ pub(crate) fn tell_found<K: Sink>(
     ensures front { OnErr result
         (WritesFront (found_lines judged.now audited steps) (K.contents sink.old)
         (K.contents sink.new)) }
-    ensures counted { TellsWrite (K.failures sink.old) (K.failures sink.new) result }
+    ensures counted { ReportsWrite (K.failures sink.old) (K.failures sink.new) result }
 {
-    tell_judged(sink, text, judged)?;
-    tell_audited(sink, text, audited)?;
+    report_judged(sink, text, judged)?;
+    report_audited(sink, text, audited)?;
     let disagreements = judged.len() as u64 + u64::from(audited.is_some());
-    tell_end(sink, text, steps, disagreements)
+    report_end(sink, text, steps, disagreements)
 }

@@ -12,8 +12,8 @@ abbrev pub Counts : {X E : Type 0} → ℕ → ℕ → Result X E → Type 0
 Counts before after r = MatchResult r (λ _. after ≡ before) (λ _. after ≡ one_more before)
 
 -- a failed read is reported exactly if the source has failed, which was once
-abbrev pub TellsRead : {X : Type 0} → ℕ → ℕ → Result X EngineFault → Type 0
-TellsRead before after (Ok x) = after ≡ before
-TellsRead before after (Err Read) = after ≡ one_more before
-TellsRead before after (Err Write) = ⊥
-TellsRead before after (Err NoMemory) = after ≡ before
+abbrev pub ReportsRead : {X : Type 0} → ℕ → ℕ → Result X EngineFault → Type 0
+ReportsRead before after (Ok x) = after ≡ before
+ReportsRead before after (Err Read) = after ≡ one_more before
+ReportsRead before after (Err Write) = ⊥
+ReportsRead before after (Err NoMemory) = after ≡ before

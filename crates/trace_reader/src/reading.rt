@@ -1,7 +1,7 @@
 //! Reading a trace line by line.
 ghost use Rattle.std.specs.Prelude.{◌<◌, ◌^◌, IfOk};
 ghost use Rattle.trace_reader.specs.Ahead.{left};
-ghost use Rattle.trace_reader.specs.Devices.{TellsRead};
+ghost use Rattle.trace_reader.specs.Devices.{ReportsRead};
 ghost use Rattle.trace_reader.specs.Reading.{ReadsLine};
 
 use crate::ahead::ReadAhead;
@@ -21,7 +21,7 @@ pub fn read_line<S: Source>(
     ensures ok { IfOk result
         (λ found. ReadsLine found (left ahead.old (S.remaining source.old))
         (left ahead.new (S.remaining source.new)) line.new.items) }
-    ensures counted { TellsRead (S.failures source.old) (S.failures source.new) result }
+    ensures counted { ReportsRead (S.failures source.old) (S.failures source.new) result }
 {
     line.clear();
     for _ in 0..MOST_BYTES + 1 {

@@ -32,7 +32,7 @@ use Rattle.trace_text.specs.Oracles.{IsAgreed, agreed, audited_lines, judged_lin
 use Rattle.trace_text.specs.Replay.{IsReport, outcome_of}
 use Rattle.trace_text.specs.Reports.{Begins}
 use Rattle.trace_text.specs.Session.{Answer, Answers, Follows, HasBooted, IsNoWorld, MakesStep, Standing, Starts, allowed, at_start}
-use Rattle.trace_text.specs.Worlds.{Machine, free_told, guest_free_told}
+use Rattle.trace_text.specs.Worlds.{Machine, shared_free_count, guest_free_count}
 
 -- an answer that tells of no disagreement, and none was told before
 pub record Quiet (answer : Answer) (new : Standing) : Type 0 where
@@ -79,9 +79,9 @@ module _ (old new : Standing) (answer : Answer) (none : old.disagreements ≡ 0)
 
   by_query : (m : Machine) (query : Query) → Answers query m old answer new → Quiet answer new
   by_query m (queries.Word tree page level) h = asks (option_map responses.Word h.0) faults.Path h.2.0 h.2.1
-  by_query m queries.FreeShared h = asks (Some (responses.Free (free_told m))) (faults.Line Place) h.0 h.1
+  by_query m queries.FreeShared h = asks (Some (responses.Free (shared_free_count m))) (faults.Line Place) h.0 h.1
   by_query m (queries.FreeGuest slot) h =
-      asks (Some (responses.Free (guest_free_told m slot))) (faults.Line Place) h.0 h.1
+      asks (Some (responses.Free (guest_free_count m slot))) (faults.Line Place) h.0 h.1
   by_query m (queries.Show tree) h = told (map report.Response (map responses.Run h.0)) h.2 (runs_quiet h.0) (kept h.3)
 
   by_step : (number cpu : ℕ) (step : Step) (m : Machine)

@@ -11,7 +11,7 @@ use Rattle.trace_text.specs.declared.report.ReportLine.{ReportLine}
 use Rattle.trace_text.specs.declared.report.ReportLine.TheVariants as report
 use Rattle.trace_text.specs.declared.session.Stop.TheVariants as stops
 use Rattle.trace_text.specs.BrokenOff.{AllAnswered, BeginningReports, BegunWrites, FirstAnswered, ReportsFront, asking, replying}
-use Rattle.trace_text.specs.Laws.{TellsBoot, TellsNoBoot, TellsRun, replies_told, reply_of, reply_told, steps_asked}
+use Rattle.trace_text.specs.Laws.{ReportsBoot, ReportsNoBoot, ReportsRun, reported_replies, reply_of, reported_reply, steps_asked}
 use Rattle.trace_text.specs.Oracles.{Gives}
 use Rattle.trace_text.specs.Replay.{IsBeginning, IsPlayed, IsReport, end_line, outcome_of}
 use Rattle.trace_text.specs.Reports.{Begins}
@@ -151,29 +151,29 @@ steps_by (c ∷ cs) left = ap (λ xs. c.cpu ∷ xs) (steps_by cs left)
 
 -- the replies of a report that tells a run, and the CPUs of the steps that are left
 run_answers : (m : Machine) (trace : List (List ℕ)) (reported : List ReportLine) (outcome : Outcome)
-    (r : TellsRun m trace reported outcome)
-    → asking (steps_asked trace) ≡ replying (replies_told reported) ++ asking r.left
+    (r : ReportsRun m trace reported outcome)
+    → asking (steps_asked trace) ≡ replying (reported_replies reported) ++ asking r.left
 run_answers m trace reported outcome r =
     ap asking r.steps ∙ steps_by r.calls r.left
     ∙ ap (λ xs. xs ++ asking r.left) (sym (ap replying r.replies ∙ replies_by r.calls))
 
 -- a line that is no step's tells no reply
 silent_front : (line : ReportLine) (more : List ReportLine)
-    → reply_told line ≡ None
-    → replies_told (line ∷ more) ≡ replies_told more
+    → reported_reply line ≡ None
+    → reported_replies (line ∷ more) ≡ reported_replies more
 silent_front line more e = rw e refl
 
 module _ (gives : Gives) (trace : List (List ℕ)) (reported : List ReportLine) (outcome : Outcome) where
-  no_boot_answers : TellsNoBoot trace reported outcome → replies_told reported ≡ []
-  no_boot_answers b = ap replies_told b.alone ∙ silent_front b.line [] b.no_step
+  no_boot_answers : ReportsNoBoot trace reported outcome → reported_replies reported ≡ []
+  no_boot_answers b = ap reported_replies b.alone ∙ silent_front b.line [] b.no_step
 
-  boot_answers : TellsBoot gives 1 at_start trace reported outcome
+  boot_answers : ReportsBoot gives 1 at_start trace reported outcome
       → (left : List (ℕ × Step))
-      × (asking (steps_asked trace) ≡ replying (replies_told reported) ++ asking left)
+      × (asking (steps_asked trace) ≡ replying (reported_replies reported) ++ asking left)
       × ((outcome ≡ outcomes.Fault → ⊥) → left ≡ [])
   boot_answers b =
-      let same : replies_told reported ≡ replies_told b.more =
-      ap replies_told b.first ∙ silent_front (report.Response b.line) b.more (ap reply_of b.booted.line) in (
+      let same : reported_replies reported ≡ reported_replies b.more =
+      ap reported_replies b.first ∙ silent_front (report.Response b.line) b.more (ap reply_of b.booted.line) in (
         b.run.left,
         run_answers b.machine trace b.more outcome b.run
             ∙ ap (λ xs. replying xs ++ asking b.run.left) (sym same),
@@ -193,6 +193,6 @@ pub all_answered : (gives : Gives) → AllAnswered gives
 all_answered gives trace reported outcome h sound = elim (trace_runs gives trace reported outcome h) [
   | inl b ↦ ap asking (b.all sound) ∙ ap replying (sym (no_boot_answers gives trace reported outcome b))
   | inr b ↦ let a = boot_answers gives trace reported outcome b in
-      a.1 ∙ ap (λ xs. replying (replies_told reported) ++ asking xs) (a.2 sound)
-      ∙ append-nil (replying (replies_told reported))
+      a.1 ∙ ap (λ xs. replying (reported_replies reported) ++ asking xs) (a.2 sound)
+      ∙ append-nil (replying (reported_replies reported))
 ]

@@ -5,7 +5,7 @@ use Rattle.call_table.specs.declared.reply.Reply.{Reply}
 use Rattle.call_table.specs.declared.step.Step.{Step}
 use Rattle.page_state.specs.Layouts.{Layout}
 use Rattle.reference_model.specs.model.State.{Reference}
-use Rattle.reference_model.specs.model.Step.{foretell}
+use Rattle.reference_model.specs.model.Step.{predict_step}
 use Rattle.ghost_spec.specs.declared.state.Ghost.{Ghost}
 use Rattle.ghost_spec.specs.States.{contents_in}
 use Rattle.ghost_judge.specs.Audits.{AuditAgrees}
@@ -18,15 +18,15 @@ use Rattle.trace_text.specs.Worlds.{Machine}
 -- the judgement of the same call
 same_call : (l k : Layout) (a b : Reference) (s t : Reference) (cpu n : ℕ) (step other : Step) (reply said : Reply)
     → l ≡ k → a ≡ b → s ≡ t → cpu ≡ n → step ≡ other → reply ≡ said
-    → JudgeAgrees a.contents step reply s.contents (foretell l a cpu step)
-    → JudgeAgrees b.contents other said t.contents (foretell k b n other)
+    → JudgeAgrees a.contents step reply s.contents (predict_step l a cpu step)
+    → JudgeAgrees b.contents other said t.contents (predict_step k b n other)
 same_call l k a b s t cpu n step other reply said lk ab st cn so rs h =
-    subst (λ x. JudgeAgrees b.contents other x t.contents (foretell k b n other)) rs
-    (subst (λ x. JudgeAgrees b.contents x reply t.contents (foretell k b n x)) so
-    (subst (λ x. JudgeAgrees b.contents step reply t.contents (foretell k b x step)) cn
-    (subst (λ x. JudgeAgrees b.contents step reply x.contents (foretell k b cpu step)) st
-    (subst (λ x. JudgeAgrees x.contents step reply s.contents (foretell k x cpu step)) ab
-    (subst (λ x. JudgeAgrees a.contents step reply s.contents (foretell x a cpu step)) lk h)))))
+    subst (λ x. JudgeAgrees b.contents other x t.contents (predict_step k b n other)) rs
+    (subst (λ x. JudgeAgrees b.contents x reply t.contents (predict_step k b n x)) so
+    (subst (λ x. JudgeAgrees b.contents step reply t.contents (predict_step k b x step)) cn
+    (subst (λ x. JudgeAgrees b.contents step reply x.contents (predict_step k b cpu step)) st
+    (subst (λ x. JudgeAgrees x.contents step reply s.contents (predict_step k x cpu step)) ab
+    (subst (λ x. JudgeAgrees a.contents step reply s.contents (predict_step x a cpu step)) lk h)))))
 
 module _ (m : Machine) (c : Call) (t : Reference) (before : Ghost) (cpu : ℕ) (step : Step) (reply : Reply)
     (after walked : Ghost)

@@ -32,7 +32,7 @@ use Rattle.table_tree.proofs.Said.{word_where}
 use Rattle.trace_lines.specs.declared.line.TreeName.{TreeName}
 use Rattle.trace_lines.specs.declared.line.TreeName.TheVariants.{Host, Hyp, Guest}
 use Rattle.trace_text.specs.View.{body_at, body_in, machine_of, runs_in}
-use Rattle.trace_text.specs.Worlds.{IsBootOf, HasMaplets, HasWordOn, IsWordOn, tree_told, tables_told, free_told, guest_free_told}
+use Rattle.trace_text.specs.Worlds.{IsBootOf, HasMaplets, HasWordOn, IsWordOn, named_tree, tree_table_count, shared_free_count, guest_free_count}
 use Rattle.hypercalls.specs.Booted.{IsBooted}
 use Rattle.world.specs.declared.World.{World}
 
@@ -48,8 +48,8 @@ module _ {A : Type 0} (w : World A) where
 
   count_is : (name : TreeName) (t : Tree A)
       → levels_below t.geometry ≡ (machine_of w).layout.depth
-      → tree_told (machine_of w) name ≡ tree_of t
-      → table_count t.geometry (tree_of t) ≡ tables_told (machine_of w) name
+      → named_tree (machine_of w) name ≡ tree_of t
+      → table_count t.geometry (tree_of t) ≡ tree_table_count (machine_of w) name
   count_is name t depth told =
       ap (λ d. length (filter (λ b. is_some ((tree_of t).table b)) (blocks_in (d + 1) 0))) depth
       ∙ ap
@@ -57,13 +57,13 @@ module _ {A : Type 0} (w : World A) where
       (filter (λ b. is_some (x.table b)) (blocks_in ((machine_of w).layout.depth + 1) 0)))
       (sym told)
 
-  pub host_count : table_count s.host.tree.geometry (tree_of s.host.tree) ≡ tables_told (machine_of w) Host
+  pub host_count : table_count s.host.tree.geometry (tree_of s.host.tree) ≡ tree_table_count (machine_of w) Host
   host_count = count_is Host s.host.tree host_depth refl
 
-  pub hyp_count : table_count s.hyp.tree.geometry (tree_of s.hyp.tree) ≡ tables_told (machine_of w) Hyp
+  pub hyp_count : table_count s.hyp.tree.geometry (tree_of s.hyp.tree) ≡ tree_table_count (machine_of w) Hyp
   hyp_count = count_is Hyp s.hyp.tree hyp_depth refl
 
-  pub free_is : length s.pool.frames ≡ free_told (machine_of w)
+  pub free_is : length s.pool.frames ≡ shared_free_count (machine_of w)
   free_is = refl
 
 -- the guest in a slot is that of what it holds
@@ -88,19 +88,19 @@ module _ {A : Type 0} (w : World A) (slot : ℕ) where
 
   pub guest_tree : (o : Option (Body A))
       → body_at w slot ≡ o
-      → tree_told (machine_of w) (Guest slot) ≡ (guest_in o).tree
+      → named_tree (machine_of w) (Guest slot) ≡ (guest_in o).tree
   guest_tree o e = ap (λ (x : ReferenceGuest). x.tree) (guest_told ∙ ap guest_in e)
 
   pub guest_free_is : (o : Option (Body A))
       → body_at w slot ≡ o
-      → length (guest_in o).free ≡ guest_free_told (machine_of w) slot
+      → length (guest_in o).free ≡ guest_free_count (machine_of w) slot
   guest_free_is o e = ap (λ (x : ReferenceGuest). length x.free) (sym (guest_told ∙ ap guest_in e))
 
 -- the maplets that a world keeps are those of its trees
 module _ {A : Type 0} (w : World A) where
   of_guest : (slot : ℕ) (o : Option (Body A))
       → body_at w slot ≡ o
-      → HasMaplets (tree_told (machine_of w) (Guest slot)) (runs_of o)
+      → HasMaplets (named_tree (machine_of w) (Guest slot)) (runs_of o)
   of_guest slot None e = record { map_is = ap (λ (x : ReferenceTree). x.map) (guest_tree w slot None e); coarsest = tt }
   of_guest slot (Some b) e =
       record {
@@ -109,7 +109,7 @@ module _ {A : Type 0} (w : World A) where
         coarsest = b.map.coarsest;
       }
 
-  pub has_maplets : (tree : TreeName) → HasMaplets (tree_told (machine_of w) tree) (runs_in (Some w) tree)
+  pub has_maplets : (tree : TreeName) → HasMaplets (named_tree (machine_of w) tree) (runs_in (Some w) tree)
   has_maplets Host = record { map_is = w.parts.shared.host.agree; coarsest = w.parts.shared.host.coarsest }
   has_maplets Hyp = record { map_is = w.parts.shared.hyp.agree; coarsest = w.parts.shared.hyp.coarsest }
   has_maplets (Guest slot) = of_guest slot (body_at w slot) refl
@@ -253,20 +253,20 @@ module _ {A : Type 0} (t : Tree A) (page level : ℕ) where
 module _ {A : Type 0} (w : World A) (page level : ℕ) (r : Option ℕ) where
   on_tree : (name : TreeName) (t : Tree A)
       → levels_below t.geometry ≡ (machine_of w).layout.depth
-      → tree_told (machine_of w) name ≡ tree_of t
+      → named_tree (machine_of w) name ≡ tree_of t
       → IsWordOn (levels_below t.geometry) (tree_of t) page level r
-      → IsWordOn (machine_of w).layout.depth (tree_told (machine_of w) name) page level r
+      → IsWordOn (machine_of w).layout.depth (named_tree (machine_of w) name) page level r
   on_tree name t depth told h =
       subst (λ x. IsWordOn (machine_of w).layout.depth x page level r) (sym told)
       (subst (λ d. IsWordOn d (tree_of t) page level r) depth h)
 
   pub host_word : IsWordOn (levels_below w.parts.shared.host.tree.geometry)
       (tree_of w.parts.shared.host.tree) page level r
-      → IsWordOn (machine_of w).layout.depth (tree_told (machine_of w) Host) page level r
+      → IsWordOn (machine_of w).layout.depth (named_tree (machine_of w) Host) page level r
   host_word h = on_tree Host w.parts.shared.host.tree (host_depth w) refl h
 
   pub hyp_word : IsWordOn (levels_below w.parts.shared.hyp.tree.geometry) (tree_of w.parts.shared.hyp.tree) page level r
-      → IsWordOn (machine_of w).layout.depth (tree_told (machine_of w) Hyp) page level r
+      → IsWordOn (machine_of w).layout.depth (named_tree (machine_of w) Hyp) page level r
   hyp_word h = on_tree Hyp w.parts.shared.hyp.tree (hyp_depth w) refl h
 
 -- what holds of all holds at a place
@@ -289,7 +289,7 @@ module _ {A : Type 0} (w : World A) (slot page level : ℕ) where
       → body_at w slot ≡ Some b
       → (r : Option ℕ)
       → IsWordOn (levels_below b.map.tree.geometry) (tree_of b.map.tree) page level r
-      → IsWordOn (machine_of w).layout.depth (tree_told (machine_of w) (Guest slot)) page level r
+      → IsWordOn (machine_of w).layout.depth (named_tree (machine_of w) (Guest slot)) page level r
   guest_word b e r h =
       let depth =
       guest_depths (slice_get w.parts.guests.items slot) b
@@ -300,7 +300,7 @@ module _ {A : Type 0} (w : World A) (slot page level : ℕ) where
       (subst (λ d. IsWordOn d (tree_of b.map.tree) page level r) depth h)
 
   pub no_guest_word : body_at w slot ≡ None
-      → IsWordOn (machine_of w).layout.depth (tree_told (machine_of w) (Guest slot)) page level None
+      → IsWordOn (machine_of w).layout.depth (named_tree (machine_of w) (Guest slot)) page level None
   no_guest_word e = λ has. let root =
       subst (λ (x : ReferenceTree). IsSome (x.table ((machine_of w).layout.depth + 1, 0)))
       (guest_tree w slot None e) has.root in

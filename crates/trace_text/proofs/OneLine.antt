@@ -22,24 +22,24 @@ use Rattle.trace_reader.specs.declared.outcome.Outcome.TheVariants as outcomes
 use Rattle.trace_text.specs.declared.report.ReportLine.{ReportLine}
 use Rattle.trace_text.specs.declared.report.ReportLine.TheVariants as report
 use Rattle.trace_text.specs.declared.session.Stop.TheVariants as stops
-use Rattle.trace_text.specs.Laws.{reply_of, replies_told, step_asked}
+use Rattle.trace_text.specs.Laws.{reply_of, reported_replies, step_asked}
 use Rattle.ghost_judge.specs.declared.disagreement.Disagreement.{Disagreement}
 use Rattle.trace_text.specs.Oracles.{Gives, audited_lines, judged_lines, verdict_lines}
 use Rattle.trace_text.specs.Replay.{IsReport}
 use Rattle.trace_text.specs.Reports.{Begins}
 use Rattle.trace_lines.specs.Said.{said}
 use Rattle.trace_text.specs.Session.{Standing, Answer, Answers, Follows, MakesStep, Starts, allowed}
-use Rattle.trace_text.specs.Worlds.{Machine, in_state, free_told, guest_free_told}
+use Rattle.trace_text.specs.Worlds.{Machine, in_state, shared_free_count, guest_free_count}
 use Rattle.trace_text.proofs.Asked.{Fits, fits}
 use Rattle.trace_lines.proofs.Saying.{mapped}
 
 -- runs tell of no step
-runs_silent : (runs : List Run) → replies_told (map report.Response (map responses.Run runs)) ≡ []
+runs_silent : (runs : List Run) → reported_replies (map report.Response (map responses.Run runs)) ≡ []
 runs_silent [] = refl
 runs_silent (run ∷ runs) = runs_silent runs
 
 -- nor does what an oracle tells
-found_silent : (a b : Option Disagreement) → replies_told (judged_lines a ++ audited_lines b) ≡ []
+found_silent : (a b : Option Disagreement) → reported_replies (judged_lines a ++ audited_lines b) ≡ []
 found_silent None None = refl
 found_silent None (Some d) = refl
 found_silent (Some d) None = refl
@@ -60,7 +60,7 @@ pub record Passed (gives : Gives) (number : ℕ) (world : Machine) (line : List 
   pub says : List ReportLine
   pub more : List ReportLine
   pub is : reported ≡ says ++ more
-  pub no_step : replies_told says ≡ []
+  pub no_step : reported_replies says ≡ []
   pub report : IsReport gives (number + 1) new rest more outcome
 
 -- it is a step line, and the step is made
@@ -78,7 +78,7 @@ pub record Stepped (gives : Gives) (number : ℕ) (world : Machine) (line : List
   pub new : Standing
   pub stands : new.machine ≡ Some (in_state world next)
   pub told : List ReportLine
-  pub no_step : replies_told told ≡ []
+  pub no_step : reported_replies told ≡ []
   pub more : List ReportLine
   pub is : reported ≡ report.Response (responses.Step number cpu call.reply) ∷ (told ++ more)
   pub report : IsReport gives (number + 1) new rest more outcome
@@ -137,9 +137,9 @@ module _ (gives : Gives) (number : ℕ) (line : List ℕ) (rest : List (List ℕ
       asks (option_map responses.Word m.0) faults.Path
       (mapped (λ says. reply_of says ≡ None) responses.Word (λ w. refl) m.0) m.2.0 m.2.1 silent
   by_query queries.FreeShared m silent =
-      asks (Some (responses.Free (free_told world))) (faults.Line Place) refl m.0 m.1 silent
+      asks (Some (responses.Free (shared_free_count world))) (faults.Line Place) refl m.0 m.1 silent
   by_query (queries.FreeGuest slot) m silent =
-      asks (Some (responses.Free (guest_free_told world slot))) (faults.Line Place) refl m.0 m.1 silent
+      asks (Some (responses.Free (guest_free_count world slot))) (faults.Line Place) refl m.0 m.1 silent
   by_query (queries.Show tree) m silent =
       let b = rw m.2 at begins in
       inr

@@ -15,7 +15,7 @@ use Rattle.trace_reader.specs.declared.outcome.Outcome.TheVariants as outcomes
 use Rattle.trace_text.specs.declared.report.ReportLine.{ReportLine}
 use Rattle.trace_text.specs.declared.report.ReportLine.TheVariants as report
 use Rattle.trace_text.specs.declared.session.Stop.TheVariants as stops
-use Rattle.trace_text.specs.Played.{Enough, Plays, PlaysFront, Writes, WritesEnd, WritesEndFront, WritesFront, lines_told}
+use Rattle.trace_text.specs.Played.{Enough, Plays, PlaysFront, Writes, WritesEnd, WritesEndFront, WritesFront, reported_lines}
 use Rattle.trace_reader.specs.Reading.{IsFirstLine, ReadsLine}
 use Rattle.trace_reader.specs.Reading.{lines_of}
 use Rattle.trace_text.specs.Oracles.{Gives}
@@ -145,7 +145,7 @@ module _ {S : Type 0} (does : Doing S) (ends : S → List ReportLine → Outcome
   -- what an answer reports begins the report of its line and of those behind it
   begins_line : (number : ℕ) (whole : List ℕ) (rest : List (List ℕ)) (old new : S) (answer : Answer)
       → IsPlayed does number whole old answer new
-      → IsBeginning does ends number old (whole ∷ rest) (lines_told number answer)
+      → IsBeginning does ends number old (whole ∷ rest) (reported_lines number answer)
   begins_line number whole rest old new (Err (stops.Fault fault)) played =
       inr (Err (stops.Fault fault), new, outcomes.Fault, played, (refl, refl))
   begins_line number whole rest old new (Err stops.NoMemory) played = inl refl
@@ -391,12 +391,12 @@ module _ {S : Type 0} (does : Doing S) (ends : S → List ReportLine → Outcome
         → ReadsLine true left next line
         → number ≤ 1048576
         → does number line old answer new
-        → IfSome all (λ bytes. IsBeginning does ends 1 at_start (lines_of bytes) (told ++ lines_told number answer))
+        → IfSome all (λ bytes. IsBeginning does ends 1 at_start (lines_of bytes) (told ++ reported_lines number answer))
     begins_with None left next line number old new told answer h first few runs = tt
     begins_with (Some bytes) None next line number old new told answer h first few runs = absurd h
     begins_with (Some bytes) (Some rest) next line number old new told answer h first few runs =
         let on = goes rest line next number old answer new first few runs in
-        h (lines_told number answer) (rw on.lines (begins_line number on.whole on.rest old new answer on.played))
+        h (reported_lines number answer) (rw on.lines (begins_line number on.whole on.rest old new answer on.played))
 
     -- a front of what a line reports
     pub begun_line : (all left next before now last : Option (List ℕ)) (line : List ℕ) (number : ℕ) (old : S)
@@ -406,7 +406,7 @@ module _ {S : Type 0} (does : Doing S) (ends : S → List ReportLine → Outcome
         → PlaysFront does number line old now last
         → IsWriteBegun does ends at_start all before last
     begun_line all left next before now last line number old so_far first few played =
-        begun_by all before now last so_far.told (lines_told number played.answer) so_far.written played.writes
+        begun_by all before now last so_far.told (reported_lines number played.answer) so_far.written played.writes
         (begins_with all left next line number old played.after so_far.told played.answer so_far.begins first few
         played.runs)
 

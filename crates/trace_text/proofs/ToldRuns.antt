@@ -24,7 +24,7 @@ use Rattle.trace_reader.specs.declared.outcome.Outcome.{Outcome}
 use Rattle.trace_text.specs.declared.report.ReportLine.{ReportLine}
 use Rattle.trace_text.specs.declared.report.ReportLine.TheVariants as report
 use Rattle.trace_text.specs.declared.session.Stop.TheVariants as stops
-use Rattle.trace_text.specs.Laws.{reply_told, replies_told, step_asked, steps_asked, Leads, TellsRun, StopsIn, Reaches, TellsNoBoot, TellsBoot, TraceRuns}
+use Rattle.trace_text.specs.Laws.{reported_reply, reported_replies, step_asked, steps_asked, Leads, ReportsRun, StopsIn, Reaches, ReportsNoBoot, ReportsBoot, TraceRuns}
 use Rattle.trace_text.specs.Oracles.{Gives}
 use Rattle.trace_text.specs.Replay.{IsPlayed, IsReport, end_line}
 use Rattle.trace_text.specs.Reports.{Begins}
@@ -63,18 +63,20 @@ replies_cons : (o : Option (ℕ × Reply)) (xs ys : List (ℕ × Reply)) → con
 replies_cons None xs ys = refl
 replies_cons (Some x) xs ys = refl
 
-replies_append : (xs ys : List ReportLine) → replies_told (xs ++ ys) ≡ replies_told xs ++ replies_told ys
+replies_append : (xs ys : List ReportLine) → reported_replies (xs ++ ys) ≡ reported_replies xs ++ reported_replies ys
 replies_append [] ys = refl
 replies_append (x ∷ xs) ys =
-    ap (cons_option (reply_told x)) (replies_append xs ys)
-    ∙ replies_cons (reply_told x) (replies_told xs) (replies_told ys)
+    ap (cons_option (reported_reply x)) (replies_append xs ys)
+    ∙ replies_cons (reported_reply x) (reported_replies xs) (reported_replies ys)
 
-behind : (says more : List ReportLine) → replies_told says ≡ [] → replies_told (says ++ more) ≡ replies_told more
-behind says more e = replies_append says more ∙ ap (λ xs. xs ++ replies_told more) e
+behind : (says more : List ReportLine)
+    → reported_replies says ≡ []
+    → reported_replies (says ++ more) ≡ reported_replies more
+behind says more e = replies_append says more ∙ ap (λ xs. xs ++ reported_replies more) e
 
 -- a line of the trace that asks for no step, and what it reports
 passes : (p : Machine) (line : List ℕ) (rest : List (List ℕ)) (reported : List ReportLine) (outcome : Outcome)
-    → step_asked line ≡ None → TellsRun p rest reported outcome → TellsRun p (line ∷ rest) reported outcome
+    → step_asked line ≡ None → ReportsRun p rest reported outcome → ReportsRun p (line ∷ rest) reported outcome
 passes p line rest reported outcome e run = record {
   calls = run.calls;
   last = run.last;
@@ -89,7 +91,7 @@ pub world_runs : (gives : Gives) (trace : List (List ℕ)) (number : ℕ) (old :
     (reported : List ReportLine) (outcome : Outcome)
     → old.machine ≡ Some world
     → IsReport gives number old trace reported outcome
-    → TellsRun world trace reported outcome
+    → ReportsRun world trace reported outcome
 world_runs gives [] number old world reported outcome stands h = record {
   calls = [];
   last = world.state;
@@ -116,7 +118,7 @@ world_runs gives (line ∷ rest) number old world reported outcome stands h =
             calls = run.calls;
             last = run.last;
             leads = run.leads;
-            replies = ap replies_told p.is ∙ behind p.says p.more p.no_step ∙ run.replies;
+            replies = ap reported_replies p.is ∙ behind p.says p.more p.no_step ∙ run.replies;
             left = run.left;
             steps = rw p.silent run.steps;
             all = run.all;
@@ -188,7 +190,9 @@ world_reaches gives (line ∷ front) rest number old world reported outcome stan
               line = stop.line;
               fault = stop.fault;
               lines =
-                  s.is ∙ ap (λ ls. report.Response (responses.Step number s.cpu s.call.reply) ∷ (s.told ++ ls)) stop.lines
+                  s.is
+                  ∙ ap
+                  (λ ls. report.Response (responses.Step number s.cpu s.call.reply) ∷ (s.told ++ ls)) stop.lines
                   ∙ sym (rw append_assoc refl);
               inside = let i = stop.inside in omega (arith, i);
             })
@@ -203,8 +207,10 @@ world_reaches gives (line ∷ front) rest number old world reported outcome stan
               last = r.last;
               stands = r.stands;
               leads =
-                  onward world s.next r.last s.call r.calls (known_by _ s.call.cpu s.cpu s.cpu_is s.known) s.made r.leads;
-              replies = rw s.cpu_is (ap (λ xs. (s.cpu, s.call.reply) ∷ xs) (behind s.told r.told s.no_step ∙ r.replies));
+                  onward world s.next r.last s.call r.calls
+                  (known_by _ s.call.cpu s.cpu s.cpu_is s.known) s.made r.leads;
+              replies =
+                  rw s.cpu_is (ap (λ xs. (s.cpu, s.call.reply) ∷ xs) (behind s.told r.told s.no_step ∙ r.replies));
               steps = rw (s.asked, s.cpu_is, s.step_is) (ap (λ xs. (s.cpu, s.step) ∷ xs) r.steps);
               report = subst (λ n. IsReport gives n r.new rest r.more outcome) (omega arith) r.report;
             })
@@ -222,7 +228,7 @@ boot_runs m t cs h leads =
 -- a report that tells of no boot, or of one and a run from there
 abbrev Told : Gives → ℕ → Standing → List (List ℕ) → List ReportLine → Outcome → Type 0
 Told gives number start trace reported outcome =
-    TellsNoBoot trace reported outcome ⊎ TellsBoot gives number start trace reported outcome
+    ReportsNoBoot trace reported outcome ⊎ ReportsBoot gives number start trace reported outcome
 
 module _ (gives : Gives) (number : ℕ) (line : List ℕ) (rest : List (List ℕ)) (old new : Standing)
     (reported : List ReportLine) (outcome : Outcome)

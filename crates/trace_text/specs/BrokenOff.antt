@@ -7,7 +7,7 @@ use Rattle.trace_reader.specs.Reading.{lines_of}
 use Rattle.trace_reader.specs.declared.outcome.Outcome.{Outcome}
 use Rattle.trace_reader.specs.declared.outcome.Outcome.TheVariants as outcomes
 use Rattle.trace_text.specs.declared.report.ReportLine.{ReportLine}
-use Rattle.trace_text.specs.Laws.{replies_told, steps_asked}
+use Rattle.trace_text.specs.Laws.{reported_replies, steps_asked}
 use Rattle.trace_text.specs.Oracles.{Gives}
 use Rattle.trace_text.specs.Replay.{IsBeginning, IsBegun, IsReport}
 use Rattle.trace_text.specs.Session.{Standing, at_start}
@@ -63,7 +63,8 @@ module _ (gives : Gives) where
   FirstAnswered =
       (trace : List (List ℕ)) (reported : List ReportLine) (outcome : Outcome)
       → IsReport gives 1 at_start trace reported outcome
-      → (left : List ℕ) × (asking (steps_asked trace) ≡ replying (replies_told reported) ++ left)
+      → (left : List ℕ)
+      × (asking (steps_asked trace) ≡ replying (reported_replies reported) ++ left)
 
   -- and if it ends without a fault, of all of them
   abbrev pub AllAnswered : Type 0
@@ -71,4 +72,4 @@ module _ (gives : Gives) where
       (trace : List (List ℕ)) (reported : List ReportLine) (outcome : Outcome)
       → IsReport gives 1 at_start trace reported outcome
       → (outcome ≡ outcomes.Fault → ⊥)
-      → asking (steps_asked trace) ≡ replying (replies_told reported)
+      → asking (steps_asked trace) ≡ replying (reported_replies reported)

@@ -17,11 +17,11 @@ WritesAll old new r bytes =
     (λ _. (count : ℕ) × Appends old new (take count bytes))
 
 -- a failed write is reported exactly if the sink has failed, which was once; no read is made
-abbrev pub TellsWrite : {X : Type 0} → ℕ → ℕ → Result X EngineFault → Type 0
-TellsWrite before after (Ok x) = after ≡ before
-TellsWrite before after (Err Read) = ⊥
-TellsWrite before after (Err Write) = after ≡ one_more before
-TellsWrite before after (Err NoMemory) = after ≡ before
+abbrev pub ReportsWrite : {X : Type 0} → ℕ → ℕ → Result X EngineFault → Type 0
+ReportsWrite before after (Ok x) = after ≡ before
+ReportsWrite before after (Err Read) = ⊥
+ReportsWrite before after (Err Write) = after ≡ one_more before
+ReportsWrite before after (Err NoMemory) = after ≡ before
 
 -- a failed read is reported exactly if the source has failed, which was once
 abbrev pub CountsReads : {X : Type 0} → ℕ → ℕ → Result X EngineFault → Type 0

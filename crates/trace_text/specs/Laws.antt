@@ -23,7 +23,7 @@ use Rattle.trace_lines.specs.Places.{of_replay}
 use Rattle.trace_lines.specs.Said.{said}
 use Rattle.trace_text.specs.Session.{Standing, HasBooted, at_start}
 use Rattle.trace_text.specs.Worlds.{Machine, in_state}
-use Rattle.trace_lines.specs.Settings.{nothing_told}
+use Rattle.trace_lines.specs.Settings.{no_settings}
 
 -- the CPU and the reply of a response, if it is a step's
 abbrev pub reply_of : Response → Option (ℕ × Reply)
@@ -34,31 +34,31 @@ reply_of (responses.Free free) = None
 reply_of (responses.Run run) = None
 
 -- those of a line of a report
-abbrev pub reply_told : ReportLine → Option (ℕ × Reply)
-reply_told (report.Response response) = reply_of response
-reply_told (report.Judged found) = None
-reply_told (report.Audited found) = None
-reply_told (report.Fault number fault) = None
-reply_told (report.End steps disagreements) = None
+abbrev pub reported_reply : ReportLine → Option (ℕ × Reply)
+reported_reply (report.Response response) = reply_of response
+reported_reply (report.Judged found) = None
+reported_reply (report.Audited found) = None
+reported_reply (report.Fault number fault) = None
+reported_reply (report.End steps disagreements) = None
 
 -- those of all step lines of a report, in order
-abbrev pub replies_told : List ReportLine → List (ℕ × Reply)
-replies_told reported = filter_map reply_told reported
+abbrev pub reported_replies : List ReportLine → List (ℕ × Reply)
+reported_replies reported = filter_map reported_reply reported
 
 -- the CPU and the step that a line asks for, if it is a step line
-abbrev pub step_said : Result (Option Line) LineFault → Option (ℕ × Step)
-step_said (Err fault) = None
-step_said (Ok None) = None
-step_said (Ok (Some (lines.Setting setting))) = None
-step_said (Ok (Some lines.Boot)) = None
-step_said (Ok (Some (lines.Step cpu step))) = Some (cpu, step)
-step_said (Ok (Some (lines.Query query))) = None
-step_said (Ok (Some (lines.Poke poke))) = None
-step_said (Ok (Some lines.Start)) = None
+abbrev pub step_of_line : Result (Option Line) LineFault → Option (ℕ × Step)
+step_of_line (Err fault) = None
+step_of_line (Ok None) = None
+step_of_line (Ok (Some (lines.Setting setting))) = None
+step_of_line (Ok (Some lines.Boot)) = None
+step_of_line (Ok (Some (lines.Step cpu step))) = Some (cpu, step)
+step_of_line (Ok (Some (lines.Query query))) = None
+step_of_line (Ok (Some (lines.Poke poke))) = None
+step_of_line (Ok (Some lines.Start)) = None
 
 -- the CPU and the step that the bytes of a line ask for, whatever came before
 abbrev pub step_asked : List ℕ → Option (ℕ × Step)
-step_asked line = step_said (said (of_replay false) nothing_told line)
+step_asked line = step_of_line (said (of_replay false) no_settings line)
 
 -- those of all step lines of a trace, in order
 abbrev pub steps_asked : List (List ℕ) → List (ℕ × Step)
@@ -72,12 +72,12 @@ pub record Leads (m : Machine) (cs : List Call) (t : Reference) : Type 0 where
 -- a report is that of a run of the reference step from a machine's state: the run makes the steps
 -- that the trace asks for before its first fault (all of them if the report ends without one), and
 -- the step lines report their CPUs and replies
-pub record TellsRun (m : Machine) (trace : List (List ℕ)) (reported : List ReportLine)
+pub record ReportsRun (m : Machine) (trace : List (List ℕ)) (reported : List ReportLine)
     (outcome : Outcome) : Type 0 where
   pub calls : List Call
   pub last : Reference
   pub leads : Leads m calls last
-  pub replies : replies_told reported ≡ map (λ c. (c.cpu, c.reply)) calls
+  pub replies : reported_replies reported ≡ map (λ c. (c.cpu, c.reply)) calls
   -- the steps after the fault
   pub left : List (ℕ × Step)
   pub steps : steps_asked trace ≡ map (λ c. (c.cpu, c.step)) calls ++ left
@@ -85,11 +85,11 @@ pub record TellsRun (m : Machine) (trace : List (List ℕ)) (reported : List Rep
 
 -- a report without a boot: one line, which isn't a step's, and if it is no fault, no step was asked
 -- for
-pub record TellsNoBoot (trace : List (List ℕ)) (reported : List ReportLine)
+pub record ReportsNoBoot (trace : List (List ℕ)) (reported : List ReportLine)
     (outcome : Outcome) : Type 0 where
   pub line : ReportLine
   pub alone : reported ≡ line ∷ []
-  pub no_step : reply_told line ≡ None
+  pub no_step : reported_reply line ≡ None
   pub all : (outcome ≡ outcomes.Fault → ⊥) → steps_asked trace ≡ []
 
 -- a report that a fault among these lines ends, the first of which has the number
@@ -125,7 +125,7 @@ module _ (gives : Gives) where
 
   -- a report, from a line of the trace on, whose first line is that of a boot, and the other lines
   -- those of a run of the booted machine from the boot state
-  pub record TellsBoot (number : ℕ) (start : Standing) (trace : List (List ℕ))
+  pub record ReportsBoot (number : ℕ) (start : Standing) (trace : List (List ℕ))
       (reported : List ReportLine) (outcome : Outcome) : Type 0 where
     pub at : BootLine number start trace
     pub machine : Machine
@@ -136,7 +136,7 @@ module _ (gives : Gives) where
     pub booted : HasBooted at.carve at.old machine line new
     pub more : List ReportLine
     pub first : reported ≡ report.Response line ∷ more
-    pub run : TellsRun machine trace more outcome
+    pub run : ReportsRun machine trace more outcome
     pub ends : IsRun machine.layout run.calls run.last
 
   -- if there is a machine, the report of the lines from there on is that of a run of the reference
@@ -147,7 +147,7 @@ module _ (gives : Gives) where
       (reported : List ReportLine) (outcome : Outcome)
       → old.machine ≡ Some m
       → IsReport gives number old trace reported outcome
-      → TellsRun m trace reported outcome
+      → ReportsRun m trace reported outcome
 
   -- the report of a trace whose lines in `front`, from a number on, are carried out: their report,
   -- the run of the reference step in it, the machine at its end, and the report of the other lines
@@ -162,7 +162,7 @@ module _ (gives : Gives) where
     pub last : Reference
     pub stands : new.machine ≡ Some (in_state m last)
     pub leads : Leads m calls last
-    pub replies : replies_told told ≡ map (λ c. (c.cpu, c.reply)) calls
+    pub replies : reported_replies told ≡ map (λ c. (c.cpu, c.reply)) calls
     pub steps : steps_asked front ≡ map (λ c. (c.cpu, c.step)) calls
     pub report : IsReport gives (number + length front) new rest more outcome
 
@@ -180,7 +180,7 @@ module _ (gives : Gives) where
   abbrev pub TraceRuns : Type 0
   TraceRuns = (trace : List (List ℕ)) (reported : List ReportLine) (outcome : Outcome)
       → IsReport gives 1 at_start trace reported outcome
-      → TellsNoBoot trace reported outcome ⊎ TellsBoot 1 at_start trace reported outcome
+      → ReportsNoBoot trace reported outcome ⊎ ReportsBoot 1 at_start trace reported outcome
 
 -- a line without a disagreement
 abbrev pub IsAgreeing : ReportLine → Type 0

@@ -44,8 +44,8 @@ pub record IsShown (m : Machine) (c : Call) (t : Reference) (before : Ghost) (cp
   pub walked_is : ghost_state walked ≡ t
 
 -- a verdict may be given of each call with these states
-abbrev pub TellsShown : Gives → Ghost → ℕ → Step → Reply → Compared → Verdict → Type 0
-TellsShown gives before cpu step reply after v =
+abbrev pub ReportsShown : Gives → Ghost → ℕ → Step → Reply → Compared → Verdict → Type 0
+ReportsShown gives before cpu step reply after v =
     (m : Machine) (c : Call) (t : Reference)
     → IsShown m c t before cpu step reply after.kept (walked_in after)
     → gives m c t v

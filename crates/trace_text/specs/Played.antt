@@ -19,10 +19,10 @@ Writes number (Err stops.NoMemory) old new ended = ⊥
 Writes number (Ok told) old new ended = Appends old new (text_of_report told) × (ended ≡ None)
 
 -- the lines of the report that an answer makes
-abbrev pub lines_told : ℕ → Answer → List ReportLine
-lines_told number (Err (stops.Fault fault)) = report.Fault number fault ∷ []
-lines_told number (Err stops.NoMemory) = []
-lines_told number (Ok told) = told
+abbrev pub reported_lines : ℕ → Answer → List ReportLine
+reported_lines number (Err (stops.Fault fault)) = report.Fault number fault ∷ []
+reported_lines number (Err stops.NoMemory) = []
+reported_lines number (Ok told) = told
 
 -- a front of the text of lines was written
 abbrev pub WritesFront : List ReportLine → Option (List ℕ) → Option (List ℕ) → Type 0
@@ -48,7 +48,7 @@ module _ {S : Type 0} (does : Doing S) where
     pub answer : Answer
     pub after : S
     pub runs : does number line before answer after
-    pub writes : WritesFront (lines_told number answer) old new
+    pub writes : WritesFront (reported_lines number answer) old new
 
   -- what lines do of which 257 bytes are enough, since longer ones go no further
   pub record Enough : Type 0 where

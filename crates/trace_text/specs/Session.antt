@@ -35,9 +35,9 @@ use Rattle.trace_text.specs.declared.session.Stop.{Stop}
 use Rattle.trace_text.specs.declared.session.Stop.TheVariants as stops
 use Rattle.trace_lines.specs.Places.{before_boot, of_replay}
 use Rattle.trace_lines.specs.Said.{said}
-use Rattle.trace_lines.specs.Settings.{Told, nothing_told, told_after, config_of}
+use Rattle.trace_lines.specs.Settings.{Told, no_settings, told_after, config_of}
 use Rattle.trace_text.specs.Oracles.{Gives, verdict_lines}
-use Rattle.trace_text.specs.Worlds.{Machine, HasMaplets, IsBootOf, IsWordOn, in_state, tree_told, tables_told, free_told, guest_free_told}
+use Rattle.trace_text.specs.Worlds.{Machine, HasMaplets, IsBootOf, IsWordOn, in_state, named_tree, tree_table_count, shared_free_count, guest_free_count}
 
 -- the progress of a trace: the settings, the machine once it is booted, whether `start` came, how
 -- many step lines were carried out, and how many disagreements were reported
@@ -51,7 +51,7 @@ pub record Standing : Type 0 where
 -- before the first line
 abbrev pub at_start : Standing
 at_start =
-    record { told = nothing_told; machine = None; started = false; steps = 0; disagreements = 0 }
+    record { told = no_settings; machine = None; started = false; steps = 0; disagreements = 0 }
 
 -- what `replay` allows, before and after the boot
 abbrev pub allowed : Bool → Bool → Allows
@@ -104,7 +104,8 @@ IsMemoryOf memory answer =
 pub record HasBooted (carve : PageRange) (old : Standing) (m : Machine) (reported : Response)
     (new : Standing) : Type 0 where
   pub booted : IsBootOf (memory_of old.told.regions carve) (config_of old.told) m
-  pub line : reported ≡ responses.Boot (tables_told m Host) (tables_told m Hyp) (free_told m)
+  pub line : reported
+      ≡ responses.Boot (tree_table_count m Host) (tree_table_count m Hyp) (shared_free_count m)
   pub standing : new ≡ record old { machine = Some m }
 
 -- `boot`
@@ -138,15 +139,15 @@ Starts m old answer new = (answer ≡ Ok []) × (new ≡ record old { started = 
 abbrev pub Answers : Query → Machine → Standing → Answer → Standing → Type 0
 Answers (queries.Word tree page level) m old answer new =
     (word : Option ℕ)
-    × IsWordOn m.layout.depth (tree_told m tree) page level word
+    × IsWordOn m.layout.depth (named_tree m tree) page level word
     × Asks (option_map responses.Word word) faults.Path old answer new
 Answers queries.FreeShared m old answer new =
-    Asks (Some (responses.Free (free_told m))) (faults.Line Place) old answer new
+    Asks (Some (responses.Free (shared_free_count m))) (faults.Line Place) old answer new
 Answers (queries.FreeGuest slot) m old answer new =
-    Asks (Some (responses.Free (guest_free_told m slot))) (faults.Line Place) old answer new
+    Asks (Some (responses.Free (guest_free_count m slot))) (faults.Line Place) old answer new
 Answers (queries.Show tree) m old answer new =
     (runs : List Run)
-    × HasMaplets (tree_told m tree) runs
+    × HasMaplets (named_tree m tree) runs
     × (answer ≡ Ok (map report.Response (map responses.Run runs)))
     × (new ≡ old)
 

@@ -34,23 +34,23 @@ in_state m next = record { layout = m.layout; state = next }
 
 -- a named tree; that of an Empty guest, and of a slot past the last, has no table and nothing
 -- mapped
-abbrev pub tree_told : Machine → TreeName → Tree
-tree_told m Host = m.state.contents.shared.host
-tree_told m Hyp = m.state.contents.shared.hyp
-tree_told m (Guest slot) = (m.state.contents.guest slot).tree
+abbrev pub named_tree : Machine → TreeName → Tree
+named_tree m Host = m.state.contents.shared.host
+named_tree m Hyp = m.state.contents.shared.hyp
+named_tree m (Guest slot) = (m.state.contents.guest slot).tree
 
 -- the number of a tree's tables: that of the blocks, from the one of all pages down, that have one
-abbrev pub tables_told : Machine → TreeName → ℕ
-tables_told m tree =
-    length (filter (λ b. is_some ((tree_told m tree).table b)) (blocks_in (m.layout.depth + 1) 0))
+abbrev pub tree_table_count : Machine → TreeName → ℕ
+tree_table_count m tree =
+    length (filter (λ b. is_some ((named_tree m tree).table b)) (blocks_in (m.layout.depth + 1) 0))
 
 -- the number of free frames of the shared pool
-abbrev pub free_told : Machine → ℕ
-free_told m = length m.state.contents.shared.free
+abbrev pub shared_free_count : Machine → ℕ
+shared_free_count m = length m.state.contents.shared.free
 
 -- the number of free frames of the pool of the guest in a slot; an Empty guest has none
-abbrev pub guest_free_told : Machine → ℕ → ℕ
-guest_free_told m slot = length (m.state.contents.guest slot).free
+abbrev pub guest_free_count : Machine → ℕ → ℕ
+guest_free_count m slot = length (m.state.contents.guest slot).free
 
 -- a tree with that many levels below its root's has a word on a page's path at a level: it has a
 -- root, which an Empty guest's tree hasn't, the page is good, the level is none above the root's,

@@ -11,7 +11,7 @@ use crate::buffered::{Stopped, play_buffered};
 use crate::player::{Player, play_trace};
 use crate::session::Session;
 use crate::sink::Sink;
-use crate::trace::{tell_answer, tell_audited, tell_end};
+use crate::trace::{report_answer, report_audited, report_end};
 use std::alloc::{Allocator, Global};
 use std::io::{Read, Write};
 use table_tree::Reads;
@@ -97,17 +97,17 @@ impl<A: Allocator + Copy> Player for Unasked<A> {
         text: &mut String,
     ) -> Result<Option<Outcome>, EngineFault> {
         let ran = self.session.run_unasked(number, line);
-        tell_answer(&self.session, sink, text, number, ran)
+        report_answer(&self.session, sink, text, number, ran)
     }
 
     fn end<K: Sink>(&self, sink: &mut K, text: &mut String) -> Result<Outcome, EngineFault> {
         let steps = self.session.steps();
         let disagreements = self.session.disagreements();
         match self.session.audited(&mut Reads::new()) {
-            Ok(None) => tell_end(sink, text, steps, disagreements),
+            Ok(None) => report_end(sink, text, steps, disagreements),
             Ok(Some(found)) => {
-                tell_audited(sink, text, Some(found))?;
-                tell_end(sink, text, steps, disagreements.saturating_add(1))
+                report_audited(sink, text, Some(found))?;
+                report_end(sink, text, steps, disagreements.saturating_add(1))
             }
             Err(_) => Err(EngineFault::NoMemory),
         }

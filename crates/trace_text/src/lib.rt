@@ -20,5 +20,5 @@ pub use player::{MOST_LINES, Player, play_trace};
 pub use report::ReportLine;
 pub use session::{Reported, Session, Stop, boot_line, told_memory};
 pub use sink::Sink;
-pub use trace::{faulted, replay, replay_with, tell, tell_answer, tell_audited, tell_end};
+pub use trace::{faulted, replay, replay_with, report_answer, report_audited, report_end, tell};
 pub use trace_reader::{Counting, EngineFault, Failed, Outcome, Source};

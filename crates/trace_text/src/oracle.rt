@@ -6,7 +6,7 @@ ghost use Rattle.ghost_spec.specs.Kept.{HasNextGeneration};
 ghost use Rattle.ghost_spec.specs.States.{contents_in};
 ghost use Rattle.call_table.specs.declared.reply.Call.{Call};
 ghost use Rattle.reference_model.specs.model.State.{Reference};
-ghost use Rattle.trace_text.specs.Oracles.{IsAgreed, IsFirstOfStep, StepAgrees, TellsShown, agreed, audited_lines, judged_lines, verdict_lines};
+ghost use Rattle.trace_text.specs.Oracles.{IsAgreed, IsFirstOfStep, StepAgrees, ReportsShown, agreed, audited_lines, judged_lines, verdict_lines};
 ghost use Rattle.trace_text.specs.Worlds.{Machine};
 
 use call_table::{Reply, Step};
@@ -67,7 +67,7 @@ pub trait Oracle {
     ) -> Result<Verdict, AllocError>
         requires cpu { cpu < before.layout.config.cpus }
         requires generation { HasNextGeneration ((contents_in before).cpu cpu).ticket step }
-        ensures told { IfOk result (TellsShown gives before cpu step reply after.now) };
+        ensures told { IfOk result (ReportsShown gives before cpu step reply after.now) };
 }
 
 /// The oracle of `replay`: it judges each step by the model, and audits the kept state against the walk. In a replay it
@@ -89,7 +89,7 @@ impl Oracle for GhostOracle {
     ) -> Result<Verdict, AllocError>
         requires cpu { cpu < before.layout.config.cpus }
         requires generation { HasNextGeneration ((contents_in before).cpu cpu).ticket step }
-        ensures told { IfOk result (TellsShown agreed before cpu step reply after.now) }
+        ensures told { IfOk result (ReportsShown agreed before cpu step reply after.now) }
         ensures judged { IfOk result (λ v. (v.judged ≡ None) ↔ StepAgrees before cpu step reply after.now.kept) }
         ensures first_judged { IfOk result (λ v. IfSome v.judged (IsFirstOfStep before cpu step reply after.now.kept)) }
         ensures audited { IfOk result

@@ -1,7 +1,7 @@
 //! Programs that carry a trace out line by line.
 ghost use Rattle.std.specs.Prelude.{◌≡◌, ◌<◌, ◌+◌, ◌^◌, ℕ, List, IfOk, OnErr};
 ghost use Rattle.trace_reader.specs.Ahead.{left};
-ghost use Rattle.trace_text.specs.Failures.{CountsReads, CountsWrites, TellsWrite};
+ghost use Rattle.trace_text.specs.Failures.{CountsReads, CountsWrites, ReportsWrite};
 ghost use Rattle.trace_text.specs.Played.{Enough, Plays, PlaysFront, WritesEnd, WritesEndFront};
 ghost use Rattle.trace_text.specs.Reports.{IsWriteBegun, IsWritten};
 ghost use Rattle.trace_text.specs.Session.{Answer};
@@ -48,13 +48,13 @@ pub trait Player {
         ensures front { OnErr result
             (PlaysFront does number line.now self.old (K.contents sink.old)
             (K.contents sink.new)) }
-        ensures counted { TellsWrite (K.failures sink.old) (K.failures sink.new) result };
+        ensures counted { ReportsWrite (K.failures sink.old) (K.failures sink.new) result };
 
     /// Ends the report of a whole trace.
     fn end<K: Sink>(&self, sink: &mut K, text: &mut String) -> Result<Outcome, EngineFault>
         ensures ok { IfOk result (WritesEnd ends self.now (K.contents sink.old) (K.contents sink.new)) }
         ensures front { OnErr result (WritesEndFront ends self.now (K.contents sink.old) (K.contents sink.new)) }
-        ensures counted { TellsWrite (K.failures sink.old) (K.failures sink.new) result };
+        ensures counted { ReportsWrite (K.failures sink.old) (K.failures sink.new) result };
 }
 
 /// Reads a trace line by line, lets a player carry it out, and writes its report. It reads ahead of the line that it

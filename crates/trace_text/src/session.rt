@@ -11,7 +11,7 @@ ghost use Rattle.table_tree.specs.Reading.{count_of};
 ghost use Rattle.ghost_oracle.specs.Counted.{HasRead};
 ghost use Rattle.trace_text.specs.View.{answer_of, body_at, kept_runs, machine_of, standing_of};
 ghost use Rattle.trace_lines.specs.Settings.{config_of, told_of};
-ghost use Rattle.trace_text.specs.Worlds.{IsWordOn, free_told, guest_free_told, tables_told, tree_told};
+ghost use Rattle.trace_text.specs.Worlds.{IsWordOn, shared_free_count, guest_free_count, tree_table_count, named_tree};
 
 use crate::fault::Fault;
 use crate::oracle::{Oracle, Verdict};
@@ -488,7 +488,7 @@ fn guest_body<A: Allocator>(world: &World<A>, slot: u64) -> Option<&Body<A>>
 
 /// The number of free frames of a guest's pool. An Empty guest has none.
 fn guest_free<A: Allocator>(world: &World<A>, slot: u64) -> usize
-    ensures { result ≡ guest_free_told (machine_of world.now) slot }
+    ensures { result ≡ guest_free_count (machine_of world.now) slot }
 {
     match guest_body(world, slot) {
         Some(body) => body.pool.free(),
@@ -498,7 +498,8 @@ fn guest_free<A: Allocator>(world: &World<A>, slot: u64) -> usize
 
 /// The word on a page's path at a level.
 fn word_on<A: Allocator>(world: &World<A>, tree: TreeName, page: u64, level: u64) -> Option<u64>
-    ensures { let m = machine_of world.now in IsWordOn m.layout.depth (tree_told m tree) page level result }
+    ensures { let m = machine_of world.now in
+        IsWordOn m.layout.depth (named_tree m tree) page level result }
 {
     let shared = &world.parts().shared;
     match tree {
@@ -515,7 +516,7 @@ fn word_on<A: Allocator>(world: &World<A>, tree: TreeName, page: u64, level: u64
 pub fn boot_line<A: Allocator>(world: &World<A>) -> Response
     ensures { let m = machine_of world.now in
         result
-        ≡ Response.Boot (tables_told m TreeName.Host) (tables_told m TreeName.Hyp) (free_told m) }
+        ≡ Response.Boot (tree_table_count m TreeName.Host) (tree_table_count m TreeName.Hyp) (shared_free_count m) }
 {
     let shared = &world.parts().shared;
     Response::Boot {

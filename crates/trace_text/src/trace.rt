@@ -4,9 +4,9 @@ ghost use Rattle.trace_text.specs.Oracles.{agreed, audited_lines, judged_lines, 
 ghost use Rattle.trace_text.specs.Ready.{IsReady};
 ghost use Rattle.trace_text.specs.Session.{RunsLine, at_start};
 ghost use Rattle.std.specs.Io.KnownBytes.{Appends};
-ghost use Rattle.trace_text.specs.Failures.{CountsReads, CountsWrites, TellsWrite};
+ghost use Rattle.trace_text.specs.Failures.{CountsReads, CountsWrites, ReportsWrite};
 ghost use Rattle.trace_text.specs.Replay.{Ends, IsBegun, IsReplayed, outcome_of};
-ghost use Rattle.trace_text.specs.Played.{EndsWith, Writes, WritesFront, lines_told};
+ghost use Rattle.trace_text.specs.Played.{EndsWith, Writes, WritesFront, reported_lines};
 ghost use Rattle.trace_text.specs.Texts.{text_of_report};
 ghost use Rattle.trace_text.specs.View.{answer_of, lines_reported, standing_of};
 
@@ -102,11 +102,11 @@ impl<'a, A: Allocator + Copy, O: Oracle> Player for Replaying<'a, A, O> {
         text: &mut String,
     ) -> Result<Option<Outcome>, EngineFault> {
         let ran = self.session.run(self.oracle, number, line);
-        tell_answer(&self.session, sink, text, number, ran)
+        report_answer(&self.session, sink, text, number, ran)
     }
 
     fn end<K: Sink>(&self, sink: &mut K, text: &mut String) -> Result<Outcome, EngineFault> {
-        tell_end(
+        report_end(
             sink,
             text,
             self.session.steps(),
@@ -116,7 +116,7 @@ impl<'a, A: Allocator + Copy, O: Oracle> Player for Replaying<'a, A, O> {
 }
 
 /// Writes the answer of the line of a number, and gives the outcome if that ends the run.
-pub fn tell_answer<A: Allocator + Copy, K: Sink>(
+pub fn report_answer<A: Allocator + Copy, K: Sink>(
     session: &Session<A>,
     sink: &mut K,
     text: &mut String,
@@ -126,13 +126,13 @@ pub fn tell_answer<A: Allocator + Copy, K: Sink>(
     ensures ok { IfOk result
         (Writes number (answer_of session.now ran) (K.contents sink.old) (K.contents sink.new)) }
     ensures front { OnErr result
-        (WritesFront (lines_told number (answer_of session.now ran)) (K.contents sink.old)
+        (WritesFront (reported_lines number (answer_of session.now ran)) (K.contents sink.old)
         (K.contents sink.new)) }
-    ensures counted { TellsWrite (K.failures sink.old) (K.failures sink.new) result }
+    ensures counted { ReportsWrite (K.failures sink.old) (K.failures sink.new) result }
 {
     match ran {
         Ok(reported) => {
-            tell_reported(session, sink, text, reported)?;
+            report_outcome(session, sink, text, reported)?;
             Ok(None)
         }
         Err(Stop::Fault(fault)) => {
@@ -144,7 +144,7 @@ pub fn tell_answer<A: Allocator + Copy, K: Sink>(
 }
 
 /// Writes what a line of the trace reports.
-fn tell_reported<A: Allocator + Copy, K: Sink>(
+fn report_outcome<A: Allocator + Copy, K: Sink>(
     session: &Session<A>,
     sink: &mut K,
     text: &mut String,
@@ -156,21 +156,21 @@ fn tell_reported<A: Allocator + Copy, K: Sink>(
     ensures front { OnErr result
         (WritesFront (lines_reported session.now reported) (K.contents sink.old)
         (K.contents sink.new)) }
-    ensures counted { TellsWrite (K.failures sink.old) (K.failures sink.new) result }
+    ensures counted { ReportsWrite (K.failures sink.old) (K.failures sink.new) result }
 {
     match reported {
         Reported::Nothing => Ok(()),
         Reported::Line(told) => tell(sink, text, ReportLine::Response(told)),
-        Reported::Step(told, verdict) => tell_step(sink, text, told, verdict),
+        Reported::Step(told, verdict) => report_step(sink, text, told, verdict),
         Reported::Maplets(tree) => match session.maplets(tree) {
-            Some(maplets) => tell_runs(sink, text, maplets.iter()),
+            Some(maplets) => report_runs(sink, text, maplets.iter()),
             None => Ok(()),
         },
     }
 }
 
 /// Writes the line of a step, and what the oracle found at it.
-fn tell_step<K: Sink>(
+fn report_step<K: Sink>(
     sink: &mut K,
     text: &mut String,
     told: Response,
@@ -182,14 +182,14 @@ fn tell_step<K: Sink>(
     ensures front { OnErr result
         (WritesFront (ReportLine.Response told ∷ verdict_lines verdict) (K.contents sink.old)
         (K.contents sink.new)) }
-    ensures counted { TellsWrite (K.failures sink.old) (K.failures sink.new) result }
+    ensures counted { ReportsWrite (K.failures sink.old) (K.failures sink.new) result }
 {
     tell(sink, text, ReportLine::Response(told))?;
-    tell_verdict(sink, text, verdict)
+    report_verdict(sink, text, verdict)
 }
 
 /// Writes what the oracle found at a step.
-fn tell_verdict<K: Sink>(
+fn report_verdict<K: Sink>(
     sink: &mut K,
     text: &mut String,
     verdict: Verdict,
@@ -199,14 +199,14 @@ fn tell_verdict<K: Sink>(
         (text_of_report (verdict_lines verdict))) }
     ensures front { OnErr result
         (WritesFront (verdict_lines verdict) (K.contents sink.old) (K.contents sink.new)) }
-    ensures counted { TellsWrite (K.failures sink.old) (K.failures sink.new) result }
+    ensures counted { ReportsWrite (K.failures sink.old) (K.failures sink.new) result }
 {
-    tell_judged(sink, text, verdict.judged)?;
-    tell_audited(sink, text, verdict.audited)
+    report_judged(sink, text, verdict.judged)?;
+    report_audited(sink, text, verdict.audited)
 }
 
 /// Writes what a judgement found, if anything.
-fn tell_judged<K: Sink>(
+fn report_judged<K: Sink>(
     sink: &mut K,
     text: &mut String,
     found: Option<Disagreement>,
@@ -215,7 +215,7 @@ fn tell_judged<K: Sink>(
         (Appends (K.contents sink.old) (K.contents sink.new)
         (text_of_report (judged_lines found))) }
     ensures front { OnErr result (WritesFront (judged_lines found) (K.contents sink.old) (K.contents sink.new)) }
-    ensures counted { TellsWrite (K.failures sink.old) (K.failures sink.new) result }
+    ensures counted { ReportsWrite (K.failures sink.old) (K.failures sink.new) result }
 {
     match found {
         Some(found) => tell(sink, text, ReportLine::Judged(found)),
@@ -224,7 +224,7 @@ fn tell_judged<K: Sink>(
 }
 
 /// Writes what an audit found, if anything.
-pub fn tell_audited<K: Sink>(
+pub fn report_audited<K: Sink>(
     sink: &mut K,
     text: &mut String,
     found: Option<Disagreement>,
@@ -233,7 +233,7 @@ pub fn tell_audited<K: Sink>(
         (Appends (K.contents sink.old) (K.contents sink.new)
         (text_of_report (audited_lines found))) }
     ensures front { OnErr result (WritesFront (audited_lines found) (K.contents sink.old) (K.contents sink.new)) }
-    ensures counted { TellsWrite (K.failures sink.old) (K.failures sink.new) result }
+    ensures counted { ReportsWrite (K.failures sink.old) (K.failures sink.new) result }
 {
     match found {
         Some(found) => tell(sink, text, ReportLine::Audited(found)),
@@ -242,14 +242,14 @@ pub fn tell_audited<K: Sink>(
 }
 
 /// Writes a line for each run of maplets.
-fn tell_runs<K: Sink>(sink: &mut K, text: &mut String, runs: Runs<'_>) -> Result<(), EngineFault>
+fn report_runs<K: Sink>(sink: &mut K, text: &mut String, runs: Runs<'_>) -> Result<(), EngineFault>
     ensures ok { OnOk result
         (Appends (K.contents sink.old) (K.contents sink.new)
         (text_of_report (map ReportLine.Response (map Response.Run runs.entry)))) }
     ensures front { OnErr result
         (WritesFront (map ReportLine.Response (map Response.Run runs.entry))
         (K.contents sink.old) (K.contents sink.new)) }
-    ensures counted { TellsWrite (K.failures sink.old) (K.failures sink.new) result }
+    ensures counted { ReportsWrite (K.failures sink.old) (K.failures sink.new) result }
 {
     for run in runs {
         tell(sink, text, ReportLine::Response(Response::Run(run)))?;
@@ -262,7 +262,7 @@ pub fn tell<K: Sink>(sink: &mut K, text: &mut String, told: ReportLine) -> Resul
     ensures ok { OnOk result
         (Appends (K.contents sink.old) (K.contents sink.new) (text_of_report (told ∷ []))) }
     ensures front { OnErr result (WritesFront (told ∷ []) (K.contents sink.old) (K.contents sink.new)) }
-    ensures counted { TellsWrite (K.failures sink.old) (K.failures sink.new) result }
+    ensures counted { ReportsWrite (K.failures sink.old) (K.failures sink.new) result }
 {
     text.clear();
     text.write(told).map_err(|_| EngineFault::NoMemory)?;
@@ -274,7 +274,7 @@ pub fn tell<K: Sink>(sink: &mut K, text: &mut String, told: ReportLine) -> Resul
 }
 
 /// Ends the report of a whole trace: its numbers of step lines and of disagreements.
-pub fn tell_end<K: Sink>(
+pub fn report_end<K: Sink>(
     sink: &mut K,
     text: &mut String,
     steps: u64,
@@ -286,7 +286,7 @@ pub fn tell_end<K: Sink>(
     ensures front { OnErr result
         (WritesFront (ReportLine.End steps disagreements ∷ []) (K.contents sink.old)
         (K.contents sink.new)) }
-    ensures counted { TellsWrite (K.failures sink.old) (K.failures sink.new) result }
+    ensures counted { ReportsWrite (K.failures sink.old) (K.failures sink.new) result }
 {
     let told = ReportLine::End {
         steps,
@@ -313,7 +313,7 @@ pub fn faulted<K: Sink>(
     ensures front { OnErr result
         (WritesFront (ReportLine.Fault line fault ∷ []) (K.contents sink.old)
         (K.contents sink.new)) }
-    ensures counted { TellsWrite (K.failures sink.old) (K.failures sink.new) result }
+    ensures counted { ReportsWrite (K.failures sink.old) (K.failures sink.new) result }
 {
     tell(sink, text, ReportLine::Fault { line, fault })?;
     Ok(Outcome::Fault)

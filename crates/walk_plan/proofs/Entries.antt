@@ -9,7 +9,7 @@ use Rattle.descriptor.specs.declared.State.{State}
 use Rattle.descriptor.specs.declared.Level.{Level}
 use Rattle.descriptor.specs.declared.Desc.{Desc}
 use Rattle.descriptor.specs.declared.Desc.TheVariants.{Table as table_word}
-use Rattle.descriptor.specs.Word.{desc_of, CanBeSaid, level_pages, field, has_leaves, is_upper, has_leaf_form, leaf_or_malformed, kind_of_bits, prot_of_bits, state_of_bits}
+use Rattle.descriptor.specs.Word.{desc_of, IsEncodable, level_pages, field, has_leaves, is_upper, has_leaf_form, leaf_or_malformed, kind_of_bits, prot_of_bits, state_of_bits}
 use Rattle.descriptor.proofs.Unique.{form_right}
 use Rattle.page_state.specs.declared.entry.Entry.{Entry}
 use Rattle.page_state.specs.declared.entry.Entry.TheVariants.{Unmapped, Malformed, Annotated, Leaf}
@@ -45,7 +45,7 @@ advance_back x y n h = cc
 -- what words of trees say
 
 record IsSayable (l : Level) (x : Desc) : Type 0 where
-  says : IsWellFormed (entry_of_word x) → CanBeSaid l (word_of_entry (entry_of_word x))
+  says : IsWellFormed (entry_of_word x) → IsEncodable l (word_of_entry (entry_of_word x))
 
 either : (l : Level) (b : Bool) (x y : Desc)
     → (b ≡ true → IsSayable l x)
@@ -54,11 +54,11 @@ either : (l : Level) (b : Bool) (x y : Desc)
 either l true x y f g = f refl
 either l false x y f g = g refl
 
-leaf_said : (l : Level) (form : Bool) (k : Option Kind) (p : Option Prot) (s : Option State) (f : ℕ)
+leaf_from_c : (l : Level) (form : Bool) (k : Option Kind) (p : Option Prot) (s : Option State) (f : ℕ)
     → (form ≡ true → IsTrue (has_leaves l) × (f < 2 ^ 36) × (f % level_pages l ≡ 0))
     → IsSayable l (leaf_or_malformed form k p s f)
-leaf_said l true (Some k) (Some p) (Some s) f h = record { says = λ e. h refl }
-leaf_said l form k p s f h = record { says = λ e. absurd e }
+leaf_from_c l true (Some k) (Some p) (Some s) f h = record { says = λ e. h refl }
+leaf_from_c l form k p s f h = record { says = λ e. absurd e }
 
 aligned : (a : Bool) (f s : ℕ) → a && (f % s == 0) ≡ true → f % s ≡ 0
 aligned a f s h = eq-same (f % s) 0 (and-both a (f % s == 0) h).1
@@ -83,7 +83,7 @@ word_said l w =
     (λ p. either l _ _ _ (λ q. record { says = λ e. owner_said w p q })
     (λ _. either l (is_upper l && field w 0 12 == 3 && field w 48 16 == 0) (table_word (record { 0 = field w 12 36 }))
     (leaf_of l w) (λ _. record { says = λ e. absurd e })
-    (λ _. leaf_said l _ (kind_of_bits (field w 2 4)) (prot_of_bits (field w 6 2) (field w 54 1))
+    (λ _. leaf_from_c l _ (kind_of_bits (field w 2 4)) (prot_of_bits (field w 6 2) (field w 54 1))
     (state_of_bits (field w 55 2)) (field w 12 36)
     (λ t. (
       (form_right l w (and-both (has_leaf_form l w) (field w 12 36 % level_pages l == 0) t).0).leaves,

@@ -4,7 +4,7 @@ use Rattle.std.proofs.lemmas.Bool.Decides.{nat_tests}
 use Rattle.std.proofs.Math.Nat.{mul-le-mul_left, mul-le-mul_right, pow-succ', pow-zero}
 use native.Mathlib.Numerals.{unary_clauses}
 use Rattle.std.specs.declared.boxed.Box.{Box}
-use Rattle.descriptor.specs.Word.{desc_of, CanBeSaid}
+use Rattle.descriptor.specs.Word.{desc_of, IsEncodable}
 use Rattle.page_state.specs.declared.entry.Entry.{Entry}
 use Rattle.page_state.specs.declared.entry.Entry.TheVariants.{Malformed, Unmapped, Annotated, Leaf}
 use Rattle.page_state.specs.Entries.{advance, IsRangeEntry, entry_of_word, word_of_entry}
@@ -166,7 +166,7 @@ module _ {A : Type 0} where
   slot_child (suc n) b s c k e = rw e (case_child _ _ b ∙ simp unary_clauses)
 
 -- every page under a word has an entry that the last level can say
-pub said_range : (d : ℕ) (x : Entry) → d < 4 → CanBeSaid (level_at d) (word_of_entry x) → IsRangeEntry (2 ^ (9 * d)) x
+pub said_range : (d : ℕ) (x : Entry) → d < 4 → IsEncodable (level_at d) (word_of_entry x) → IsRangeEntry (2 ^ (9 * d)) x
 said_range d Malformed p h = absurd h
 said_range d Unmapped p h = tt
 said_range d (Annotated o) p h = h

@@ -1,7 +1,7 @@
 -- Changes of some pages of a block, their parts, and the tables that they need. Depths count the
 -- levels below, pages the block's.
 use Rattle.std.specs.Prelude.{ℕ, ◌-◌, ◌*◌, ◌%◌, ◌<◌, ◌≤◌, ◌==◌, ◌&&◌, ◌||◌, nat_lt, nat_le, min, Bool, if◌then◌else◌}
-use Rattle.descriptor.specs.Word.{CanBeSaid}
+use Rattle.descriptor.specs.Word.{IsEncodable}
 use Rattle.descriptor.specs.declared.Level.TheVariants.{Three}
 use Rattle.page_state.specs.declared.entry.Entry.{Entry}
 use Rattle.page_state.specs.Entries.{advance, IsRangeEntry, word_of_entry}
@@ -11,8 +11,8 @@ use Rattle.page_state.specs.Geometries.{block_pages}
 use Rattle.walk_plan.specs.declared.change.Change.{Change}
 
 -- words of the last level can encode an entry and the entries to which it advances on `n` pages
-abbrev pub CanBeSaidOn : ℕ → Entry → Type 0
-CanBeSaidOn n e = (i : ℕ) → i < n → CanBeSaid Three (word_of_entry (advance e i))
+abbrev pub IsEncodableOn : ℕ → Entry → Type 0
+IsEncodableOn n e = (i : ℕ) → i < n → IsEncodable Three (word_of_entry (advance e i))
 
 -- a change of some pages of a block
 pub record IsChange (depth : ℕ) (c : Change) : Type 0 where

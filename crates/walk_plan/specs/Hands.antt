@@ -14,7 +14,7 @@ use Rattle.page_state.specs.Tables.{Edit, put, need, returned, edited, all_given
 use Rattle.page_state.specs.Trees.{Tree as ReferenceTree}
 use Rattle.table_tree.specs.declared.tree.Tree.{Tree}
 use Rattle.table_tree.specs.View.{tree_of, uses, tables_of, root_of, spares_of}
-use Rattle.walk_plan.specs.Changes.{CanBeSaidOn}
+use Rattle.walk_plan.specs.Changes.{IsEncodableOn}
 
 -- the edit of a range, whose first page gets the entry
 abbrev pub edit_on : PageRange → Entry → Edit
@@ -25,7 +25,7 @@ edit_on r e = put r.first.0 r.count e
 pub record FitsTree (g : Geometry) (r : PageRange) (e : Entry) : Type 0 where
   pub some : 1 ≤ r.count
   pub within : end_of r ≤ input_pages g
-  pub entry_in : CanBeSaidOn r.count e
+  pub entry_in : IsEncodableOn r.count e
 
 module _ {A : Type 0} where
   -- the tables that an edit of a tree needs

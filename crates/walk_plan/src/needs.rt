@@ -11,7 +11,7 @@ ghost use Rattle.table_tree.specs.Meaning.{IsDepth};
 ghost use Rattle.table_tree.specs.Reading.{count_of};
 ghost use Rattle.table_tree.specs.Shape.{IsShaped};
 ghost use Rattle.table_tree.specs.View.{meaning, tree_of};
-ghost use Rattle.walk_plan.specs.Changes.{CanBeSaidOn, IsChange, pages_of};
+ghost use Rattle.walk_plan.specs.Changes.{IsEncodableOn, IsChange, pages_of};
 ghost use Rattle.walk_plan.specs.Hands.{FitsTree, edit_on, need_in};
 ghost use Rattle.walk_plan.specs.inner.Needs.{block_need, block_parts, met, sum_to, table_need};
 ghost use Rattle.walk_plan.specs.inner.Looks.{edges};

@@ -32,10 +32,10 @@ use Rattle.walked_tables.specs.ByFrames.{index_at, led, led_at, led_case, level_
 use Rattle.walked_tables.specs.Values.{advance_decoded, advance_said, value_of}
 use Rattle.walked_tables.proofs.FromRoots.{none_past, past_div}
 use Rattle.walked_tables.proofs.Slots.{found_in, part_of}
-use Rattle.walked_tables.specs.Own.{as_plain, desc_entry, entry_said, HasWords, IsPlainWalk}
+use Rattle.walked_tables.specs.Own.{as_plain, desc_entry, entry_of_said, HasWords, IsPlainWalk}
 
 -- what a word gives
-value_entry : (x : Decoded) (d : Desc) → entry_of x Owned ≡ Some d → entry_said (value_of x) ≡ entry_of_word d
+value_entry : (x : Decoded) (d : Desc) → entry_of x Owned ≡ Some d → entry_of_said (value_of x) ≡ entry_of_word d
 value_entry Malformed d e = ap desc_entry e
 value_entry Unmapped d e = ap desc_entry e
 value_entry (Annotated o g) d e = ap desc_entry e
@@ -62,7 +62,7 @@ decoded_on (Cleared m) n = refl
 decoded_on (Leaf m) n = leaf_on (prot_of m.access m.execute) m.frame (kind_of m.memory) _ n
 decoded_on (Table f) n = refl
 
-said_on : (o : Option Said) (n : ℕ) → entry_said (option_advance advance_said o n) ≡ advance (entry_said o) n
+said_on : (o : Option Said) (n : ℕ) → entry_of_said (option_advance advance_said o n) ≡ advance (entry_of_said o) n
 said_on None n = refl
 said_on (Some s) n = decoded_on s.0 n
 
@@ -77,7 +77,7 @@ own : (d w : ℕ)
     → entry_of (decoded_of model_profile (level_at d) w) Owned ≡ Some (desc_of (plain.level_at d) w)
 own d w r = (law (level_at d) w r).entry Owned ∙ ap (λ l. Some (desc_of l w)) (same_level d)
 
-gives_same : (d w page : ℕ) → w < 2 ^ 64 → entry_said (word_gives model_profile d w page) ≡ plain.word_gives d w page
+gives_same : (d w page : ℕ) → w < 2 ^ 64 → entry_of_said (word_gives model_profile d w page) ≡ plain.word_gives d w page
 gives_same d w page r =
     said_on (value_of (decoded_of model_profile (level_at d) w)) (page % block_pages d)
     ∙ ap (λ e. advance e (page % block_pages d))
@@ -124,9 +124,9 @@ leads_same pages (suc d) w r =
     sym (ap (led_of pages) (own (suc d) w r)) ∙ decoded_leads pages (decoded_of model_profile (level_at (suc d)) w)
 
 led_both : (o : Option TablePage) (a : Option Said) (b : TablePage → Option Said) (e : Entry) (f : PlainPage → Entry)
-    → entry_said a ≡ e
-    → ((n : TablePage) → o ≡ Some n → entry_said (b n) ≡ f (as_plain n))
-    → entry_said (led_case a b o) ≡ plain.led_case e f (option_map as_plain o)
+    → entry_of_said a ≡ e
+    → ((n : TablePage) → o ≡ Some n → entry_of_said (b n) ≡ f (as_plain n))
+    → entry_of_said (led_case a b o) ≡ plain.led_case e f (option_map as_plain o)
 led_both None a b e f h k = h
 led_both (Some n) a b e f h k = k n refl
 
@@ -156,7 +156,7 @@ led_words pages (suc d) w next e h = by_decoded (decoded_of model_profile (level
 module _ (pages : List TablePage) (words : All HasWords pages) (page : ℕ) where
   tables_same : (d : ℕ) (table : TablePage)
       → HasWords table
-      → entry_said (said_by model_profile pages d table page)
+      → entry_of_said (said_by model_profile pages d table page)
       ≡ plain.entry_by (map as_plain pages) d (as_plain table) page
   unfolding said_by plain.entry_by
   tables_same zero table h =
@@ -178,7 +178,7 @@ plain_walk g pages root page words own_words =
     let first : page / size ≡ 0 =
     part_of model_profile pages size 0 page (size_some (levels_below g + 1)) (omega arith) (omega (arith, l)) in
     ap
-    (λ k. entry_said
+    (λ k. entry_of_said
     (led_case None (λ r. said_by model_profile pages (levels_below g) r page) (slice_get (root ∷ []) k))) first
     ∙ tables_same pages words page (levels_below g) root own_words
     ∙ sym
@@ -189,7 +189,7 @@ plain_walk g pages root page words own_words =
     let past : slice_get (root ∷ []) (page / size) ≡ None =
     none_past (root ∷ []) (page / size)
     (past_div size 1 page (size_some (levels_below g + 1)) (omega (arith, l))) in
-    ap (λ o. entry_said (led_case None (λ r. said_by model_profile pages (levels_below g) r page) o)) past
+    ap (λ o. entry_of_said (led_case None (λ r. said_by model_profile pages (levels_below g) r page) o)) past
     ∙ sym
     (if-false (nat_lt page size)
     (plain.entry_by (map as_plain pages) (levels_below g) (as_plain root) page) entry.Unmapped

@@ -31,9 +31,9 @@ desc_entry (Some desc) = entry_of_word desc
 desc_entry None = Malformed
 
 -- the entry of what a page has; the state for words that say none doesn't matter here
-abbrev pub entry_said : Option Said → Entry
-entry_said (Some said) = desc_entry (entry_of said.0 Owned)
-entry_said None = Unmapped
+abbrev pub entry_of_said : Option Said → Entry
+entry_of_said (Some said) = desc_entry (entry_of said.0 Owned)
+entry_of_said None = Unmapped
 
 -- each page has, by the model's profile and a root of one page, what c_tables gives it
 abbrev pub IsPlainWalk : Type 0
@@ -41,7 +41,7 @@ IsPlainWalk =
     (geometry : Geometry) (pages : List TablePage) (root : TablePage) (page : ℕ)
     → All HasWords pages
     → HasWords root
-    → entry_said (map_by_frames model_profile pages (levels_below geometry) (root ∷ []) page)
+    → entry_of_said (map_by_frames model_profile pages (levels_below geometry) (root ∷ []) page)
     ≡ plain_map geometry (map as_plain pages) (as_plain root) page
 
 -- a table that the one walk reaches, as the other says it

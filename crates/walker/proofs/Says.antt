@@ -12,7 +12,7 @@ use Rattle.table_tree.specs.declared.table.Slot.TheVariants.{Word}
 use Rattle.table_tree.specs.Meaning.{level_at, slot_at}
 use Rattle.table_tree.specs.Shape.{IsEntryWord}
 use Rattle.table_tree.specs.Tight.{HasEntry, IsOneWord}
-use Rattle.walker.specs.inner.Steps.{IsSaidBy}
+use Rattle.walker.specs.inner.Steps.{IsEntryOfParts}
 use Rattle.walker.proofs.Opened.{same_word}
 
 start : (x : Entry) (d : ℕ) → advance x (0 * block_pages d) ≡ x
@@ -44,7 +44,7 @@ module _ {A : Type 0} where
       → IsEntryWord (d + 1) word
       → entry_of_word (desc_of (level_at (d + 1)) word) ≡ first
       → fits_word (d + 1) first ≡ true
-      → IsSaidBy d t word
+      → IsEntryOfParts d t word
   says_made d w word t first e h on said value fits = record {
     said = said;
     fits = ap (λ x. fits_word (d + 1) x) value ∙ fits;

@@ -1,6 +1,6 @@
 //! The effect of a change on one slot: a word in the place of a word, or a table to go on in, which is put back.
 ghost use Rattle.std.specs.Prelude.{◌≡◌, ◌≢◌, ℕ, ◌+◌, ◌*◌, ◌<◌, ◌≤◌, None, IfSome, MatchOption, is_some, length, Decides};
-ghost use Rattle.descriptor.specs.Word.{desc_of, CanBeSaid};
+ghost use Rattle.descriptor.specs.Word.{desc_of, IsEncodable};
 ghost use Rattle.page_state.specs.Entries.{advance, entry_of_word, word_of_entry};
 ghost use Rattle.page_state.specs.Geometries.{block_pages};
 ghost use Rattle.table_tree.specs.Ahead.{GoesAhead};
@@ -12,7 +12,7 @@ ghost use Rattle.table_tree.specs.Slots.{fresh};
 ghost use Rattle.table_tree.specs.Stocks.{frames_of};
 ghost use Rattle.table_tree.specs.Tight.{HasEntry, IsOneWord, IsTight};
 ghost use Rattle.walk_plan.specs.Changes.{IsChange, changed_entry, stays_one_word};
-ghost use Rattle.walker.specs.inner.Steps.{IsFilled, IsFirst, IsFound, IsOpened, IsPutBack, IsSaidBy};
+ghost use Rattle.walker.specs.inner.Steps.{IsFilled, IsFirst, IsFound, IsOpened, IsPutBack, IsEntryOfParts};
 
 use page_state::Entry;
 use std::alloc::Allocator;
@@ -81,7 +81,7 @@ pub(crate) fn look_for<A: Allocator>(
 /// The difference between the words of neighbouring parts of a block that has the entry.
 fn step_of(depth: u32, entry: Entry) -> u64
     requires depth_in { IsDepth (depth + 1) }
-    requires entry_in { CanBeSaid (level_at (depth + 1)) (word_of_entry entry) }
+    requires entry_in { IsEncodable (level_at (depth + 1)) (word_of_entry entry) }
     ensures { GoesAhead depth entry result }
 {
     match entry {
@@ -98,7 +98,7 @@ fn fill<A: Allocator>(table: &mut Table<A>, depth: u32, entry: Entry)
     requires wide { IsWide table.old }
     requires blank { IsBlank table.old }
     requires tree { IsNew table.old }
-    requires entry_in { CanBeSaid (level_at (depth + 1)) (word_of_entry entry) }
+    requires entry_in { IsEncodable (level_at (depth + 1)) (word_of_entry entry) }
     ensures frame { frame_of table.new ≡ frame_of table.old }
     ensures filled { IsFilled depth entry table.new }
 {
@@ -176,7 +176,7 @@ fn goes_on<A: Allocator>(table: &Table<A>, depth: u32, first: Entry, reads: &mut
 fn folded<A: Allocator>(table: &Table<A>, depth: u32, reads: &mut Reads) -> Option<u64>
     requires depth_in { IsDepth (depth + 1) }
     requires wide { IsWide table.now }
-    ensures found { MatchOption result (IsOneWord depth table.now → ⊥) (λ w. IsSaidBy depth table.now w) }
+    ensures found { MatchOption result (IsOneWord depth table.now → ⊥) (λ w. IsEntryOfParts depth table.now w) }
     ensures reads { count_of reads.new ≤ count_of reads.old + 512 }
 {
     page_state::laws::block_tests();

@@ -16,7 +16,7 @@ use Rattle.page_state.specs.Map.{empty_map, is_within}
 use Rattle.reference_model.specs.declared.changes.Changes.{Changes}
 use Rattle.reference_model.specs.model.Changes.{edit_of}
 use Rattle.reference_model.specs.help.Conditions.{IsUsable}
-use Rattle.reference_model.specs.claims.RunLaws.{BootRowsTold}
+use Rattle.reference_model.specs.claims.RunLaws.{EachBootRow}
 use Rattle.reference_model.specs.model.State.{Shared, plain_row}
 use Rattle.reference_model.specs.model.Step.{shared_need, shared_after}
 use Rattle.page_state.specs.declared.layout.Config.{Config}
@@ -145,7 +145,7 @@ module _ (meet : BlocksMeet) (m : Memory) (c : Config) (g : Geometry) (h : Chang
       pooled free = record (boot_shared l) { free = free }
 
 -- the rows of the carve-out are those of the boot state
-pub rows_are : BootRowsTold
+pub rows_are : EachBootRow
     → (l : Layout)
     → IsCarveEnough l
     → IsUsable l

@@ -16,7 +16,7 @@ use Rattle.reference_model.specs.model.Rules.{call_uses}
 use Rattle.hypercalls.specs.Stands.{at_place}
 use Rattle.world.specs.declared.merge.Histories.{Histories}
 use Rattle.world.specs.declared.merge.Places.{Places}
-use Rattle.world.specs.Merges.{IsMerged, TellsMerged, log_at}
+use Rattle.world.specs.Merges.{IsMerged, ReportsMerged, log_at}
 use Rattle.world.specs.inner.Merging.{LogName, on, by, has, whole, left, first_of, rest_of, IsNext, after_call, left_by}
 use Rattle.call_table.specs.contracts.reply.CallPartialEq.TheImpl as calls
 use Rattle.call_table.proofs.Equality.{calls_tell}
@@ -234,7 +234,7 @@ fewer rests later c next is (suc n) less = elim (both (c.cpu == n)) [
 ]
 
 -- what was told so far are the calls that were given
-pub record IsToldOf (h : Histories) (g : Places) (told : List (ℕ × Step × Reply)) : Type 0 where
+pub record IsWhyIllegal (h : Histories) (g : Places) (told : List (ℕ × Step × Reply)) : Type 0 where
   pub done : List Call
   pub begun : IsBegun (whole h) (left h g) done
   pub tells : map (λ c. (c.cpu, c.step, c.reply)) done ≡ told
@@ -370,14 +370,14 @@ module _ (h : Histories) (g : Places) where
   none_left a b d e (by k) = e k
 
 -- nothing told at the start, and one more for each call
-pub told_none : (h : Histories) (g : Places) → ((x : LogName) → left h g x ≡ whole h x) → IsToldOf h g []
+pub told_none : (h : Histories) (g : Places) → ((x : LogName) → left h g x ≡ whole h x) → IsWhyIllegal h g []
 told_none h g same = record { done = []; begun = begins (whole h) (left h g) same; tells = refl }
 
 pub told_more : (h : Histories) (g k : Places) (told : List (ℕ × Step × Reply)) (c : Call)
-    → IsToldOf h g told
+    → IsWhyIllegal h g told
     → IsNext (left h g) c
     → ((x : LogName) → left h k x ≡ after_call (left h g) c x)
-    → IsToldOf h k (told ++ (c.cpu, c.step, c.reply) ∷ [])
+    → IsWhyIllegal h k (told ++ (c.cpu, c.step, c.reply) ∷ [])
 told_more h g k told c t next is = record {
   done = t.done ++ c ∷ [];
   begun = goes_further (whole h) (left h g) (left h k) t.done c t.begun next is;
@@ -387,9 +387,9 @@ told_more h g k told c t next is = record {
 }
 
 pub told_all : (h : Histories) (g : Places) (told : List (ℕ × Step × Reply))
-    → IsToldOf h g told
+    → IsWhyIllegal h g told
     → ((x : LogName) → left h g x ≡ [])
-    → TellsMerged h told
+    → ReportsMerged h told
 told_all h g told t empty =
     record {
       all = t.done;

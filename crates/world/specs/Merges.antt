@@ -41,7 +41,7 @@ module _ (h : Histories) where
     pub by : (cpu : ℕ) → calls_by cpu all ≡ log_by cpu
 
   -- what such a list says: CPU, step and reply of each call
-  pub record TellsMerged (told : List (ℕ × Step × Reply)) : Type 0 where
+  pub record ReportsMerged (told : List (ℕ × Step × Reply)) : Type 0 where
     pub all : List Call
     pub merged : IsMerged all
     pub tells : map (λ c. (c.cpu, c.step, c.reply)) all ≡ told

@@ -102,10 +102,10 @@ impl<A: Allocator> World<A> {
     ghost use Rattle.ghost_oracle.specs.Counted.{HasRead, tables_of_parts};
     ghost use Rattle.ghost_oracle.specs.Poked.{ArePartsPoked, IsBeside, parts_trees, raw_beside_of};
     ghost use Rattle.ghost_spec.specs.States.{ghost_state};
-    ghost use Rattle.ghost_oracle.specs.Found.{walked_state, HasRowsOf, SaysMaplets, SaysRows};
+    ghost use Rattle.ghost_oracle.specs.Found.{walked_state, HasRowsOf, HasSameMaplets, HasSameRows};
     ghost use Rattle.hypercalls.specs.Stands.{kept_of, parts_layout, state_of};
     ghost use Rattle.call_table.specs.declared.reply.Call.{Call};
-    ghost use Rattle.world.specs.Merges.{AreLogsOf, IsMerged, IsOfHistory, TellsMerged};
+    ghost use Rattle.world.specs.Merges.{AreLogsOf, IsMerged, IsOfHistory, ReportsMerged};
     ghost use Rattle.world.specs.declared.merge.MergeFault.TheVariants.{NoOrder};
 
     /// A copy of all logs: of the VM part, the Shared part, the 64 guests and each CPU. They are those of one legal history, so
@@ -129,7 +129,7 @@ impl<A: Allocator> World<A> {
         global: Global,
         histories: &Histories,
     ) -> Result<Vec<(u64, Step, Reply)>, MergeFault>
-        ensures merged { IfOk result (λ v. TellsMerged histories.now v.items) }
+        ensures merged { IfOk result (λ v. ReportsMerged histories.now v.items) }
         ensures no_order { IfErr result (λ f. f ≡ NoOrder → (all : List Call) → IsMerged histories.now all → ⊥) }
         ensures of_history { IfErr result (λ f. f ≡ NoOrder → IsOfHistory histories.now → ⊥) }
     {
@@ -166,8 +166,8 @@ impl<A: Allocator> World<A> {
     pub fn to_ghost(&self, global: Global) -> Result<Ghost, AllocError>
         ensures state { IfOk result (λ g. ghost_state g ≡ state_of self.now.parts) }
         ensures layout { IfOk result (λ g. layout_of g.layout ≡ parts_layout self.now.parts) }
-        ensures maplets { IfOk result (SaysMaplets self.now.parts) }
-        ensures rows { IfOk result (SaysRows self.now.parts) }
+        ensures maplets { IfOk result (HasSameMaplets self.now.parts) }
+        ensures rows { IfOk result (HasSameRows self.now.parts) }
         ensures walked { IfOk result
             (λ g. ghost_state g
             ≡ walked_state (parts_layout self.now.parts) (state_of self.now.parts)) }

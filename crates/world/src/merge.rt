@@ -3,7 +3,7 @@ ghost use Rattle.std.specs.Prelude.{◌≡◌, ◌<◌, ◌↔◌, ◌==◌, ℕ
 ghost use Rattle.call_table.specs.declared.reply.Call.{Call};
 ghost use Rattle.reference_model.specs.model.Parts.{is_slot, Part, guest_part};
 ghost use Rattle.reference_model.specs.model.Rules.{call_uses};
-ghost use Rattle.world.specs.Merges.{IsMerged, TellsMerged, log_at, merge_number};
+ghost use Rattle.world.specs.Merges.{IsMerged, ReportsMerged, log_at, merge_number};
 ghost use Rattle.world.specs.declared.merge.MergeFault.TheVariants.{NoOrder};
 ghost use Rattle.world.specs.inner.Merging.{after_call, first_of, left, on, rest_of, whole, IsNext, IsPlaced, LogName, left_at, IsAdvanced};
 
@@ -286,7 +286,7 @@ pub(crate) fn merged(
     global: Global,
     histories: &Histories,
 ) -> Result<Vec<(u64, Step, Reply)>, MergeFault>
-    ensures merged { IfOk result (λ v. TellsMerged histories.now v.items) }
+    ensures merged { IfOk result (λ v. ReportsMerged histories.now v.items) }
     ensures no_order { IfErr result (λ f. f ≡ NoOrder → (all : List Call) → IsMerged histories.now all → ⊥) }
 {
     let Ok(mut places) = all_starts(global, histories) else {

@@ -5,7 +5,7 @@ ghost use Rattle.ghost_spec.specs.States.{contents_in};
 ghost use Rattle.ghost_judge.specs.Audits.{AreMapsKept};
 ghost use Rattle.ghost_oracle.specs.Found.{scratch_rows, HasRowsOf};
 ghost use Rattle.ghost_oracle.specs.Poked.{IsRawPoked, raw_beside_of, raw_trees};
-ghost use Rattle.ghost_oracle.specs.RawFound.{IsRawFound, SaysRawRows};
+ghost use Rattle.ghost_oracle.specs.RawFound.{IsRawFound, HasSameRawRows};
 ghost use Rattle.ghost_oracle.specs.declared.trees.Source.TheVariants.{Maplets, Words};
 
 use ghost_oracle::raw::{RawParts, Which};
@@ -51,7 +51,7 @@ impl<A: Allocator> RawWorld<A> {
     /// What the world keeps beside its words: maplets and owner rows, which no poke changes.
     pub fn to_ghost(&self, global: Global) -> Result<GhostLists, AllocError>
         ensures found { IfOk result (IsRawFound Maplets self.now.parts) }
-        ensures rows { IfOk result (SaysRawRows self.now.parts) }
+        ensures rows { IfOk result (HasSameRawRows self.now.parts) }
         ensures frames { IfOk result (HasRowsOf (layout_of self.now.parts.layout)) }
         ensures ready { IfOk result AreMapsKept }
     {

@@ -193,7 +193,7 @@ fn judged(rt: &impl Abort, alloc: Global, reply: Reply, post: &Ghost) -> Option<
 }
 
 /// The model's reply to the share, and the state after it.
-fn foretold(rt: &impl Abort, alloc: Global) -> (Reply, Ghost) {
+fn predicted(rt: &impl Abort, alloc: Global) -> (Reply, Ghost) {
     let pre = state(rt, alloc);
     assert!(rt; pre.lists().layout.config.cpus == 1);
     assert!(rt; has_next_generation(&pre, 0, SHARE));
@@ -203,7 +203,7 @@ fn foretold(rt: &impl Abort, alloc: Global) -> (Reply, Ghost) {
 #[test]
 fn judges_a_step(rt: HostRuntime) {
     let alloc = rt.alloc();
-    let (reply, post) = foretold(&rt, alloc);
+    let (reply, post) = predicted(&rt, alloc);
     assert_eq!(rt; reply, DONE);
     expect_told(&rt, judged(&rt, alloc, DONE, &post), None);
     let wrong = Disagreement::Reply {

@@ -3,7 +3,7 @@
 ghost use Rattle.std.specs.Prelude.{◌≡◌, ◌↔◌, ◌≤◌, true, false, All, IsTrue, drop};
 ghost use Rattle.page_state.specs.Rows.{advance_row, HasPageBelow};
 ghost use Rattle.run_list.specs.Runs.{run_end, InReach, IsCoarsest, AreInReach, StartsFrom};
-ghost use Rattle.ghost_rows.specs.RowsTold.{lender, row_with, AreReached, AreCarried, AreNear, AreSteady, IsAnnotatedOn, IsLentOn, IsOn, IsPassed, IsTold};
+ghost use Rattle.ghost_rows.specs.ListedRows.{lender, row_with, AreReached, AreCarried, AreNear, AreSteady, IsAnnotatedOn, IsLentOn, IsOn, IsPassed, IsListedAs};
 
 use super::pieces::{Lists, Stands, Steady, is_of_host};
 use page_state::{Lent, Owner, PageRange, Row};
@@ -27,11 +27,11 @@ impl Near {
 }
 
 /// Whether the lists say of each frame of a run what the run has there. If they do, they go on to its end.
-fn are_pieces_told(lists: &Lists, stands: &mut Stands, run: &Run<Row>) -> bool
+fn are_pieces_listed(lists: &Lists, stands: &mut Stands, run: &Run<Row>) -> bool
     requires lists { AreReached lists.now }
     requires run { InReach HasPageBelow run.now }
     requires stands { AreCarried run.now.pages.first.0 stands.old lists.now }
-    ensures told { IsTrue result ↔ IsTold lists.now run.now }
+    ensures told { IsTrue result ↔ IsListedAs lists.now run.now }
     ensures stands { IsTrue result → AreCarried (run_end run.now) stands.new lists.now }
 {
     let first = run.pages.first.0;
@@ -116,7 +116,7 @@ fn is_lent_on(lent: &[Run<Row>], place: usize, steady: Steady, run: &Run<Row>) -
 /// either list has exactly these frames, and their sharer and use are known up to its end. If so, the lists go on to
 /// its end; else they stay.
 #[inline(always)]
-fn is_told_whole(lists: &Lists, stands: &mut Stands, steady: Steady, run: &Run<Row>) -> bool
+fn is_listed_whole(lists: &Lists, stands: &mut Stands, steady: Steady, run: &Run<Row>) -> bool
     requires run { InReach HasPageBelow run.now }
     requires stands { AreCarried run.now.pages.first.0 stands.old lists.now }
     requires steady { AreSteady run.now.pages.first.0 steady lists.now }
@@ -154,19 +154,19 @@ fn is_told_whole(lists: &Lists, stands: &mut Stands, steady: Steady, run: &Run<R
 /// Whether the lists give each frame of a run the row of the run. If they do, they go on to its end. The sharer and the
 /// use of its frames are looked up first.
 #[inline(never)]
-fn is_told_anew(lists: &Lists, near: &mut Near, run: &Run<Row>) -> bool
+fn is_listed_anew(lists: &Lists, near: &mut Near, run: &Run<Row>) -> bool
     requires lists { AreReached lists.now }
     requires run { InReach HasPageBelow run.now }
     requires near { AreNear run.now.pages.first.0 near.old lists.now }
-    ensures told { IsTrue result ↔ IsTold lists.now run.now }
+    ensures told { IsTrue result ↔ IsListedAs lists.now run.now }
     ensures near { IsTrue result → AreNear (run_end run.now) near.new lists.now }
 {
     let steady = lists.steady(&mut near.stands, run.pages.first.0);
     near.quiet = steady.quiet();
-    if is_told_whole(lists, &mut near.stands, steady, run) {
+    if is_listed_whole(lists, &mut near.stands, steady, run) {
         return true;
     }
-    if !are_pieces_told(lists, &mut near.stands, run) {
+    if !are_pieces_listed(lists, &mut near.stands, run) {
         return false;
     }
     lists.go_on(&mut near.stands, run.pages.first.0 + run.pages.count);
@@ -175,31 +175,31 @@ fn is_told_anew(lists: &Lists, near: &mut Near, run: &Run<Row>) -> bool
 
 /// The same. Most runs can be compared as a whole, and none of their frames is shared or used.
 #[inline(always)]
-fn is_told(lists: &Lists, near: &mut Near, run: &Run<Row>) -> bool
+fn is_run_listed(lists: &Lists, near: &mut Near, run: &Run<Row>) -> bool
     requires lists { AreReached lists.now }
     requires run { InReach HasPageBelow run.now }
     requires near { AreNear run.now.pages.first.0 near.old lists.now }
-    ensures told { IsTrue result ↔ IsTold lists.now run.now }
+    ensures told { IsTrue result ↔ IsListedAs lists.now run.now }
     ensures near { IsTrue result → AreNear (run_end run.now) near.new lists.now }
 {
     let quiet = Steady::quiet_to(near.quiet);
-    if is_told_whole(lists, &mut near.stands, quiet, run) {
+    if is_listed_whole(lists, &mut near.stands, quiet, run) {
         return true;
     }
-    is_told_anew(lists, near, run)
+    is_listed_anew(lists, near, run)
 }
 
 /// Whether the lists give each frame its row. The place in each list goes on with the runs, so that no list is
 /// searched.
-pub(crate) fn are_told(lists: &Lists, rows: &[Run<Row>]) -> bool
+pub(crate) fn are_listed(lists: &Lists, rows: &[Run<Row>]) -> bool
     requires lists { AreReached lists.now }
     requires coarsest { IsCoarsest advance_row rows.now }
     requires reach { AreInReach HasPageBelow rows.now }
-    ensures { IsTrue result ↔ All (IsTold lists.now) rows.now }
+    ensures { IsTrue result ↔ All (IsListedAs lists.now) rows.now }
 {
     let mut near = Near::FIRST;
     for i in 0..rows.len() {
-        if !is_told(lists, &mut near, &rows[i]) {
+        if !is_run_listed(lists, &mut near, &rows[i]) {
             return false;
         }
     }

@@ -3,7 +3,7 @@ ghost use Rattle.std.specs.Prelude.{◌≡◌, ℕ, ◌+◌, ◌-◌, ◌^◌, �
 ghost use Rattle.page_state.specs.Rows.{advance_row, HasPageBelow};
 ghost use Rattle.run_list.specs.Runs.{run_end, run_map, IsCoarsest, AreInReach};
 ghost use Rattle.run_list.specs.Parts.{IsEndedAt};
-ghost use Rattle.ghost_rows.specs.RowsTold.{lent_told, usage_told, number_told, is_of_host as is_of_host_told, is_plain as is_plain_use, is_quiet, owner_told, quiet_to, GoesOn, IsNear, IsStanding, IsCarried};
+ghost use Rattle.ghost_rows.specs.ListedRows.{lent_told, usage_told, number_told, is_of_host as is_of_host_told, is_plain as is_plain_use, is_quiet, owner_told, quiet_to, GoesOn, IsNear, IsStanding, IsCarried};
 
 use page_state::{Lent, Owner, Row, Usage};
 use run_list::{Advance, Run, RunList};
@@ -272,7 +272,13 @@ fn row_at(runs: &[Run<Row>], here: &Stand, frame: u64) -> Option<Row>
 }
 
 impl Lists {
-    ghost use Rattle.ghost_rows.specs.RowsTold.{told, AreReached, AreStanding, AreCarried, IsSteady};
+    ghost use Rattle.ghost_rows.specs.ListedRows.{
+      told,
+      AreReached,
+      AreStanding,
+      AreCarried,
+      IsSteady,
+    };
 
     /// Twice the runs of the annotations and of the loans: about the number of pieces if frames are in few uses, one
     /// for each run and one for the frames before it.

@@ -30,9 +30,9 @@ use Rattle.reference_model.specs.model.Step.{refusal, is_touched}
 use Rattle.page_state.specs.Tables.{edited_map}
 use Rattle.reference_model.specs.declared.changes.MapChange.{MapChange}
 use Rattle.reference_model.specs.model.Changes.{change, edit_of, same_cpu, no_changes}
-use Rattle.reference_model.specs.help.RowChanges.{told_row}
-use Rattle.reference_model.specs.help.ConditionChanges.{told_condition}
-use Rattle.reference_model.specs.help.Conditions.{row_in, Condition, outside, hosts, HostFits, hyp_says, Legal, IsUsable, in_shared, in_hand, is_inside, IsGood}
+use Rattle.reference_model.specs.help.RowChanges.{touched_row}
+use Rattle.reference_model.specs.help.ConditionChanges.{touched_condition}
+use Rattle.reference_model.specs.help.Conditions.{row_in, Condition, outside, hosts, HostFits, hyp_entry_by, Legal, IsUsable, in_shared, in_hand, is_inside, IsGood}
 use Rattle.page_state.proofs.Blocks.{empty_means}
 use Rattle.page_state.proofs.Common.{both, if-true, if-false}
 use Rattle.coarse_trees.specs.Coarsest.{IsInRange}
@@ -73,11 +73,11 @@ module _ (l : Layout) (s : Contents) (legal : Legal l s) (usable : IsUsable l) (
       → HostFits q (moved_to (always c) first n legal.condition q) (edited_map s.shared.host.map (edit_of e) q))
       → ((q : ℕ)
       → is_within first n q ≡ true
-      → row_in q c ≡ told_row cpu None (host_rule valid allowed e value).changes q)
+      → row_in q c ≡ touched_row cpu None (host_rule valid allowed e value).changes q)
       → ((q : ℕ)
       → is_within first n q ≡ true
       → is_memory l q ≡ true
-      → c ≡ told_condition cpu None (host_rule valid allowed e value).changes q)
+      → c ≡ touched_condition cpu None (host_rule valid allowed e value).changes q)
       → IsKept step e
   unfolding used_of
   same-keeps step named e first n c calm unused hand good range touched was fits told goes p =
@@ -90,7 +90,7 @@ module _ (l : Layout) (s : Contents) (legal : Legal l s) (usable : IsUsable l) (
           host = fits;
           hyp =
               λ q. legal.maps.hyp q
-              ∙ moved-fact (hyp_says q) (always c) first n legal.condition q (λ w. ap (hyp_says q) (was q w));
+              ∙ moved-fact (hyp_entry_by q) (always c) first n legal.condition q (λ w. ap (hyp_entry_by q) (was q w));
           hyp_below = legal.maps.hyp_below;
           touched = touched;
           told = told;

@@ -21,8 +21,8 @@ use Rattle.page_state.specs.declared.row.Row.{Row}
 use Rattle.page_state.specs.Layouts.{Layout, is_memory, hyp_page}
 use Rattle.reference_model.specs.model.Owner.{row_of}
 use Rattle.page_state.specs.Tables.{Edit, freed, returned, edited}
-use Rattle.reference_model.specs.help.Conditions.{Condition, outside, hosts, hyps, HostFits, hyp_says, MapsFit, HeldFit, Legal, IsUsable, row_in, in_shared, in_vm, in_hand, one, table_uses, is_inside, IsGood}
-use Rattle.reference_model.specs.claims.RunLaws.{BootLegal, BootRowsTold}
+use Rattle.reference_model.specs.help.Conditions.{Condition, outside, hosts, hyps, HostFits, hyp_entry_by, MapsFit, HeldFit, Legal, IsUsable, row_in, in_shared, in_vm, in_hand, one, table_uses, is_inside, IsGood}
+use Rattle.reference_model.specs.claims.RunLaws.{BootLegal, EachBootRow}
 use Rattle.reference_model.proofs.Boot.{spare-frames, boot_sound}
 use Rattle.page_state.proofs.Common.{both, if-true, if-false}
 use Rattle.page_state.proofs.Counts.{count_next, count_parts, count_split}
@@ -138,7 +138,7 @@ module _ (l : Layout) (enough : IsCarveEnough l) (usable : IsUsable l) where
           Leaf (record { 0 = carve_first l + (hyp_page f - hyp_page (carve_first l)) }) RW Normal Owned in
           let n : carve_first l + (hyp_page f - hyp_page (carve_first l)) ≡ f = omega arith in
           if-true (is_within (hyp_page (carve_first l)) l.memory.carve.count (hyp_page f)) e Unmapped in_hyp
-          ∙ ap (λ k. leaf RW k Owned) n ∙ ap (hyp_says f) (sym (carved f w))
+          ∙ ap (λ k. leaf RW k Owned) n ∙ ap (hyp_entry_by f) (sym (carved f w))
       | inr w ↦
           let out : is_within (hyp_page (carve_first l)) l.memory.carve.count (hyp_page f) ≡ false = hyp-out f w in
           let e : Entry =
@@ -164,7 +164,7 @@ module _ (l : Layout) (enough : IsCarveEnough l) (usable : IsUsable l) where
 
       says : (a b : Bool) (f : ℕ)
           → a ≡ false
-          → Unmapped ≡ hyp_says f (if a then hyps SharedPool else (if b then hosts else outside))
+          → Unmapped ≡ hyp_entry_by f (if a then hyps SharedPool else (if b then hosts else outside))
       says true b f w = cc
       says false true f w = refl
       says false false f w = refl
@@ -309,7 +309,7 @@ boot-row true false r f h e = let bad : false ≡ true = h refl in cc
 boot-row false true r f h e = e refl
 boot-row false false r f h e = refl
 
-pub boot_rows : BootRowsTold
+pub boot_rows : EachBootRow
 unfolding booted
 boot_rows l f enough usable =
     boot-row (in_carve l f) (is_memory l f) (row_of l (boot_without_rows l) f) f (usable.carve f)

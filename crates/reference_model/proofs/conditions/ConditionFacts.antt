@@ -5,7 +5,7 @@ use Rattle.descriptor.specs.declared.State.{State}
 use Rattle.descriptor.specs.declared.State.TheVariants.{Owned, SharedOwned, SharedBorrowed}
 use Rattle.page_state.specs.declared.row.Usage.TheVariants.{Plain, SharedPool, VmPool, InHand}
 use Rattle.reference_model.specs.help.ConditionChanges.{ConditionOnce, ConditionsMove}
-use Rattle.reference_model.specs.help.Conditions.{Condition, outside, hosts, with_hyp, hyps, with_guest, guests, lent_back, hyp_says, guest_condition, Legal, in_shared, in_vm, in_hand, one, shared_uses, guest_uses, is_inside}
+use Rattle.reference_model.specs.help.Conditions.{Condition, outside, hosts, with_hyp, hyps, with_guest, guests, lent_back, hyp_entry_by, guest_condition, Legal, in_shared, in_vm, in_hand, one, shared_uses, guest_uses, is_inside}
 use Rattle.page_state.specs.Layouts.{Layout}
 use Rattle.reference_model.specs.model.State.{Contents}
 use Rattle.reference_model.specs.model.Step.{made}
@@ -18,7 +18,7 @@ use Rattle.reference_model.proofs.conditions.SoundOf.{one-true, in_shared-is, in
 -- what one condition says of a frame, another says too
 record Follows (f : ℕ) (c d : Condition) : Type 0 where
   inside : is_inside c ≡ is_inside d
-  hyp : hyp_says f c ≡ hyp_says f d
+  hyp : hyp_entry_by f c ≡ hyp_entry_by f d
   named : (state : State) (v g : ℕ) → c ≡ guest_condition state v g → d ≡ guest_condition state v g
   shared : in_shared c ≡ true → in_shared d ≡ true
   vm : (v : ℕ) → in_vm v c ≡ true → in_vm v d ≡ true

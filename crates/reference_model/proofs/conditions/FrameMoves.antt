@@ -13,11 +13,11 @@ use Rattle.page_state.specs.Tables.{edited_map, need}
 use Rattle.page_state.specs.Trees.{no_tree}
 use Rattle.reference_model.specs.declared.changes.Changes.{Changes}
 use Rattle.reference_model.specs.model.Changes.{edit_of, cpu_by, touched}
-use Rattle.reference_model.specs.help.ConditionChanges.{conditions_after, told_condition}
-use Rattle.reference_model.specs.help.Conditions.{Condition, HostFits, hyp_says, MapsFit, HeldFit, IsOfLayout, Legal, row_in, in_shared, in_hand, one, shared_uses, table_uses, is_inside, IsGood}
+use Rattle.reference_model.specs.help.ConditionChanges.{conditions_after, touched_condition}
+use Rattle.reference_model.specs.help.Conditions.{Condition, HostFits, hyp_entry_by, MapsFit, HeldFit, IsOfLayout, Legal, row_in, in_shared, in_hand, one, shared_uses, table_uses, is_inside, IsGood}
 use Rattle.reference_model.specs.model.Owner.{is_in_hand, is_frame}
 use Rattle.reference_model.specs.model.Parts.{Names}
-use Rattle.reference_model.specs.help.RowChanges.{told_row, first_of}
+use Rattle.reference_model.specs.help.RowChanges.{touched_row, first_of}
 use Rattle.reference_model.specs.model.State.{Cpu, Contents, put_at, no_cpu}
 use Rattle.reference_model.specs.model.Step.{is_touched, changed, with_rows, own_row, shared_after, shared_need}
 use Rattle.reference_model.specs.model.Used.{used_of, put_back}
@@ -46,7 +46,7 @@ pub record StepKept (l : Layout) (s : Contents) (condition : ℕ → Condition) 
   pub told : (f : ℕ)
       → is_memory l f ≡ true
       → is_touched h f ≡ true
-      → own_row l cpu slot step (changed l.depth h (used_of n slot cpu s)) f ≡ told_row cpu slot h f
+      → own_row l cpu slot step (changed l.depth h (used_of n slot cpu s)) f ≡ touched_row cpu slot h f
   pub moved : (f : ℕ) → legal.condition f ≡ conditions_after l cpu slot h condition f
   -- all frames of the touched range are memory, or none is
   pub whole : (f : ℕ) → is_touched h f ≡ true → is_memory l f ≡ is_memory l (first_of (touched h))
@@ -61,11 +61,11 @@ pub record FramesMove (l : Layout) (s : Contents) (condition : ℕ → Condition
   pub same_use : (f : ℕ) → is_within first n f ≡ true → in_shared (condition f) ≡ in_shared (c f)
   pub host : (p : ℕ) → HostFits p (moved_to c first n condition p) (edited_map s.shared.host.map (edit_of r.host) p)
   pub hyp : (f : ℕ)
-      → edited_map s.shared.hyp.map (edit_of r.hyp) (hyp_page f) ≡ hyp_says f (moved_to c first n condition f)
+      → edited_map s.shared.hyp.map (edit_of r.hyp) (hyp_page f) ≡ hyp_entry_by f (moved_to c first n condition f)
   pub hyp_below : (p : ℕ) → p < hyp_page 0 → edited_map s.shared.hyp.map (edit_of r.hyp) p ≡ Unmapped
   pub touched : (f : ℕ) → is_touched r f ≡ is_within first n f
-  pub told : (f : ℕ) → is_within first n f ≡ true → row_in f (c f) ≡ told_row cpu slot r f
-  pub goes : (f : ℕ) → is_within first n f ≡ true → is_memory l f ≡ true → c f ≡ told_condition cpu slot r f
+  pub told : (f : ℕ) → is_within first n f ≡ true → row_in f (c f) ≡ touched_row cpu slot r f
+  pub goes : (f : ℕ) → is_within first n f ≡ true → is_memory l f ≡ true → c f ≡ touched_condition cpu slot r f
   pub host_range : IsInRange l.depth (edit_of r.host)
   pub hyp_range : IsInRange l.depth (edit_of r.hyp)
   pub hand : (d f : ℕ)
@@ -171,7 +171,7 @@ module _ {l : Layout} {s : Contents} (legal : Legal l s) {cpu : ℕ} {slot : Opt
     told = λ f mem h. let w = sym (m.touched f) ∙ h in own f mem w ∙ m.told f w;
     moved =
         λ f. same f
-        ∙ moved-told l c (told_condition cpu slot r f) first n legal.condition f (is_touched r f) (m.touched f)
+        ∙ moved-told l c (touched_condition cpu slot r f) first n legal.condition f (is_touched r f) (m.touched f)
         (m.inside f) (legal.of_layout.inside f) (m.goes f);
     whole = λ f h.
         let here = sym (m.touched f) ∙ h in

@@ -27,7 +27,7 @@ use Rattle.reference_model.specs.model.Parts.{shared_and_guest}
 use Rattle.reference_model.specs.model.Used.{Used, used_of}
 use Rattle.reference_model.specs.model.Step.{refusal, guest_after}
 use Rattle.page_state.specs.Tables.{all_given, needs, freed, returned, edited}
-use Rattle.reference_model.specs.help.Conditions.{Condition, hyps, HostFits, hyp_says, guest_condition, Legal, IsUsable, in_shared, in_vm, one, table_uses, guest_uses}
+use Rattle.reference_model.specs.help.Conditions.{Condition, hyps, HostFits, hyp_entry_by, guest_condition, Legal, IsUsable, in_shared, in_vm, one, table_uses, guest_uses}
 use Rattle.page_state.proofs.Common.{both, eq-self, and-left}
 use Rattle.page_state.proofs.Counts.{count_next}
 use Rattle.coarse_trees.proofs.Stays.{root_is_coarsest}
@@ -95,8 +95,8 @@ module _ (l : Layout) (s : Contents) (legal : Legal l s) (usable : IsUsable l) (
       host = host-same;
       hyp =
           λ f. legal.maps.hyp f
-          ∙ moved-fact (hyp_says f) (always (hyps (VmPool v))) hand.first.0 hand.count legal.condition f
-          (λ w. ap (hyp_says f) (was f w));
+          ∙ moved-fact (hyp_entry_by f) (always (hyps (VmPool v))) hand.first.0 hand.count legal.condition f
+          (λ w. ap (hyp_entry_by f) (was f w));
       hyp_below = legal.maps.hyp_below;
       touched = λ q. hand-range (s.cpu cpu).hand q some;
       told = λ q w. refl;

@@ -14,7 +14,7 @@ use Rattle.page_state.specs.declared.row.Row.{Row}
 use Rattle.call_table.specs.declared.step.Step.{Step}
 use Rattle.call_table.specs.declared.step.Step.TheVariants.{ShareHyp, UnshareHyp, DonateHyp, HypDonateHost, HostAbort, HostTranslate, HypTranslate, OwnerOf, Fund, Unfund, ShareGuest, UnshareGuest, DonateGuest, GuestShareHost, GuestUnshareHost, Install, Topup, ReclaimPage, ReclaimPool, FinishGuest, GuestRelax, GuestTranslate, MarkDying, VmReserve, VmOpen, VcpuLoad, VcpuPut, Teardown, VmRelease}
 use Rattle.call_table.specs.declared.step.VmId.{VmId}
-use Rattle.reference_model.specs.help.Conditions.{Condition, outside, hosts, with_hyp, hyps, with_guest, guests, lent_back, HostFits, hyp_says, guest_condition, Legal, IsUsable, row_in}
+use Rattle.reference_model.specs.help.Conditions.{Condition, outside, hosts, with_hyp, hyps, with_guest, guests, lent_back, HostFits, hyp_entry_by, guest_condition, Legal, IsUsable, row_in}
 use Rattle.page_state.specs.Entries.{advance}
 use Rattle.page_state.specs.EntryTests.{is_in, is_free_page, with_rights, is_unmapped, leaf, entry_frame, state_eq, with_state}
 use Rattle.reference_model.specs.model.GuestRules.{is_guest, phase_eq, is_protected}
@@ -401,7 +401,7 @@ abbrev Of : Condition → ℕ → ℕ → Type 0
 Of c v g = (c ≡ guests v g) ⊎ (c ≡ lent_back v g)
 
 hyp-leaf : (p f v g : ℕ) (state : State) (c d : Condition)
-    → IsLeafOf f state (hyp_says p c)
+    → IsLeafOf f state (hyp_entry_by p c)
     → (p ≡ f → c ≡ d)
     → Of d v g
     → ⊥

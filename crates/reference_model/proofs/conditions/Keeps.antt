@@ -18,14 +18,14 @@ use Rattle.reference_model.specs.model.Rule.{Rule, reads}
 use Rattle.reference_model.specs.model.Rules.{rule, names, guest_slot}
 use Rattle.reference_model.specs.model.VmRules.{teardown, vcpu_load}
 use Rattle.reference_model.specs.model.Step.{refusal, changed, with_rows, is_touched, own_row, fails, made, Answered, used_by}
-use Rattle.reference_model.specs.help.ConditionChanges.{told_condition}
-use Rattle.reference_model.specs.help.RowChanges.{told_row, with_told, first_of}
+use Rattle.reference_model.specs.help.ConditionChanges.{touched_condition}
+use Rattle.reference_model.specs.help.RowChanges.{touched_row, with_touched_rows, first_of}
 use Rattle.reference_model.specs.model.Changes.{touched}
 use Rattle.reference_model.specs.declared.changes.Changes.{Changes}
 use Rattle.page_state.specs.declared.row.Row.{Row}
 use mathlib.Core.Path.{fun_ext}
 use Rattle.reference_model.specs.help.Conditions.{Legal, IsUsable}
-use Rattle.reference_model.specs.claims.RunLaws.{LegalKeeps, RowsTold}
+use Rattle.reference_model.specs.claims.RunLaws.{LegalKeeps, TouchedRows}
 use Rattle.page_state.proofs.Common.{both, and-left}
 use Rattle.reference_model.proofs.Steps.{used-self}
 use Rattle.reference_model.proofs.conditions.Moves.{LegalAlone, moved-none}
@@ -156,7 +156,7 @@ module _ (l : Layout) (usable : IsUsable l) (s : Contents) (legal : Legal l s) (
         legal = kept.0;
         told = λ f m k. absurd (none f k);
         moved = λ f. kept.1 f
-            ∙ moved-none l (told_condition cpu slot h f) (legal.condition f) f (is_touched h f) (none f);
+            ∙ moved-none l (touched_condition cpu slot h f) (legal.condition f) f (is_touched h f) (none f);
         whole =
             λ f k. absurd (none f k);
       }
@@ -261,9 +261,9 @@ with-row : Used → (ℕ → Row) → Used
 with-row y row = record y { shared = record y.shared { row = row } }
 
 -- the rows that a made step finds again are those that its changes tell
-pub rows_told : RowsTold
-unfolding used_of made with_rows with_told with-row
-rows_told l s cpu slot step usable known legal named h =
+pub touched_rows : TouchedRows
+unfolding used_of made with_rows with_touched_rows with-row
+touched_rows l s cpu slot step usable known legal named h =
     let x = used_of (names step) slot cpu s in
     let c = (rule l cpu slot step x).changes in
     let y = changed l.depth c x in
@@ -271,4 +271,4 @@ rows_told l s cpu slot step usable known legal named h =
     ap (with-row y)
     (fun_ext
     (λ f. choose-same (is_memory l f) (is_memory l (first_of (touched c))) (is_touched c f)
-    (own_row l cpu slot step y f) (told_row cpu slot c f) (y.shared.row f) (kept.whole f) (kept.told f)))
+    (own_row l cpu slot step y f) (touched_row cpu slot c f) (y.shared.row f) (kept.whole f) (kept.told f)))

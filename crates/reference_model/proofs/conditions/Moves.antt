@@ -14,7 +14,7 @@ use Rattle.page_state.specs.Map.{Map, update, is_within}
 use Rattle.reference_model.specs.model.State.{Cpu, Slot, Contents, put_at, empty}
 use Rattle.page_state.specs.Layouts.{Layout, is_memory, hyp_page}
 use Rattle.reference_model.specs.claims.Sound.{IsOne, SlotsAgree, LoadsAgree, GuestsAgree, TicketsAgree, IsTicketOf, IsGuestOf, HasTicket, StageFits}
-use Rattle.reference_model.specs.help.Conditions.{Condition, outside, hosts, with_hyp, hyps, with_guest, guests, lent_back, HostFits, hyp_says, guest_condition, GuestFits, row_in, in_vm, is_inside, Legal}
+use Rattle.reference_model.specs.help.Conditions.{Condition, outside, hosts, with_hyp, hyps, with_guest, guests, lent_back, HostFits, hyp_entry_by, guest_condition, GuestFits, row_in, in_vm, is_inside, Legal}
 use Rattle.page_state.proofs.Common.{both, eq-same, if-true, if-false}
 
 -- the conditions with others on a range, each told by its frame
@@ -108,19 +108,19 @@ within-hyp first n f = elim (both (is_within first n f)) [
 ]
 
 pub hyp-moved : (m : Map) (first n : ℕ) (e : Entry) (c condition : ℕ → Condition)
-    → ((f : ℕ) → is_within first n f ≡ true → advance e (f - first) ≡ hyp_says f (c f))
-    → ((f : ℕ) → m (hyp_page f) ≡ hyp_says f (condition f))
+    → ((f : ℕ) → is_within first n f ≡ true → advance e (f - first) ≡ hyp_entry_by f (c f))
+    → ((f : ℕ) → m (hyp_page f) ≡ hyp_entry_by f (condition f))
     → (f : ℕ)
-    → update m (hyp_page first) n e (hyp_page f) ≡ hyp_says f (moved_to c first n condition f)
+    → update m (hyp_page first) n e (hyp_page f) ≡ hyp_entry_by f (moved_to c first n condition f)
 hyp-moved m first n e c condition new old f = elim (both (is_within first n f)) [
   | inl h ↦
       let at : hyp_page f - hyp_page first ≡ f - first = omega arith in
       if-true (is_within (hyp_page first) n (hyp_page f)) (advance e (hyp_page f - hyp_page first)) (m (hyp_page f))
       (within-hyp first n f ∙ h)
-      ∙ ap (advance e) at ∙ new f h ∙ ap (hyp_says f) (sym (moved-in c first n condition f h))
+      ∙ ap (advance e) at ∙ new f h ∙ ap (hyp_entry_by f) (sym (moved-in c first n condition f h))
   | inr h ↦ if-false (is_within (hyp_page first) n (hyp_page f)) (advance e (hyp_page f - hyp_page first))
       (m (hyp_page f)) (within-hyp first n f ∙ h)
-      ∙ old f ∙ ap (hyp_says f) (sym (moved-out c first n condition f h))
+      ∙ old f ∙ ap (hyp_entry_by f) (sym (moved-out c first n condition f h))
 ]
 
 pub hyp-below : (m : Map) (first n : ℕ) (e : Entry)

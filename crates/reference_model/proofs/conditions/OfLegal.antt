@@ -10,7 +10,7 @@ use Rattle.page_state.specs.declared.entry.Entry.TheVariants.{Unmapped}
 use Rattle.page_state.specs.EntryTests.{maps_frame, state_eq, leaf, annotation}
 use Rattle.reference_model.specs.model.State.{Contents}
 use Rattle.page_state.specs.Layouts.{Layout, hyp_page}
-use Rattle.reference_model.specs.help.Conditions.{Condition, outside, hosts, with_hyp, hyps, with_guest, guests, lent_back, HostFits, hyp_says, guest_condition, MapsFit, HeldFit}
+use Rattle.reference_model.specs.help.Conditions.{Condition, outside, hosts, with_hyp, hyps, with_guest, guests, lent_back, HostFits, hyp_entry_by, guest_condition, MapsFit, HeldFit}
 use Rattle.reference_model.specs.claims.RunLaws.{LegalRows}
 use Rattle.page_state.proofs.Cases.{by_lt}
 use Rattle.page_state.proofs.Common.{eq-same, eq-self, and-left, and-right}
@@ -64,7 +64,7 @@ fits-alone p f (with_guest v g) state e h m = leaf-frame _ p f SharedOwned state
 fits-alone p f (guests v g) state e h m = annotated-none f (2 + v) state e h m
 fits-alone p f (lent_back v g) state e h m = leaf-frame _ p f SharedBorrowed state e h m
 
-says-alone : (q f : ℕ) (c : Condition) (state : State) → maps_frame f state (hyp_says q c) ≡ true → q ≡ f
+says-alone : (q f : ℕ) (c : Condition) (state : State) → maps_frame f state (hyp_entry_by q c) ≡ true → q ≡ f
 says-alone q f with_hyp state m = leaf-frame RW q f SharedBorrowed state (leaf RW q SharedBorrowed) refl m
 says-alone q f (hyps u) state m = leaf-frame RW q f Owned state (leaf RW q Owned) refl m
 says-alone q f c state m = cc
@@ -78,7 +78,7 @@ module _ (s : Contents) (condition : ℕ → Condition) (maps : MapsFit s condit
       (λ low. unmapped-none f state (s.shared.hyp.map p) (maps.hyp_below p low) m)
       (λ high.
       let at : p ≡ hyp_page (p - hyp_page 0) = omega arith in
-      let says : s.shared.hyp.map p ≡ hyp_says (p - hyp_page 0) (condition (p - hyp_page 0)) =
+      let says : s.shared.hyp.map p ≡ hyp_entry_by (p - hyp_page 0) (condition (p - hyp_page 0)) =
       ap (s.shared.hyp.map) at ∙ maps.hyp (p - hyp_page 0) in
       let same : p - hyp_page 0 ≡ f =
       says-alone (p - hyp_page 0) f (condition (p - hyp_page 0)) state (sym (ap (maps_frame f state) says) ∙ m) in

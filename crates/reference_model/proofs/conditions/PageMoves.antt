@@ -16,9 +16,9 @@ use Rattle.reference_model.specs.declared.changes.Changes.{Changes}
 use Rattle.reference_model.specs.model.Changes.{same_cpu}
 use Rattle.reference_model.specs.model.Step.{guest_after, guest_need}
 use Rattle.page_state.specs.Tables.{put, edited}
-use Rattle.reference_model.specs.help.ConditionChanges.{told_condition}
-use Rattle.reference_model.specs.help.RowChanges.{told_row}
-use Rattle.reference_model.specs.help.Conditions.{row_in, Condition, HostFits, hyp_says, guest_condition, GuestFits, IsMemoryLeaf, Legal, IsUsable, in_shared, in_vm, in_hand, one, is_inside, IsGood}
+use Rattle.reference_model.specs.help.ConditionChanges.{touched_condition}
+use Rattle.reference_model.specs.help.RowChanges.{touched_row}
+use Rattle.reference_model.specs.help.Conditions.{row_in, Condition, HostFits, hyp_entry_by, guest_condition, GuestFits, IsMemoryLeaf, Legal, IsUsable, in_shared, in_vm, in_hand, one, is_inside, IsGood}
 use Rattle.page_state.proofs.Common.{both, if-true, if-false}
 use Rattle.coarse_trees.proofs.Stays.{edit_keeps_coarsest}
 use Rattle.reference_model.proofs.conditions.Moves.{moved_to, host-moved, moved-in, moved-out, moved-fact}
@@ -41,10 +41,10 @@ pub record PagesMove (l : Layout) (s : Contents) (condition : ℕ → Condition)
   pub same_vm : (q : ℕ) → is_within f n q ≡ true → in_vm v (condition q) ≡ in_vm v (c q)
   pub same_hand : (d q : ℕ) → is_within f n q ≡ true → in_hand d (condition q) ≡ in_hand d (c q)
   pub no_hand : (d q : ℕ) → is_within f n q ≡ true → in_hand d (c q) ≡ false
-  pub same_hyp : (q : ℕ) → is_within f n q ≡ true → hyp_says q (condition q) ≡ hyp_says q (c q)
+  pub same_hyp : (q : ℕ) → is_within f n q ≡ true → hyp_entry_by q (condition q) ≡ hyp_entry_by q (c q)
   pub host : (q : ℕ) → is_within f n q ≡ true → HostFits q (c q) (advance e (q - f))
-  pub told : (cpu q : ℕ) → is_within f n q ≡ true → row_in q (c q) ≡ told_row cpu (Some v) (two_ranges f e g e' n) q
-  pub goes : (cpu q : ℕ) → is_within f n q ≡ true → c q ≡ told_condition cpu (Some v) (two_ranges f e g e' n) q
+  pub told : (cpu q : ℕ) → is_within f n q ≡ true → row_in q (c q) ≡ touched_row cpu (Some v) (two_ranges f e g e' n) q
+  pub goes : (cpu q : ℕ) → is_within f n q ≡ true → c q ≡ touched_condition cpu (Some v) (two_ranges f e g e' n) q
   -- no other page of the guest has the frame, nor its page another frame
   pub old_page : (q p : ℕ) (state : State)
       → is_within f n q ≡ true
@@ -176,7 +176,7 @@ module _ (l : Layout) (s : Contents) (legal : Legal l s) (usable : IsUsable l) (
           good = m.good;
           same_use = m.same_shared;
           host = host-moved s.shared.host.map f n e c legal.condition m.host legal.maps.host;
-          hyp = λ q. legal.maps.hyp q ∙ moved-fact (hyp_says q) c f n legal.condition q (m.same_hyp q);
+          hyp = λ q. legal.maps.hyp q ∙ moved-fact (hyp_entry_by q) c f n legal.condition q (m.same_hyp q);
           hyp_below = legal.maps.hyp_below;
           touched = λ q. refl;
           told = m.told cpu;

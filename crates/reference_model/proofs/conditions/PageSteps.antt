@@ -24,11 +24,11 @@ use Rattle.reference_model.specs.model.Parts.{shared_and_guest, is_good_vm}
 use Rattle.reference_model.specs.model.Rules.{names}
 use Rattle.reference_model.specs.model.Used.{Used, used_of}
 use Rattle.reference_model.specs.model.Step.{refusal, shared_need, guest_need}
-use Rattle.reference_model.specs.help.ConditionChanges.{told_condition}
-use Rattle.reference_model.specs.help.RowChanges.{told_row}
+use Rattle.reference_model.specs.help.ConditionChanges.{touched_condition}
+use Rattle.reference_model.specs.help.RowChanges.{touched_row}
 use Rattle.page_state.specs.declared.row.Usage.TheVariants.{Plain}
 use Rattle.reference_model.specs.model.Owner.{lent_at}
-use Rattle.reference_model.specs.help.Conditions.{row_in, Condition, hosts, with_guest, guests, lent_back, HostFits, hyp_says, guest_condition, IsGuestLeaf, IsMemoryLeaf, Legal, IsUsable, in_shared, in_vm, in_hand, is_inside, IsGood}
+use Rattle.reference_model.specs.help.Conditions.{row_in, Condition, hosts, with_guest, guests, lent_back, HostFits, hyp_entry_by, guest_condition, IsGuestLeaf, IsMemoryLeaf, Legal, IsUsable, in_shared, in_vm, in_hand, is_inside, IsGood}
 use Rattle.reference_model.proofs.conditions.FrameMoves.{StepKept}
 use Rattle.page_state.proofs.Common.{eq-self, and-both, and-right, not-true}
 use Rattle.reference_model.proofs.conditions.GuestMoves.{only, g_of, guest-keeps}
@@ -64,7 +64,7 @@ gc-hand Owned d v g = refl
 gc-hand SharedOwned d v g = refl
 gc-hand SharedBorrowed d v g = refl
 
-gc-hyp : (a : State) (f v g : ℕ) → hyp_says f (guest_condition a v g) ≡ Unmapped
+gc-hyp : (a : State) (f v g : ℕ) → hyp_entry_by f (guest_condition a v g) ≡ Unmapped
 gc-hyp Owned f v g = refl
 gc-hyp SharedOwned f v g = refl
 gc-hyp SharedBorrowed f v g = refl
@@ -127,10 +127,10 @@ record SideAfter (v f : ℕ) (e : Entry) (g : ℕ) (e' : Entry) (n : ℕ) (new :
   host : (q : ℕ) → is_within f n q ≡ true → HostFits q (side_condition new v (g + (q - f))) (advance e (q - f))
   told : (cpu q : ℕ)
       → is_within f n q ≡ true
-      → row_in q (side_condition new v (g + (q - f))) ≡ told_row cpu (Some v) (two_ranges f e g e' n) q
+      → row_in q (side_condition new v (g + (q - f))) ≡ touched_row cpu (Some v) (two_ranges f e g e' n) q
   goes : (cpu q : ℕ)
       → is_within f n q ≡ true
-      → side_condition new v (g + (q - f)) ≡ told_condition cpu (Some v) (two_ranges f e g e' n) q
+      → side_condition new v (g + (q - f)) ≡ touched_condition cpu (Some v) (two_ranges f e g e' n) q
 
 side-only : (a : Side) (v g : ℕ) → only v (side_condition a v g) ≡ true
 side-only apart v g = refl
@@ -148,7 +148,7 @@ side-hand : (a : Side) (d v g : ℕ) → in_hand d (side_condition a v g) ≡ fa
 side-hand apart d v g = refl
 side-hand (joined a) d v g = gc-hand a d v g
 
-side-hyp : (a : Side) (f v g : ℕ) → hyp_says f (side_condition a v g) ≡ Unmapped
+side-hyp : (a : Side) (f v g : ℕ) → hyp_entry_by f (side_condition a v g) ≡ Unmapped
 side-hyp apart f v g = refl
 side-hyp (joined a) f v g = gc-hyp a f v g
 
@@ -200,7 +200,8 @@ side-move l s legal {v} {f} {e} {g} {e'} {n} {old} {new} slot b m = record {
   same_hand =
       λ d q w. ap (in_hand d) (b.was q w) ∙ side-hand old d v (g + (q - f)) ∙ sym (side-hand new d v (g + (q - f)));
   no_hand = λ d q w. side-hand new d v (g + (q - f));
-  same_hyp = λ q w. ap (hyp_says q) (b.was q w) ∙ side-hyp old q v (g + (q - f)) ∙ sym (side-hyp new q v (g + (q - f)));
+  same_hyp =
+      λ q w. ap (hyp_entry_by q) (b.was q w) ∙ side-hyp old q v (g + (q - f)) ∙ sym (side-hyp new q v (g + (q - f)));
   host = m.host;
   told = m.told;
   goes = m.goes;

@@ -22,11 +22,11 @@ use Rattle.reference_model.specs.declared.changes.Changes.{Changes}
 use Rattle.reference_model.specs.declared.changes.CpuChange.{CpuChange}
 use Rattle.reference_model.specs.declared.changes.GuestChange.{GuestChange}
 use Rattle.reference_model.specs.model.Changes.{cpu_by, change, no_changes}
-use Rattle.reference_model.specs.help.ConditionChanges.{told_condition}
-use Rattle.reference_model.specs.help.Conditions.{Condition, outside, hosts, with_hyp, hyps, with_guest, guests, lent_back, HostFits, hyp_says, Legal, IsUsable, row_in, in_shared, in_hand, is_inside, IsGood}
+use Rattle.reference_model.specs.help.ConditionChanges.{touched_condition}
+use Rattle.reference_model.specs.help.Conditions.{Condition, outside, hosts, with_hyp, hyps, with_guest, guests, lent_back, HostFits, hyp_entry_by, Legal, IsUsable, row_in, in_shared, in_hand, is_inside, IsGood}
 use Rattle.reference_model.specs.model.GuestRules.{are_good_pages}
 use Rattle.reference_model.specs.model.Owner.{is_in_hand}
-use Rattle.reference_model.specs.help.RowChanges.{told_row, use_by}
+use Rattle.reference_model.specs.help.RowChanges.{touched_row, use_by}
 use Rattle.reference_model.specs.model.SharedRules.{hand_of, no_range}
 use Rattle.reference_model.specs.model.State.{Cpu, Contents, put_at}
 use Rattle.page_state.proofs.Blocks.{all_from-each}
@@ -248,13 +248,13 @@ module _ {l : Layout} {s : Contents} (legal : Legal l s) (usable : IsUsable l) (
     pub good : IsGood l c
     pub same_use : in_shared old ≡ in_shared c
     pub host : (q : ℕ) → is_within first n q ≡ true → HostFits q c (advance e (q - first))
-    pub hyp : (q : ℕ) → is_within first n q ≡ true → advance e' (q - first) ≡ hyp_says q c
+    pub hyp : (q : ℕ) → is_within first n q ≡ true → advance e' (q - first) ≡ hyp_entry_by q c
     pub told : (q : ℕ)
         → is_within first n q ≡ true
-        → row_in q c ≡ told_row cpu slot (range_changes first n e e' part k value) q
+        → row_in q c ≡ touched_row cpu slot (range_changes first n e e' part k value) q
     pub goes : (q : ℕ)
         → is_within first n q ≡ true
-        → c ≡ told_condition cpu slot (range_changes first n e e' part k value) q
+        → c ≡ touched_condition cpu slot (range_changes first n e e' part k value) q
     pub hand : (d q : ℕ)
         → is_in_hand (put_at s.cpu cpu (cpu_by k (s.cpu cpu)) d).hand q
         ≡ in_hand d (moved_to (always c) first n legal.condition q)

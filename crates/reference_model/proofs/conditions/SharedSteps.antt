@@ -18,7 +18,7 @@ use Rattle.reference_model.specs.model.Rule.{reads}
 use Rattle.reference_model.specs.declared.changes.Changes.{Changes}
 use Rattle.reference_model.specs.declared.changes.GuestChange.TheVariants.{Keep as KeepGuest}
 use Rattle.reference_model.specs.model.Changes.{cpu_by, same_cpu}
-use Rattle.reference_model.specs.help.Conditions.{Condition, outside, hosts, with_hyp, hyps, with_guest, guests, lent_back, hyp_says, Legal, IsUsable, row_in, in_hand}
+use Rattle.reference_model.specs.help.Conditions.{Condition, outside, hosts, with_hyp, hyps, with_guest, guests, lent_back, hyp_entry_by, Legal, IsUsable, row_in, in_hand}
 use Rattle.reference_model.specs.model.Owner.{is_in_hand, lent_at}
 use Rattle.reference_model.specs.model.Parts.{shared}
 use Rattle.reference_model.specs.model.Rules.{names}
@@ -38,7 +38,7 @@ hyp-advance f n q w = let at = within-is f n q w in let low : f ≤ q = at.0 in 
 
 -- conditions told by tests
 
-borrowed-with : (f : ℕ) (c : Condition) → is_in SharedBorrowed (hyp_says f c) ≡ true → c ≡ with_hyp
+borrowed-with : (f : ℕ) (c : Condition) → is_in SharedBorrowed (hyp_entry_by f c) ≡ true → c ≡ with_hyp
 borrowed-with f with_hyp h = refl
 borrowed-with f c h = cc
 

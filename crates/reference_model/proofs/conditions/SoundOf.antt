@@ -17,7 +17,7 @@ use Rattle.page_state.specs.Layouts.{Layout, is_memory, hyp_page}
 use Rattle.reference_model.specs.model.Owner.{lent_at}
 use Rattle.page_state.specs.Counts.{is_one, frame_count}
 use Rattle.reference_model.specs.claims.Sound.{IsOne, IsLeafOf, Maps, Holds, IsHostsOwn, owner, usage, OneOwner, IsBorrowed, OneBorrower, Place, shared_pool, vm_pool, table_of, hand, IsHeld, HeldOnce, Sound}
-use Rattle.reference_model.specs.help.Conditions.{Condition, outside, hosts, with_hyp, hyps, with_guest, guests, lent_back, HostFits, hyp_says, guest_condition, Legal, IsUsable, row_in, in_shared, in_vm, in_hand, one, table_uses, shared_uses, guest_uses, is_inside}
+use Rattle.reference_model.specs.help.Conditions.{Condition, outside, hosts, with_hyp, hyps, with_guest, guests, lent_back, HostFits, hyp_entry_by, guest_condition, Legal, IsUsable, row_in, in_shared, in_vm, in_hand, one, table_uses, shared_uses, guest_uses, is_inside}
 use Rattle.reference_model.specs.claims.RowLaws.{use_of}
 use Rattle.reference_model.specs.claims.RunLaws.{LegalSound}
 use Rattle.page_state.proofs.Cases.{by_lt}
@@ -73,7 +73,7 @@ fits-owner f (guests v g) state e h m n = annotated-none f (2 + v) state e h m
 fits-owner f (lent_back v g) state e h m n = absurd (n (sym (leaf-state RWX f f SharedBorrowed state e h m)))
 
 says-owner : (f : ℕ) (c : Condition) (state : State) (e : Entry)
-    → e ≡ hyp_says f c
+    → e ≡ hyp_entry_by f c
     → maps_frame f state e ≡ true
     → (state ≡ SharedBorrowed → ⊥)
     → 1 ≡ (row_in f c).owner.0
@@ -109,7 +109,7 @@ fits-lent f (guests v g) e h m = annotated-none f (2 + v) SharedBorrowed e h m
 fits-lent f (lent_back v g) e h m = refl
 
 says-lent : (f : ℕ) (c : Condition) (e : Entry)
-    → e ≡ hyp_says f c
+    → e ≡ hyp_entry_by f c
     → maps_frame f SharedBorrowed e ≡ true
     → (row_in f c).lent ≡ Some (lent_at 1 (hyp_page f))
 says-lent f with_hyp e h m = refl

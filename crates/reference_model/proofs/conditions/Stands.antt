@@ -18,7 +18,7 @@ use Rattle.page_state.specs.Trees.{Tree}
 use Rattle.reference_model.specs.model.State.{Shared, Guest, Cpu, Contents}
 use Rattle.page_state.specs.Layouts.{Layout, hyp_page}
 use Rattle.reference_model.specs.model.Owner.{page_of, is_free, is_in_hand, is_table_frame, guest_with, is_lent_to_host, sharer, owner_by, lent_to, lent_at, is_in_shared_pool, vm_pool_of, holding_cpu, usage_of, row_of}
-use Rattle.reference_model.specs.help.Conditions.{Condition, outside, hosts, with_hyp, hyps, with_guest, guests, lent_back, HostFits, hyp_says, guest_condition, IsGood, in_shared, in_vm, in_hand, one, is_inside, table_uses, shared_uses, guest_uses, row_in}
+use Rattle.reference_model.specs.help.Conditions.{Condition, outside, hosts, with_hyp, hyps, with_guest, guests, lent_back, HostFits, hyp_entry_by, guest_condition, IsGood, in_shared, in_vm, in_hand, one, is_inside, table_uses, shared_uses, guest_uses, row_in}
 use Rattle.page_state.proofs.Common.{both, eq-same, eq-made, eq-self, same3}
 use Rattle.page_state.proofs.Counts.{count_next}
 use Rattle.reference_model.proofs.Frames.{first_from-none}
@@ -27,7 +27,7 @@ use Rattle.reference_model.proofs.Frames.{first_from-none}
 pub record SharedStands (l : Layout) (x : Shared) (f : ℕ) (c : Condition) : Type 0 where
   pub host : HostFits f c (x.host.map f)
   pub host_alone : (p : ℕ) (state : State) → maps_frame f state (x.host.map p) ≡ true → p ≡ f
-  pub hyp : x.hyp.map (hyp_page f) ≡ hyp_says f c
+  pub hyp : x.hyp.map (hyp_page f) ≡ hyp_entry_by f c
   pub hyp_alone : (p : ℕ) (state : State) → maps_frame f state (x.hyp.map p) ≡ true → p ≡ hyp_page f
   pub held : shared_uses l.depth x f ≡ one (in_shared c)
 
@@ -240,7 +240,7 @@ fits-borrowed f (with_guest v g) e h = ap (maps_frame f SharedBorrowed) h ∙ an
 fits-borrowed f (guests v g) e h = ap (maps_frame f SharedBorrowed) h
 fits-borrowed f (lent_back v g) e h = ap (maps_frame f SharedBorrowed) h ∙ and-some (f == f) (eq-self f)
 
-says-borrowed : (f : ℕ) (c : Condition) → maps_frame f SharedBorrowed (hyp_says f c) ≡ is_some (hyp_lends f c)
+says-borrowed : (f : ℕ) (c : Condition) → maps_frame f SharedBorrowed (hyp_entry_by f c) ≡ is_some (hyp_lends f c)
 says-borrowed f with_hyp = and-some (f == f) (eq-self f)
 says-borrowed f (hyps u) = and-none (f == f)
 says-borrowed f outside = refl

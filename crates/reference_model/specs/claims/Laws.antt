@@ -10,7 +10,7 @@ use Rattle.page_state.specs.Layouts.{Layout}
 use Rattle.reference_model.specs.claims.Sound.{Sound}
 use Rattle.reference_model.specs.model.Parts.{Part, vm_part, shared_part, guest_part}
 use Rattle.reference_model.specs.model.Rules.{call_uses}
-use Rattle.reference_model.specs.model.Step.{Steps, foretell}
+use Rattle.reference_model.specs.model.Step.{Steps, predict_step}
 use Rattle.reference_model.specs.model.Boot.{boot, IsCarveEnough}
 use Rattle.reference_model.specs.model.Run.{IsRun}
 use Rattle.reference_model.specs.model.History.{calls_on, calls_by, IsStored, Kept, IsHistory}
@@ -29,15 +29,15 @@ abbrev pub LogFullKeeps : Type 0
 LogFullKeeps =
     (l : Layout) (s t : Reference) (c : Call) → Steps l s c t → c.reply ≡ Refused LogFull → t ≡ s
 
--- each step of each CPU has a call, with the reply and the next state that `foretell` predicts
+-- each step of each CPU has a call, with the reply and the next state that `predict_step` predicts
 abbrev pub StepExists : Type 0
 StepExists =
     (l : Layout) (s : Reference) (cpu : ℕ) (step : Step)
     → (c : Call)
     × (c.cpu ≡ cpu)
     × (c.step ≡ step)
-    × (c.reply ≡ (foretell l s cpu step).0)
-    × Steps l s c (foretell l s cpu step).1
+    × (c.reply ≡ (predict_step l s cpu step).0)
+    × Steps l s c (predict_step l s cpu step).1
 
 -- a call has one next state
 abbrev pub StepOnce : Type 0

@@ -9,7 +9,7 @@ use Rattle.reference_model.specs.model.Step.{rule_of, fails, made, changed, Step
 use Rattle.call_table.specs.declared.step.Step.{Step}
 use Rattle.reference_model.specs.model.Rules.{names, guest_slot}
 use Rattle.reference_model.specs.model.Used.{used_of}
-use Rattle.reference_model.specs.help.RowChanges.{with_told}
+use Rattle.reference_model.specs.help.RowChanges.{with_touched_rows}
 use Rattle.reference_model.specs.model.Run.{IsRun}
 use Rattle.page_state.specs.Accepted.{IsAcceptedConfig, IsAcceptedLayout}
 use Rattle.page_state.specs.LayoutFaults.{IsAccepted}
@@ -43,8 +43,8 @@ BootLegal = (l : Layout) → IsCarveEnough l → IsUsable l → Legal l (boot l)
 
 -- at boot the frames of the carve-out are the hypervisor's, in the shared pool or a table, and all
 -- other memory is the host's
-abbrev pub BootRowsTold : Type 0
-BootRowsTold =
+abbrev pub EachBootRow : Type 0
+EachBootRow =
     (l : Layout) (f : ℕ)
     → IsCarveEnough l
     → IsUsable l
@@ -105,8 +105,8 @@ AcceptedMade =
 
 -- the state after a made step of a legal state follows from its changes, the rows too: each memory
 -- frame of the touched range has the given row, which advances
-abbrev pub RowsTold : Type 0
-RowsTold =
+abbrev pub TouchedRows : Type 0
+TouchedRows =
     (l : Layout) (s : Contents) (cpu : ℕ) (slot : Option ℕ) (step : Step)
     → IsUsable l
     → cpu < l.config.cpus
@@ -116,4 +116,4 @@ RowsTold =
     let x = used_of (names step) slot cpu s in
     let h = (rule_of l cpu slot step x).changes in
     fails l cpu slot step x ≡ None
-    → made l cpu slot step x ≡ with_told l cpu slot h (changed l.depth h x)
+    → made l cpu slot step x ≡ with_touched_rows l cpu slot h (changed l.depth h x)

@@ -10,7 +10,7 @@ use Rattle.call_table.specs.declared.step.Step.{Step}
 use Rattle.page_state.specs.Layouts.{Layout}
 use Rattle.reference_model.specs.model.Used.{Used, UsedRooms, used_of}
 use Rattle.reference_model.specs.help.Conditions.{Legal, IsUsable}
-use Rattle.reference_model.specs.help.RowChanges.{with_told}
+use Rattle.reference_model.specs.help.RowChanges.{with_touched_rows}
 use Rattle.reference_model.specs.model.Rules.{may_grow, names, guest_slot}
 use Rattle.reference_model.specs.model.State.{Contents, Reference}
 use Rattle.reference_model.specs.model.Step.{is_short, changed, Answered, is_full, stored, StepsOn, used_by, rooms_by, with_used, Steps}
@@ -21,7 +21,7 @@ module _ (l : Layout) (cpu : ℕ) (slot : Option ℕ) (step : Step) where
   pub record IsCarried (h : Changes) (x : Used) (reply : Reply) (y : Used) : Type 0 where
     pub enough : is_short l.depth h x ≡ false
     pub reply_is : reply ≡ Done h.value
-    pub next : y ≡ with_told l cpu slot h (changed l.depth h x)
+    pub next : y ≡ with_touched_rows l cpu slot h (changed l.depth h x)
 
   -- a pool has too few free frames, and nothing has changed
   pub record IsShort (h : Changes) (x : Used) (reply : Reply) (y : Used) : Type 0 where

@@ -43,8 +43,8 @@ condition_by cpu slot h i (Leaf frame prot kind SharedBorrowed) = borrowed slot 
 condition_by cpu slot h i other = hosts
 
 -- the condition of a touched frame; if the host's map stays, the frame goes to the guest's pool
-abbrev pub told_condition : ℕ → Option ℕ → Changes → ℕ → Condition
-told_condition cpu slot h f =
+abbrev pub touched_condition : ℕ → Option ℕ → Changes → ℕ → Condition
+touched_condition cpu slot h f =
     elim (h.host) [
       | Some c ↦ condition_by cpu slot h (f - c.range.first.0) c.entry
       | None ↦ hyps (VmPool (unwrap_or slot 0))
@@ -55,7 +55,7 @@ told_condition cpu slot h f =
 abbrev pub conditions_after : Layout → ℕ → Option ℕ → Changes → (ℕ → Condition) → ℕ → Condition
 conditions_after l cpu slot h condition f =
     elim (is_memory l f && is_touched h f)
-    [ true ↦ told_condition cpu slot h f | false ↦ condition f ]
+    [ true ↦ touched_condition cpu slot h f | false ↦ condition f ]
 
 -- a state determines the condition of each frame
 abbrev pub ConditionOnce : Type 0

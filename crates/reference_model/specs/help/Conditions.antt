@@ -47,10 +47,10 @@ HostFits p (guests v g) e = e ≡ annotation (2 + v)
 HostFits p (lent_back v g) e = e ≡ leaf RWX p SharedBorrowed
 
 -- the entry of the hypervisor's map at its page of the frame
-abbrev pub hyp_says : ℕ → Condition → Entry
-hyp_says f with_hyp = leaf RW f SharedBorrowed
-hyp_says f (hyps usage) = leaf RW f Owned
-hyp_says f other = Unmapped
+abbrev pub hyp_entry_by : ℕ → Condition → Entry
+hyp_entry_by f with_hyp = leaf RW f SharedBorrowed
+hyp_entry_by f (hyps usage) = leaf RW f Owned
+hyp_entry_by f other = Unmapped
 
 -- the condition of a frame that a guest maps at a page in a state
 abbrev pub guest_condition : State → ℕ → ℕ → Condition
@@ -78,7 +78,7 @@ IsMemoryLeaf f state e = (prot : Prot) × (e ≡ leaf prot f state)
 -- all maps have the entries of the conditions, and map nothing else
 pub record MapsFit (s : Contents) (condition : ℕ → Condition) : Type 0 where
   pub host : (p : ℕ) → HostFits p (condition p) (s.shared.host.map p)
-  pub hyp : (f : ℕ) → s.shared.hyp.map (hyp_page f) ≡ hyp_says f (condition f)
+  pub hyp : (f : ℕ) → s.shared.hyp.map (hyp_page f) ≡ hyp_entry_by f (condition f)
   pub hyp_below : (p : ℕ) → p < hyp_page 0 → s.shared.hyp.map p ≡ Unmapped
   pub guest : (v g : ℕ) → GuestFits condition v g ((s.guest v).tree.map g)
   pub guest_has : (v g f : ℕ) (state : State)

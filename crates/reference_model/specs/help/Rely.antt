@@ -9,7 +9,7 @@ use Rattle.reference_model.specs.help.Answers.{CarriesOut}
 use Rattle.reference_model.specs.model.Decides.{decides}
 use Rattle.reference_model.specs.help.ChangeLaws.{AllFit, PartsFit, TouchedFits}
 use Rattle.reference_model.specs.model.Rules.{names, guest_slot}
-use Rattle.reference_model.specs.help.RowChanges.{with_told}
+use Rattle.reference_model.specs.help.RowChanges.{with_touched_rows}
 use Rattle.reference_model.specs.model.Step.{rule_of, fails, made, changed, Answered}
 use Rattle.reference_model.specs.model.Used.{Used}
 use Rattle.reference_model.specs.model.Reached.{IsReached}
@@ -24,7 +24,7 @@ pub record CanRely (l : Layout) (cpu : ℕ) (slot : Option ℕ) (step : Step) (x
   pub touched : (h : Changes) → decides l cpu slot step x ≡ Ok h → TouchedFits l cpu slot h
   pub rows : fails l cpu slot step x ≡ None
       → made l cpu slot step x
-      ≡ with_told l cpu slot (rule_of l cpu slot step x).changes
+      ≡ with_touched_rows l cpu slot (rule_of l cpu slot step x).changes
       (changed l.depth (rule_of l cpu slot step x).changes x)
 
 -- a step may rely on them if the parts that it uses are those of a state that a run leaves

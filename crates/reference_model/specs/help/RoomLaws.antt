@@ -28,7 +28,7 @@ StoredFalls =
     → RoomsFall c s.rooms t.rooms
 
 -- a log's room and its calls make up the log's size
-pub record RoomsTold (l : Layout) (cs : List Call) (r : Rooms) : Type 0 where
+pub record RoomsLeft (l : Layout) (cs : List Call) (r : Rooms) : Type 0 where
   pub vms : r.vms + length (calls_on vm_part cs) ≡ l.config.log
   pub shared : r.shared + length (calls_on shared_part cs) ≡ l.config.log
   pub guest : (v : ℕ) → r.guest v + length (calls_on (guest_part v) cs) ≡ l.config.log
@@ -40,4 +40,4 @@ RunRooms =
     (l : Layout) (cs : List Call) (t : Reference)
     → IsRun l cs t
     → All (λ c. IsStored c.reply) cs
-    → RoomsTold l cs t.rooms
+    → RoomsLeft l cs t.rooms

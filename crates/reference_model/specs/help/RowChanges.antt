@@ -55,15 +55,15 @@ first_of None = 0
 first_of (Some r) = r.first.0
 
 -- the row of a touched frame
-abbrev pub told_row : ℕ → Option ℕ → Changes → ℕ → Row
-told_row cpu slot h f = advance_row (first_row cpu slot h) (f - first_of (touched h))
+abbrev pub touched_row : ℕ → Option ℕ → Changes → ℕ → Row
+touched_row cpu slot h f = advance_row (first_row cpu slot h) (f - first_of (touched h))
 
 -- the used parts with the given rows at the touched range, if that is memory
-unfoldable pub with_told : Layout → ℕ → Option ℕ → Changes → Used → Used
-with_told l cpu slot h x =
+unfoldable pub with_touched_rows : Layout → ℕ → Option ℕ → Changes → Used → Used
+with_touched_rows l cpu slot h x =
     record x {
       shared = record x.shared {
         row = λ f. elim (is_memory l (first_of (touched h)) && is_touched h f)
-            [ true ↦ told_row cpu slot h f | false ↦ x.shared.row f ];
+            [ true ↦ touched_row cpu slot h f | false ↦ x.shared.row f ];
       };
     }

@@ -210,8 +210,8 @@ predict l cpu slot step x r =
 
 -- the reference step as a function, for memory that doesn't run out: the reply, and the state after
 -- it
-unfoldable pub foretell : Layout → Reference → ℕ → Step → Reply × Reference
-foretell l s cpu step =
+unfoldable pub predict_step : Layout → Reference → ℕ → Step → Reply × Reference
+predict_step l s cpu step =
     let n = names step in
     let slot = guest_slot (s.contents.cpu cpu) step in
     let r = predict l cpu slot step (used_of n slot cpu s.contents) (rooms_of n slot cpu s.rooms) in (

@@ -14,14 +14,14 @@ use Rattle.reference_model.specs.model.Boot.{boot}
 use Rattle.page_state.specs.EntryTests.{leaf, device_leaf, annotation}
 use Rattle.page_state.specs.Layouts.{Layout}
 use Rattle.reference_model.specs.model.State.{plain_row}
-use Rattle.reference_model.specs.model.Step.{foretell}
+use Rattle.reference_model.specs.model.Step.{predict_step}
 use Rattle.reference_model.specs.rows.Scene.{small, ok, range, at, row, Refuses, SharedAlone}
 use Rattle.reference_model.specs.rows.SceneState.{scene, host_map, with_free}
 
 -- a page of an empty block in memory: the whole block of 512 pages is mapped, as one word
 abbrev pub HostAbortBlock : Type 0
 HostAbortBlock =
-    let r = foretell (small 1) (with_free [] scene) 2 (HostAbort 0x1405) in
+    let r = predict_step (small 1) (with_free [] scene) 2 (HostAbort 0x1405) in
     (r.0 ≡ ok) × SharedAlone scene 2 r.1
     × (at r.1.contents.shared.host.map (0x13ff ∷ 0x1400 ∷ 0x1405 ∷ 0x15ff ∷ 0x1600 ∷ [])
     ≡ annotation 1 ∷ leaf RWX 0x1400 Owned ∷ leaf RWX 0x1405 Owned ∷ leaf RWX 0x15ff Owned
@@ -32,7 +32,7 @@ HostAbortBlock =
 -- a page of a block in which others are mapped is mapped alone
 abbrev pub HostAbortPage : Type 0
 HostAbortPage =
-    let r = foretell (small 1) scene 2 (HostAbort 0x1008) in
+    let r = predict_step (small 1) scene 2 (HostAbort 0x1008) in
     (r.0 ≡ ok)
     × (at r.1.contents.shared.host.map (0x1007 ∷ 0x1008 ∷ 0x1009 ∷ [])
     ≡ leaf RWX 0x1007 SharedBorrowed ∷ leaf RWX 0x1008 Owned ∷ annotation 5 ∷ [])
@@ -41,25 +41,25 @@ HostAbortPage =
 -- a mapped page is Ok and nothing changes, whatever its state
 abbrev pub HostAbortKeeps : Type 0
 HostAbortKeeps =
-    let r = foretell (small 1) scene 2 (HostAbort 0x1001) in
+    let r = predict_step (small 1) scene 2 (HostAbort 0x1001) in
     (r.0 ≡ ok)
     × SharedAlone scene 2 r.1
     × (r.1.contents.shared.host.map ≡ host_map)
     × (r.1.contents.shared.free ≡ 0x1610 ∷ 0x1612 ∷ 0x1620 ∷ [])
-    × ((foretell (small 1) scene 2 (HostAbort 0x1007)).0 ≡ ok)
-    × ((foretell (small 1) scene 2 (HostAbort 0x1000)).0 ≡ ok)
+    × ((predict_step (small 1) scene 2 (HostAbort 0x1007)).0 ≡ ok)
+    × ((predict_step (small 1) scene 2 (HostAbort 0x1000)).0 ≡ ok)
 
 -- a page of a device region that has no whole block is mapped alone, up to the region's edges
 abbrev pub HostAbortDevice : Type 0
 HostAbortDevice =
-    let r = foretell (small 1) scene 2 (HostAbort 0x905) in
+    let r = predict_step (small 1) scene 2 (HostAbort 0x905) in
     (r.0 ≡ ok)
     × (at r.1.contents.shared.host.map (0x904 ∷ 0x905 ∷ 0x906 ∷ [])
     ≡ Unmapped ∷ device_leaf 0x905 ∷ Unmapped ∷ [])
     × (r.1.contents.shared.host.table (1, 4) ≡ Some 0x1610)
     × (r.1.contents.shared.free ≡ 0x1612 ∷ 0x1620 ∷ [])
-    × ((foretell (small 1) scene 2 (HostAbort 0x900)).0 ≡ ok)
-    × ((foretell (small 1) scene 2 (HostAbort 0x90f)).0 ≡ ok)
+    × ((predict_step (small 1) scene 2 (HostAbort 0x900)).0 ≡ ok)
+    × ((predict_step (small 1) scene 2 (HostAbort 0x90f)).0 ≡ ok)
 
 -- two device regions that meet at 0xb00
 abbrev pub devices : Layout
@@ -77,8 +77,8 @@ devices = record (small 1) {
 -- in two regions, only the page is mapped
 abbrev pub HostAbortDeviceBlock : Type 0
 HostAbortDeviceBlock =
-    let r = foretell devices (with_free [] scene) 2 (HostAbort 0x905) in
-    let q = foretell devices scene 2 (HostAbort 0xa05) in
+    let r = predict_step devices (with_free [] scene) 2 (HostAbort 0x905) in
+    let q = predict_step devices scene 2 (HostAbort 0xa05) in
     (r.0 ≡ ok) × SharedAlone scene 2 r.1
     × (at r.1.contents.shared.host.map (0x7ff ∷ 0x800 ∷ 0x905 ∷ 0x9ff ∷ 0xa00 ∷ [])
     ≡ Unmapped ∷ device_leaf 0x800 ∷ device_leaf 0x905 ∷ device_leaf 0x9ff ∷ Unmapped ∷ [])
@@ -101,8 +101,8 @@ halves = record (small 1) {
 -- if a block lies in two regions, only one page is mapped on either side of their edge
 abbrev pub HostAbortRegions : Type 0
 HostAbortRegions =
-    let r = foretell halves scene 2 (HostAbort 0x147f) in
-    let q = foretell halves scene 2 (HostAbort 0x1480) in
+    let r = predict_step halves scene 2 (HostAbort 0x147f) in
+    let q = predict_step halves scene 2 (HostAbort 0x1480) in
     (r.0 ≡ ok)
     × (at r.1.contents.shared.host.map (0x147e ∷ 0x147f ∷ 0x1480 ∷ [])
     ≡ Unmapped ∷ leaf RWX 0x147f Owned ∷ Unmapped ∷ [])
@@ -125,7 +125,7 @@ stretches carve = record (small 2) {
 -- a block needs a table above it, and one free frame is enough
 abbrev pub HostAbortTable : Type 0
 HostAbortTable =
-    let r = foretell (stretches 7) (boot (stretches 7)) 0 (HostAbort 0x40201) in
+    let r = predict_step (stretches 7) (boot (stretches 7)) 0 (HostAbort 0x40201) in
     (r.0 ≡ ok)
     × (at r.1.contents.shared.host.map (0x401ff ∷ 0x40200 ∷ 0x403ff ∷ 0x40400 ∷ [])
     ≡ Unmapped ∷ leaf RWX 0x40200 Owned ∷ leaf RWX 0x403ff Owned ∷ Unmapped ∷ [])
@@ -148,26 +148,26 @@ HostAbortRefused =
 -- the reply has the host's entry of a page, up to the last page of the table's, and nothing changes
 abbrev pub HostTranslateMade : Type 0
 HostTranslateMade =
-    let r = foretell (small 1) scene 2 (HostTranslate 0x1009) in
+    let r = predict_step (small 1) scene 2 (HostTranslate 0x1009) in
     (r.0 ≡ Done (EntryOf (annotation 5)))
     × SharedAlone scene 2 r.1
     × (r.1.contents.shared.host.map ≡ host_map)
     × (r.1.contents.shared.free ≡ 0x1610 ∷ 0x1612 ∷ 0x1620 ∷ [])
-    × ((foretell (small 1) scene 2 (HostTranslate 0x1007)).0
+    × ((predict_step (small 1) scene 2 (HostTranslate 0x1007)).0
     ≡ Done (EntryOf (leaf RWX 0x1007 SharedBorrowed)))
-    × ((foretell (small 1) scene 2 (HostTranslate 0x3ffff)).0 ≡ Done (EntryOf Unmapped))
-    × ((foretell (small 2) scene 2 (HostTranslate 0x7ffffff)).0 ≡ Done (EntryOf Unmapped))
+    × ((predict_step (small 1) scene 2 (HostTranslate 0x3ffff)).0 ≡ Done (EntryOf Unmapped))
+    × ((predict_step (small 2) scene 2 (HostTranslate 0x7ffffff)).0 ≡ Done (EntryOf Unmapped))
 
 -- the reply has the hypervisor's entry of that very page
 abbrev pub HypTranslateMade : Type 0
 HypTranslateMade =
-    let r = foretell (small 2) scene 2 (HypTranslate 0x4001001) in
+    let r = predict_step (small 2) scene 2 (HypTranslate 0x4001001) in
     (r.0 ≡ Done (EntryOf (leaf RW 0x1001 SharedBorrowed)))
     × SharedAlone scene 2 r.1
     × (r.1.contents.shared.host.map ≡ host_map)
     × (r.1.contents.shared.free ≡ 0x1610 ∷ 0x1612 ∷ 0x1620 ∷ [])
-    × ((foretell (small 2) scene 2 (HypTranslate 0x1001)).0 ≡ Done (EntryOf Unmapped))
-    × ((foretell (small 2) scene 2 (HypTranslate 0x7ffffff)).0 ≡ Done (EntryOf Unmapped))
+    × ((predict_step (small 2) scene 2 (HypTranslate 0x1001)).0 ≡ Done (EntryOf Unmapped))
+    × ((predict_step (small 2) scene 2 (HypTranslate 0x7ffffff)).0 ≡ Done (EntryOf Unmapped))
 
 -- a page past the tables' pages is refused
 abbrev pub TranslateRefused : Type 0
@@ -180,12 +180,12 @@ TranslateRefused =
 -- the reply has the kept row of a memory frame, and nothing changes
 abbrev pub OwnerOfMade : Type 0
 OwnerOfMade =
-    let r = foretell (small 1) scene 2 (OwnerOf 0x1004) in
+    let r = predict_step (small 1) scene 2 (OwnerOf 0x1004) in
     (r.0 ≡ Done (RowOf (row 1 (InHand 3))))
     × SharedAlone scene 2 r.1
     × (r.1.contents.shared.host.map ≡ host_map)
     × (r.1.contents.shared.free ≡ 0x1610 ∷ 0x1612 ∷ 0x1620 ∷ [])
-    × ((foretell (small 1) scene 2 (OwnerOf 0x17ff)).0 ≡ Done (RowOf plain_row))
+    × ((predict_step (small 1) scene 2 (OwnerOf 0x17ff)).0 ≡ Done (RowOf plain_row))
 
 -- a page that is no memory frame is refused
 abbrev pub OwnerOfRefused : Type 0

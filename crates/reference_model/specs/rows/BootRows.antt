@@ -11,7 +11,7 @@ use Rattle.reference_model.specs.model.Boot.{boot}
 use Rattle.page_state.specs.EntryTests.{leaf, annotation}
 use Rattle.reference_model.specs.rows.Examples.{layout}
 use Rattle.reference_model.specs.model.State.{plain_row, no_vms, no_guest, no_cpu, all_rooms}
-use Rattle.reference_model.specs.model.Step.{foretell}
+use Rattle.reference_model.specs.model.Step.{predict_step}
 use Rattle.reference_model.specs.rows.Scene.{small, ok, at, row}
 
 -- the host's root has the lowest frame and the hypervisor's the next; then come the host's tables
@@ -68,7 +68,7 @@ BootOwners =
 -- a share after the boot: the host's table comes first
 abbrev pub ShareTables : Type 0
 ShareTables =
-    let r = foretell (layout 64 64) (boot (layout 64 64)) 0 (ShareHyp 0x40100) in
+    let r = predict_step (layout 64 64) (boot (layout 64 64)) 0 (ShareHyp 0x40100) in
     let s = r.1.contents.shared in
     (r.0 ≡ ok)
     × (s.host.table (1, 0x200) ≡ Some 0x40606)
@@ -83,8 +83,8 @@ ShareTables =
 -- host's stays
 abbrev pub UnshareTables : Type 0
 UnshareTables =
-    let q = foretell (layout 64 64) (boot (layout 64 64)) 0 (ShareHyp 0x40100) in
-    let r = foretell (layout 64 64) q.1 0 (UnshareHyp 0x40100) in
+    let q = predict_step (layout 64 64) (boot (layout 64 64)) 0 (ShareHyp 0x40100) in
+    let r = predict_step (layout 64 64) q.1 0 (UnshareHyp 0x40100) in
     let s = r.1.contents.shared in
     (r.0 ≡ ok)
     × (s.host.table (1, 0x200) ≡ Some 0x40606)
@@ -94,7 +94,7 @@ UnshareTables =
 
 -- a carve-out of eight frames suffices for the boot and a share, and the pool is then empty
 abbrev pub ShareEnough : Type 0
-ShareEnough = let r = foretell (layout 8 64) (boot (layout 8 64)) 0 (ShareHyp 0x40100) in
+ShareEnough = let r = predict_step (layout 8 64) (boot (layout 8 64)) 0 (ShareHyp 0x40100) in
     (r.0 ≡ ok)
     × (r.1.contents.shared.free ≡ [])
     × (r.1.contents.shared.hyp.table (1, 0x20200) ≡ Some 0x40607)

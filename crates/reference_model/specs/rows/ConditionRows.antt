@@ -10,8 +10,8 @@ use Rattle.page_state.specs.declared.row.Usage.TheVariants.{Plain, SharedPool, V
 use Rattle.page_state.specs.EntryTests.{leaf, device_leaf, annotation}
 use Rattle.reference_model.specs.declared.changes.Changes.{Changes}
 use Rattle.reference_model.specs.model.Changes.{change, no_changes}
-use Rattle.reference_model.specs.help.ConditionChanges.{told_condition}
-use Rattle.reference_model.specs.help.Conditions.{Condition, outside, hosts, with_hyp, hyps, with_guest, guests, lent_back, HostFits, hyp_says, guest_condition, in_shared, in_vm, in_hand, row_in}
+use Rattle.reference_model.specs.help.ConditionChanges.{touched_condition}
+use Rattle.reference_model.specs.help.Conditions.{Condition, outside, hosts, with_hyp, hyps, with_guest, guests, lent_back, HostFits, hyp_entry_by, guest_condition, in_shared, in_vm, in_hand, row_in}
 use Rattle.reference_model.specs.model.Owner.{lent_at}
 use Rattle.reference_model.specs.model.SharedRules.{to_hyp, to_host, hand_becomes}
 use Rattle.reference_model.specs.model.GuestRules.{two_pages}
@@ -57,7 +57,7 @@ HostSharedRow =
 -- the hypervisor's page of the frame
 abbrev pub HypRow : Type 0
 HypRow =
-    of_each (hyp_says 5)
+    of_each (hyp_entry_by 5)
     ≡ Unmapped
     ∷ (Unmapped
     ∷ (leaf RW 5 SharedBorrowed
@@ -95,7 +95,7 @@ KeepersRow =
 
 -- the condition that changes of CPU 3 with the guest of slot 2 move a frame to
 abbrev pub moves_to : Changes → Condition
-moves_to h = told_condition 3 (Some 2) h 5
+moves_to h = touched_condition 3 (Some 2) h 5
 
 -- a page of the host, and page 9 of the guest
 abbrev pub two_sides : Entry → Entry → Changes

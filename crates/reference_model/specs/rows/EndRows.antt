@@ -13,14 +13,14 @@ use Rattle.page_state.specs.EntryTests.{leaf, annotation}
 use Rattle.page_state.specs.Trees.{Pool}
 use Rattle.reference_model.specs.model.State.{dying, Guest, no_guest}
 use Rattle.page_state.specs.Map.{Map}
-use Rattle.reference_model.specs.model.Step.{foretell}
+use Rattle.reference_model.specs.model.Step.{predict_step}
 use Rattle.reference_model.specs.rows.Scene.{small, ok, vm, pages, tables, at, Refuses, GuestAlone}
 use Rattle.reference_model.specs.rows.SceneState.{scene, protected_guest, dying_guest, bare_guest, low_tree, ticketed, with_free, with_guest_part}
 
 -- a Live guest of a Closing VM becomes Dying, and the ticket goes on; nothing else changes
 abbrev pub MarkDyingMade : Type 0
 MarkDyingMade =
-    let r = foretell (small 1) scene 5 MarkDying in
+    let r = predict_step (small 1) scene 5 MarkDying in
     (r.0 ≡ ok)
     × GuestAlone scene r.1
     × (r.1.contents.guest 7 ≡ record (bare_guest 0x1740) { phase = dying })
@@ -39,7 +39,7 @@ MarkDyingRefused =
 -- a page that a Dying guest owned is unmapped on both sides
 abbrev pub ReclaimPageOwned : Type 0
 ReclaimPageOwned =
-    let r = foretell (small 1) scene 2 (ReclaimPage (vm 5 3) 1) in
+    let r = predict_step (small 1) scene 2 (ReclaimPage (vm 5 3) 1) in
     (r.0 ≡ ok)
     × (at r.1.contents.shared.host.map (0x1009 ∷ 0x100a ∷ 0x100b ∷ [])
     ≡ annotation 5 ∷ Unmapped ∷ leaf RWX 0x100b SharedBorrowed ∷ [])
@@ -53,8 +53,8 @@ ReclaimPageOwned =
 -- a page that it shared with the host, or borrowed from it, is the host's again
 abbrev pub ReclaimPageShared : Type 0
 ReclaimPageShared =
-    let r = foretell (small 1) scene 2 (ReclaimPage (vm 5 3) 2) in
-    let q = foretell (small 1) scene 2 (ReclaimPage (vm 5 3) 3) in
+    let r = predict_step (small 1) scene 2 (ReclaimPage (vm 5 3) 2) in
+    let q = predict_step (small 1) scene 2 (ReclaimPage (vm 5 3) 3) in
     (r.0 ≡ ok)
     × (at r.1.contents.shared.host.map (0x100a ∷ 0x100b ∷ 0x100c ∷ [])
     ≡ annotation 7 ∷ leaf RWX 0x100b Owned ∷ leaf RWX 0x100c SharedOwned ∷ [])
@@ -73,7 +73,7 @@ ReclaimPageRemoves =
     let last =
     record dying_guest
     { tree = low_tree 0x1721 0x1723 (pages ((1, leaf RWX 0x100a Owned) ∷ [])) } in
-    let r = foretell (small 1) (with_guest_part 5 last scene) 2 (ReclaimPage (vm 5 3) 1) in
+    let r = predict_step (small 1) (with_guest_part 5 last scene) 2 (ReclaimPage (vm 5 3) 1) in
     (r.0 ≡ ok)
     × ((r.1.contents.guest 5).tree.table (1, 0) ≡ None)
     × ((r.1.contents.guest 5).tree.table (2, 0) ≡ Some 0x1721)
@@ -94,7 +94,7 @@ ReclaimPageRefused =
 -- sides; the block that it lay in is split, with tables from the shared pool
 abbrev pub ReclaimPoolMade : Type 0
 ReclaimPoolMade =
-    let r = foretell (small 1) scene 2 (ReclaimPool (vm 5 3)) in
+    let r = predict_step (small 1) scene 2 (ReclaimPool (vm 5 3)) in
     (r.0 ≡ Done (FrameOf (record { 0 = 0x1722 })))
     × (at r.1.contents.shared.host.map (0x1721 ∷ 0x1722 ∷ 0x1723 ∷ [])
     ≡ annotation 1 ∷ Unmapped ∷ annotation 1 ∷ [])
@@ -130,7 +130,8 @@ flat_guest map free =
 -- a finished guest is Empty; its root's frame is unmapped on both sides, and the ticket goes on
 abbrev pub FinishGuestMade : Type 0
 FinishGuestMade =
-    let r = foretell (small 0) (with_guest_part 8 (flat_guest (pages []) []) scene) 6 FinishGuest in
+    let r =
+    predict_step (small 0) (with_guest_part 8 (flat_guest (pages []) []) scene) 6 FinishGuest in
     (r.0 ≡ ok)
     × (r.1.contents.guest 8 ≡ no_guest)
     × (r.1.contents.cpu 6 ≡ ticketed 8 1 Finished)

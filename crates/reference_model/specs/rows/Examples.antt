@@ -18,7 +18,7 @@ use Rattle.page_state.specs.Trees.{no_tree, root_tree}
 use Rattle.reference_model.specs.model.State.{Reference, put_at, no_guest, no_shared, blank}
 use Rattle.page_state.specs.Layouts.{Layout}
 use Rattle.page_state.specs.Tables.{put, need, returned, edited}
-use Rattle.reference_model.specs.model.Step.{foretell}
+use Rattle.reference_model.specs.model.Step.{predict_step}
 use Rattle.reference_model.specs.rows.Scene.{ok}
 use Rattle.reference_model.specs.model.Boot.{boot, CanBoot}
 
@@ -49,7 +49,7 @@ free_count s = length s.contents.shared.free
 
 -- the reply to a share of the frame by a CPU, and the state after it
 abbrev pub share : Layout → Reference → ℕ → ℕ → Reply × Reference
-share l s cpu f = foretell l s cpu (ShareHyp f)
+share l s cpu f = predict_step l s cpu (ShareHyp f)
 
 -- the reply to a first share after the boot, and the state after it
 abbrev pub first_share : Layout → ℕ → Reply × Reference

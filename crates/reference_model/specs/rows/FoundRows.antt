@@ -16,7 +16,7 @@ use Rattle.reference_model.specs.model.Owner.{row_of}
 use Rattle.page_state.specs.Map.{Map}
 use Rattle.page_state.specs.Trees.{Tree}
 use Rattle.reference_model.specs.model.State.{live, Guest, Cpu, Reference, plain_row, no_cpu, no_guest, no_vms, all_rooms}
-use Rattle.reference_model.specs.model.Step.{foretell}
+use Rattle.reference_model.specs.model.Step.{predict_step}
 use Rattle.reference_model.specs.rows.OwnerRows.{lent_row}
 use Rattle.reference_model.specs.rows.Scene.{small, range, vm, listed, pages, tables, at, row, old_row}
 use Rattle.reference_model.specs.rows.SceneState.{loading, ticketed}
@@ -133,7 +133,7 @@ found f = row_of tiny flat_scene.contents f
 
 -- the row of a frame that a step keeps
 abbrev pub kept : ℕ → Step → ℕ → Row
-kept cpu step f = (foretell tiny flat_scene cpu step).1.contents.shared.row f
+kept cpu step f = (predict_step tiny flat_scene cpu step).1.contents.shared.row f
 
 -- a guest's own frame, one that it lends to the host, and two that the host lends: to a guest's
 -- first page of it, and to the hypervisor

@@ -6,7 +6,7 @@ use Rattle.page_state.specs.declared.entry.Entry.TheVariants.{Unmapped}
 use Rattle.call_table.specs.declared.reply.Refusal.TheVariants.{Perm, NoVm, Invalid, NoPool}
 use Rattle.call_table.specs.declared.step.Step.TheVariants.{ShareGuest, UnshareGuest, DonateGuest}
 use Rattle.page_state.specs.EntryTests.{leaf, annotation}
-use Rattle.reference_model.specs.model.Step.{foretell}
+use Rattle.reference_model.specs.model.Step.{predict_step}
 use Rattle.reference_model.specs.rows.Scene.{small, ok, vm, at, Refuses}
 use Rattle.reference_model.specs.rows.SceneState.{scene, protected_guest, plain_guest, with_free, with_guest_part}
 
@@ -14,7 +14,7 @@ use Rattle.reference_model.specs.rows.SceneState.{scene, protected_guest, plain_
 -- tables come from their own pools
 abbrev pub ShareGuestMade : Type 0
 ShareGuestMade =
-    let r = foretell (small 1) scene 1 (ShareGuest 0x1401 0x300 RW 1) in
+    let r = predict_step (small 1) scene 1 (ShareGuest 0x1401 0x300 RW 1) in
     let g = r.1.contents.guest 4 in
     (r.0 ≡ ok)
     × (at r.1.contents.shared.host.map (0x1400 ∷ 0x1401 ∷ 0x1402 ∷ [])
@@ -33,11 +33,11 @@ ShareGuestMade =
 -- free frame in each pool is enough
 abbrev pub ShareGuestNear : Type 0
 ShareGuestNear =
-    let r = foretell (small 1) scene 1 (ShareGuest 0x1000 17 RX 1) in
+    let r = predict_step (small 1) scene 1 (ShareGuest 0x1000 17 RX 1) in
     let s =
     with_free (0x1610 ∷ [])
     (with_guest_part 4 (record plain_guest { free = 0x1714 ∷ [] }) scene) in
-    let q = foretell (small 1) s 1 (ShareGuest 0x1401 0x3ffff R 1) in
+    let q = predict_step (small 1) s 1 (ShareGuest 0x1401 0x3ffff R 1) in
     (r.0 ≡ ok)
     × (at r.1.contents.shared.host.map (0xfff ∷ 0x1000 ∷ 0x1001 ∷ [])
     ≡ Unmapped ∷ leaf RWX 0x1000 SharedOwned ∷ leaf RWX 0x1001 SharedOwned ∷ [])
@@ -73,7 +73,7 @@ ShareGuestRefused =
 -- goes, and its frame comes back to its place in the guest's own pool
 abbrev pub UnshareGuestMade : Type 0
 UnshareGuestMade =
-    let r = foretell (small 1) scene 2 (UnshareGuest (vm 4 2) 16) in
+    let r = predict_step (small 1) scene 2 (UnshareGuest (vm 4 2) 16) in
     let g = r.1.contents.guest 4 in
     (r.0 ≡ ok)
     × (at r.1.contents.shared.host.map (0x1005 ∷ 0x1006 ∷ 0x1007 ∷ [])
@@ -102,7 +102,7 @@ UnshareGuestRefused =
 -- a donation to a protected guest leaves the host its owner's number, and maps the guest's page
 abbrev pub DonateGuestMade : Type 0
 DonateGuestMade =
-    let r = foretell (small 1) scene 0 (DonateGuest 0x1401 0x300 1) in
+    let r = predict_step (small 1) scene 0 (DonateGuest 0x1401 0x300 1) in
     let g = r.1.contents.guest 3 in
     (r.0 ≡ ok)
     × (at r.1.contents.shared.host.map (0x1400 ∷ 0x1401 ∷ 0x1402 ∷ [])
@@ -120,7 +120,7 @@ DonateGuestMade =
 -- an Owned page can be donated as well, and tables that exist take no frame
 abbrev pub DonateGuestNear : Type 0
 DonateGuestNear =
-    let r = foretell (small 1) scene 0 (DonateGuest 0x1000 9 1) in
+    let r = predict_step (small 1) scene 0 (DonateGuest 0x1000 9 1) in
     (r.0 ≡ ok)
     × (at r.1.contents.shared.host.map (0xfff ∷ 0x1000 ∷ 0x1001 ∷ [])
     ≡ Unmapped ∷ annotation 5 ∷ leaf RWX 0x1001 SharedOwned ∷ [])

@@ -10,7 +10,7 @@ use Rattle.call_table.specs.declared.step.VmKind.TheVariants.{Protected, Plain a
 use Rattle.page_state.specs.EntryTests.{leaf, annotation}
 use Rattle.reference_model.specs.model.State.{live, no_cpu}
 use Rattle.page_state.specs.Trees.{root_tree}
-use Rattle.reference_model.specs.model.Step.{foretell}
+use Rattle.reference_model.specs.model.Step.{predict_step}
 use Rattle.reference_model.specs.rows.Scene.{small, ok, range, vm, at, Refuses}
 use Rattle.reference_model.specs.rows.SceneState.{scene, protected_guest, dying_guest, ticketed, with_free, with_cpu}
 
@@ -18,7 +18,7 @@ use Rattle.reference_model.specs.rows.SceneState.{scene, protected_guest, dying_
 -- hand; its ticket stays
 abbrev pub FundMade : Type 0
 FundMade =
-    let r = foretell (small 1) scene 7 (Fund 0x1410 3) in
+    let r = predict_step (small 1) scene 7 (Fund 0x1410 3) in
     (r.0 ≡ ok)
     × (at r.1.contents.shared.host.map (0x140f ∷ 0x1410 ∷ 0x1412 ∷ 0x1413 ∷ [])
     ≡ Unmapped ∷ annotation 1 ∷ annotation 1 ∷ Unmapped ∷ [])
@@ -47,7 +47,7 @@ FundRefused =
 -- the hand's range is unmapped on both sides, and the hand is empty
 abbrev pub UnfundMade : Type 0
 UnfundMade =
-    let r = foretell (small 1) scene 3 Unfund in
+    let r = predict_step (small 1) scene 3 Unfund in
     (r.0 ≡ ok) × (r.1.contents.cpu 3 ≡ no_cpu)
     × (at r.1.contents.shared.host.map (0x1003 ∷ 0x1004 ∷ 0x1005 ∷ 0x1006 ∷ [])
     ≡ annotation 1 ∷ Unmapped ∷ Unmapped ∷ leaf RWX 0x1006 SharedOwned ∷ [])
@@ -58,7 +58,7 @@ UnfundMade =
 -- if the hand lies in a block, the block is split in both trees; the CPU's ticket stays
 abbrev pub UnfundSplits : Type 0
 UnfundSplits =
-    let r = foretell (small 1) scene 4 Unfund in
+    let r = predict_step (small 1) scene 4 Unfund in
     (r.0 ≡ ok) × (r.1.contents.cpu 4 ≡ ticketed 6 9 Booked)
     × (at r.1.contents.shared.host.map (0x172f ∷ 0x1730 ∷ 0x1732 ∷ 0x1733 ∷ [])
     ≡ annotation 1 ∷ Unmapped ∷ Unmapped ∷ annotation 1 ∷ [])
@@ -78,7 +78,7 @@ UnfundRefused =
 -- frame, its pool the others; the hand is empty, and no map of the host's changes
 abbrev pub InstallMade : Type 0
 InstallMade =
-    let r = foretell (small 1) scene 4 Install in
+    let r = predict_step (small 1) scene 4 Install in
     (r.0 ≡ ok)
     × (r.1.contents.guest 6
     ≡ record {
@@ -107,7 +107,7 @@ InstallPlain =
       hand = Some (range 0x1738 1);
       ticket = Some (record { vm = vm 6 9; kind = PlainVm; stage = Booked });
     } in
-    let r = foretell (small 1) (with_cpu 4 k scene) 4 Install in
+    let r = predict_step (small 1) (with_cpu 4 k scene) 4 Install in
     (r.0 ≡ ok)
     × (r.1.contents.guest 6
     ≡ record {
@@ -135,7 +135,7 @@ InstallRefused =
 abbrev pub TopupMade : Type 0
 TopupMade =
     let r =
-    foretell (small 1)
+    predict_step (small 1)
     (with_cpu 7 (record (ticketed 9 1 Installed) { hand = Some (range 0x1703 2) }) scene) 7
     (Topup (vm 3 5)) in
     (r.0 ≡ ok)
@@ -151,7 +151,7 @@ TopupMade =
 abbrev pub TopupDying : Type 0
 TopupDying =
     let r =
-    foretell (small 1) (with_cpu 7 (record no_cpu { hand = Some (range 0x1703 2) }) scene) 7
+    predict_step (small 1) (with_cpu 7 (record no_cpu { hand = Some (range 0x1703 2) }) scene) 7
     (Topup (vm 5 3)) in
     (r.0 ≡ ok)
     × (r.1.contents.guest 5
@@ -161,7 +161,7 @@ TopupDying =
 -- with two tables and two free frames, 508 more make 512, the most
 abbrev pub TopupEnough : Type 0
 TopupEnough =
-    (foretell (small 1) (with_cpu 2 (record no_cpu { hand = Some (range 0x1200 508) }) scene) 2
+    (predict_step (small 1) (with_cpu 2 (record no_cpu { hand = Some (range 0x1200 508) }) scene) 2
     (Topup (vm 3 5))).0
     ≡ ok
 

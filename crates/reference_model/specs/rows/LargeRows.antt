@@ -11,7 +11,7 @@ use Rattle.reference_model.specs.model.Changes.{change}
 use Rattle.page_state.specs.EntryTests.{leaf, annotation}
 use Rattle.page_state.specs.Map.{Map, empty_map, update}
 use Rattle.reference_model.specs.model.SharedRules.{abort_edit}
-use Rattle.reference_model.specs.model.Step.{foretell}
+use Rattle.reference_model.specs.model.Step.{predict_step}
 use Rattle.reference_model.specs.rows.Scene.{small, range, at, Refuses}
 use Rattle.reference_model.specs.rows.SceneState.{scene, with_free}
 
@@ -48,7 +48,7 @@ FinishGuestShort = Refuses (small 1) (with_free (0x1610 ∷ []) scene) 6 FinishG
 -- with two it is: both blocks are split, and the root's pages unmapped
 abbrev pub FinishGuestSplits : Type 0
 FinishGuestSplits =
-    let r = foretell (small 1) scene 6 FinishGuest in
+    let r = predict_step (small 1) scene 6 FinishGuest in
     (at r.1.contents.shared.host.map (0x1740 ∷ 0x1741 ∷ 0x1742 ∷ [])
     ≡ annotation 1 ∷ Unmapped ∷ annotation 1 ∷ [])
     × (r.1.contents.shared.free ≡ 0x1620 ∷ [])

@@ -9,7 +9,7 @@ use Rattle.call_table.specs.declared.reply.Reply.TheVariants.{Done}
 use Rattle.call_table.specs.declared.reply.Value.TheVariants.{Entry as EntryOf}
 use Rattle.call_table.specs.declared.step.Step.TheVariants.{DonateGuest, GuestShareHost, GuestUnshareHost, GuestRelax, GuestTranslate}
 use Rattle.page_state.specs.EntryTests.{leaf, annotation, join}
-use Rattle.reference_model.specs.model.Step.{foretell}
+use Rattle.reference_model.specs.model.Step.{predict_step}
 use Rattle.reference_model.specs.rows.Scene.{small, ok, vm, at, Refuses, GuestAlone}
 use Rattle.reference_model.specs.rows.SceneState.{scene, protected_guest, with_free, with_guest_part}
 
@@ -35,8 +35,8 @@ DonateGuestRefused =
 -- frame
 abbrev pub GuestShareHostMade : Type 0
 GuestShareHostMade =
-    let r = foretell (small 1) scene 0 (GuestShareHost 7) in
-    let q = foretell (small 1) scene 0 (GuestShareHost 12) in
+    let r = predict_step (small 1) scene 0 (GuestShareHost 7) in
+    let q = predict_step (small 1) scene 0 (GuestShareHost 12) in
     (r.0 ≡ ok)
     × (at r.1.contents.shared.host.map (0x1008 ∷ 0x1009 ∷ 0x100a ∷ [])
     ≡ Unmapped ∷ leaf RWX 0x1009 SharedBorrowed ∷ annotation 7 ∷ [])
@@ -63,7 +63,7 @@ GuestShareHostRefused =
 -- owner's number
 abbrev pub GuestUnshareHostMade : Type 0
 GuestUnshareHostMade =
-    let r = foretell (small 1) scene 0 (GuestUnshareHost 8) in
+    let r = predict_step (small 1) scene 0 (GuestUnshareHost 8) in
     (r.0 ≡ ok)
     × (at r.1.contents.shared.host.map (0x1006 ∷ 0x1007 ∷ 0x1008 ∷ [])
     ≡ leaf RWX 0x1006 SharedOwned ∷ annotation 5 ∷ Unmapped ∷ [])
@@ -85,8 +85,8 @@ GuestUnshareHostRefused =
 -- a guest gets more rights to a page that it borrows, and nothing else changes
 abbrev pub GuestRelaxMade : Type 0
 GuestRelaxMade =
-    let r = foretell (small 1) scene 1 (GuestRelax 16 RW) in
-    let q = foretell (small 1) scene 1 (GuestRelax 16 R) in
+    let r = predict_step (small 1) scene 1 (GuestRelax 16 RW) in
+    let q = predict_step (small 1) scene 1 (GuestRelax 16 R) in
     (r.0 ≡ ok)
     × GuestAlone scene r.1
     × (at (r.1.contents.guest 4).tree.map (15 ∷ 16 ∷ 17 ∷ [])
@@ -129,14 +129,15 @@ GuestRelaxRefused =
 -- nothing changes
 abbrev pub GuestTranslateMade : Type 0
 GuestTranslateMade =
-    let r = foretell (small 1) scene 2 (GuestTranslate (vm 3 5) 8) in
+    let r = predict_step (small 1) scene 2 (GuestTranslate (vm 3 5) 8) in
     (r.0 ≡ Done (EntryOf (leaf RWX 0x1007 SharedOwned)))
     × GuestAlone scene r.1
     × (r.1.contents.guest 3 ≡ protected_guest)
     × (r.1.contents.cpu 2 ≡ scene.contents.cpu 2)
-    × ((foretell (small 1) scene 2 (GuestTranslate (vm 5 3) 3)).0
+    × ((predict_step (small 1) scene 2 (GuestTranslate (vm 5 3) 3)).0
     ≡ Done (EntryOf (leaf RW 0x100c SharedBorrowed)))
-    × ((foretell (small 1) scene 2 (GuestTranslate (vm 4 2) 0x3ffff)).0 ≡ Done (EntryOf Unmapped))
+    × ((predict_step (small 1) scene 2 (GuestTranslate (vm 4 2) 0x3ffff)).0
+    ≡ Done (EntryOf Unmapped))
 
 -- it is refused: no such slot or guest page, though the generation is wrong; another generation, or
 -- an Empty guest

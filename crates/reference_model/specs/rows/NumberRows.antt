@@ -6,7 +6,7 @@ use Rattle.call_table.specs.declared.reply.Reply.{Reply}
 use Rattle.call_table.specs.declared.reply.Reply.TheVariants.{Refused}
 use Rattle.call_table.specs.declared.step.Step.TheVariants.{ShareHyp}
 use Rattle.reference_model.specs.model.State.{Reference, put_at, all_rooms}
-use Rattle.reference_model.specs.model.Step.{Steps, foretell}
+use Rattle.reference_model.specs.model.Step.{Steps, predict_step}
 use Rattle.reference_model.specs.rows.Scene.{small, ok}
 use Rattle.reference_model.specs.rows.SceneState.{scene}
 
@@ -23,11 +23,11 @@ begun = record scene { rooms = record (all_rooms 64) { cpu = put_at (put_at (λ 
 -- number is 6, and of another CPU's first the number is 1
 abbrev pub NumbersMade : Type 0
 NumbersMade =
-    let t = (foretell (small 1) begun 2 (ShareHyp 0x1401)).1 in
+    let t = (predict_step (small 1) begun 2 (ShareHyp 0x1401)).1 in
     Steps (small 1) begun (shared_as 2 5 0x1401 ok) t
     × Steps (small 1) t (shared_as 2 6 0x1401 (Refused Perm))
-    (foretell (small 1) t 2 (ShareHyp 0x1401)).1
-    × Steps (small 1) t (shared_as 4 1 0x1000 ok) (foretell (small 1) t 4 (ShareHyp 0x1000)).1
+    (predict_step (small 1) t 2 (ShareHyp 0x1401)).1
+    × Steps (small 1) t (shared_as 4 1 0x1000 ok) (predict_step (small 1) t 4 (ShareHyp 0x1000)).1
 
 -- and no other number, whether the call is made or its CPU's log of 64 calls is full
 abbrev pub NumbersOnly : Type 0

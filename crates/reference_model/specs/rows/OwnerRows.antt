@@ -10,7 +10,7 @@ use Rattle.reference_model.specs.rows.EndRows.{flat_guest}
 use Rattle.page_state.specs.Layouts.{Layout}
 use Rattle.reference_model.specs.model.Owner.{lent_at}
 use Rattle.page_state.specs.Rows.{advance_row}
-use Rattle.reference_model.specs.help.RowChanges.{with_told}
+use Rattle.reference_model.specs.help.RowChanges.{with_touched_rows}
 use Rattle.reference_model.specs.model.Rules.{rule, names, guest_slot}
 use Rattle.reference_model.specs.model.State.{Reference, plain_row}
 use Rattle.reference_model.specs.model.Used.{used_of}
@@ -22,7 +22,7 @@ abbrev pub told : Layout → Reference → ℕ → Step → ℕ → Row
 told l s cpu step f =
     let slot = guest_slot (s.contents.cpu cpu) step in
     let x = used_of (names step) slot cpu s.contents in
-    (with_told l cpu slot (rule l cpu slot step x).changes x).shared.row f
+    (with_touched_rows l cpu slot (rule l cpu slot step x).changes x).shared.row f
 
 -- the same from the scene, in trees of two levels, in which each frame has an old row
 abbrev pub here : ℕ → Step → ℕ → Row

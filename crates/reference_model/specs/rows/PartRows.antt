@@ -6,7 +6,7 @@ use Rattle.call_table.specs.declared.step.Step.{Step}
 use Rattle.call_table.specs.declared.step.Step.TheVariants.{ShareHyp, UnshareHyp, DonateHyp, HypDonateHost, HostAbort, HostTranslate, HypTranslate, OwnerOf, Fund, Unfund, ShareGuest, UnshareGuest, DonateGuest, GuestShareHost, GuestUnshareHost, Install, Topup, ReclaimPage, ReclaimPool, FinishGuest, GuestRelax, GuestTranslate, MarkDying, VmReserve, VmOpen, VcpuLoad, VcpuPut, Teardown, VmRelease}
 use Rattle.call_table.specs.declared.step.VmKind.TheVariants.{Protected}
 use Rattle.reference_model.specs.model.State.{Rooms, Reference, put_at, all_rooms}
-use Rattle.reference_model.specs.model.Step.{foretell}
+use Rattle.reference_model.specs.model.Step.{predict_step}
 use Rattle.reference_model.specs.rows.Scene.{small, ok, vm, Refuses}
 use Rattle.reference_model.specs.rows.SceneState.{scene}
 
@@ -18,7 +18,7 @@ rooms s cpu v =
 
 -- the rooms of logs after a step in trees of one level, if each log can store 64 calls
 abbrev pub rooms_after : ℕ → Step → ℕ → List ℕ
-rooms_after cpu step v = rooms (foretell (small 0) scene cpu step).1 cpu v
+rooms_after cpu step v = rooms (predict_step (small 0) scene cpu step).1 cpu v
 
 -- stored only in the CPU's own log
 abbrev pub own_log : List ℕ
@@ -124,8 +124,8 @@ OwnLogFull =
     × Refuses (small 1) s 2 (Topup (vm 64 1)) LogFull
     × Refuses (small 1) s 2 MarkDying LogFull
     × Refuses (small 1) s 2 VcpuPut LogFull
-    × (rooms (foretell (small 1) s 2 (ShareHyp 0x900)).1 2 0 ≡ 64 ∷ 64 ∷ 64 ∷ 0 ∷ 64 ∷ [])
-    × ((foretell (small 1) s 3 (ShareHyp 0x1401)).0 ≡ ok)
+    × (rooms (predict_step (small 1) s 2 (ShareHyp 0x900)).1 2 0 ≡ 64 ∷ 64 ∷ 64 ∷ 0 ∷ 64 ∷ [])
+    × ((predict_step (small 1) s 3 (ShareHyp 0x1401)).0 ≡ ok)
 
 -- a full log of the Shared part stops the calls that use it, with a guest too, and no others
 abbrev pub SharedLogFull : Type 0
@@ -133,10 +133,10 @@ SharedLogFull =
     let s = with_rooms (record (all_rooms 64) { shared = 0 }) in
     Refuses (small 1) s 2 (ShareHyp 0x900) LogFull
     × Refuses (small 1) s 0 (GuestShareHost 7) LogFull
-    × (rooms (foretell (small 1) s 0 (GuestShareHost 7)).1 0 3 ≡ 64 ∷ 0 ∷ 64 ∷ 64 ∷ 64 ∷ [])
+    × (rooms (predict_step (small 1) s 0 (GuestShareHost 7)).1 0 3 ≡ 64 ∷ 0 ∷ 64 ∷ 64 ∷ 64 ∷ [])
     × Refuses (small 1) s 2 (GuestShareHost 7) NoVm
-    × ((foretell (small 1) s 1 (GuestRelax 16 RW)).0 ≡ ok)
-    × ((foretell (small 1) s 1 VcpuPut).0 ≡ ok)
+    × ((predict_step (small 1) s 1 (GuestRelax 16 RW)).0 ≡ ok)
+    × ((predict_step (small 1) s 1 VcpuPut).0 ≡ ok)
 
 -- a full log of a guest stops the calls that use it, alone or with the Shared part, and no others
 abbrev pub GuestLogFull : Type 0
@@ -144,10 +144,10 @@ GuestLogFull =
     let s = with_rooms (record (all_rooms 64) { guest = put_at (λ v. 64) 3 0 }) in
     Refuses (small 1) s 0 (GuestShareHost 7) LogFull
     × Refuses (small 1) s 2 (GuestTranslate (vm 3 5) 0x40000) LogFull
-    × (rooms (foretell (small 1) s 0 (GuestShareHost 7)).1 0 3 ≡ 64 ∷ 64 ∷ 0 ∷ 64 ∷ 64 ∷ [])
-    × ((foretell (small 1) s 1 (ShareGuest 0x1000 17 RW 1)).0 ≡ ok)
-    × ((foretell (small 1) s 0 (ShareHyp 0x1401)).0 ≡ ok)
-    × ((foretell (small 1) s 0 VcpuPut).0 ≡ ok)
+    × (rooms (predict_step (small 1) s 0 (GuestShareHost 7)).1 0 3 ≡ 64 ∷ 64 ∷ 0 ∷ 64 ∷ 64 ∷ [])
+    × ((predict_step (small 1) s 1 (ShareGuest 0x1000 17 RW 1)).0 ≡ ok)
+    × ((predict_step (small 1) s 0 (ShareHyp 0x1401)).0 ≡ ok)
+    × ((predict_step (small 1) s 0 VcpuPut).0 ≡ ok)
 
 -- a full log of the VM part stops the calls that use it, and no others
 abbrev pub VmsLogFull : Type 0
@@ -155,7 +155,7 @@ VmsLogFull =
     let s = with_rooms (record (all_rooms 64) { vms = 0 }) in
     Refuses (small 1) s 2 (VmReserve Protected 9) LogFull
     × Refuses (small 1) s 2 (Teardown (vm 63 1)) LogFull
-    × (rooms (foretell (small 1) s 2 VcpuPut).1 2 0 ≡ 0 ∷ 64 ∷ 64 ∷ 64 ∷ 64 ∷ [])
+    × (rooms (predict_step (small 1) s 2 VcpuPut).1 2 0 ≡ 0 ∷ 64 ∷ 64 ∷ 64 ∷ 64 ∷ [])
     × Refuses (small 1) s 2 (VcpuLoad (vm 64 1) 0) Invalid
     × Refuses (small 1) s 2 (Teardown (vm 64 1)) Invalid
-    × ((foretell (small 1) s 0 (GuestShareHost 7)).0 ≡ ok)
+    × ((predict_step (small 1) s 0 (GuestShareHost 7)).0 ≡ ok)

@@ -13,7 +13,7 @@ use Rattle.call_table.specs.declared.step.VmKind.TheVariants.{Protected}
 use Rattle.page_state.specs.EntryTests.{leaf, annotation}
 use Rattle.page_state.specs.Trees.{frames_from}
 use Rattle.reference_model.specs.model.Boot.{boot}
-use Rattle.reference_model.specs.help.ConditionChanges.{told_condition}
+use Rattle.reference_model.specs.help.ConditionChanges.{touched_condition}
 use Rattle.reference_model.specs.help.Conditions.{with_guest, guests}
 use Rattle.reference_model.specs.rows.FoundRows.{kept}
 use Rattle.reference_model.specs.model.GuestRules.{two_ranges}
@@ -22,7 +22,7 @@ use Rattle.reference_model.specs.rows.RunRows.{replies, after, frame}
 use Rattle.reference_model.specs.rows.Scene.{small, ok, vm, at, row, old_row, Refuses}
 use Rattle.reference_model.specs.rows.SceneState.{scene, protected_guest, with_guest_part}
 use Rattle.reference_model.specs.model.State.{Reference}
-use Rattle.reference_model.specs.model.Step.{foretell}
+use Rattle.reference_model.specs.model.Step.{predict_step}
 
 -- a protected VM is made, with three free frames; its vCPU is loaded
 abbrev pub begun : Reference
@@ -123,7 +123,7 @@ RangeRefused =
     × Refuses (small 1) scene 1 (DonateGuest 0x1401 0x300 2) Perm
     × Refuses (small 1) (with_guest_part 3 (record protected_guest { free = 0x1705 ∷ [] }) scene) 0
     (DonateGuest 0x1401 0x3ff 2) NoPool
-    × ((foretell (small 1)
+    × ((predict_step (small 1)
     (with_guest_part 3 (record protected_guest { free = 0x1705 ∷ [] }) scene) 0
     (DonateGuest 0x1401 0x3ff 1)).0
     ≡ ok)
@@ -131,7 +131,7 @@ RangeRefused =
 -- a shared range has the given rights on each page, and its frames advance
 abbrev pub RangeShared : Type 0
 RangeShared =
-    let r = foretell (small 1) scene 1 (ShareGuest 0x1401 0x300 RX 2) in
+    let r = predict_step (small 1) scene 1 (ShareGuest 0x1401 0x300 RX 2) in
     (r.0 ≡ ok)
     × (at r.1.contents.shared.host.map (0x1400 ∷ 0x1401 ∷ 0x1402 ∷ 0x1403 ∷ [])
     ≡ Unmapped ∷ leaf RWX 0x1401 SharedOwned ∷ leaf RWX 0x1402 SharedOwned ∷ Unmapped ∷ [])
@@ -149,11 +149,11 @@ RangeKept =
 -- the conditions of a range: each frame's page
 abbrev pub RangeMoves : Type 0
 RangeMoves =
-    (map (told_condition 3 (Some 2) (two_ranges 5 (annotation 4) 9 (leaf RWX 5 Owned) 3))
+    (map (touched_condition 3 (Some 2) (two_ranges 5 (annotation 4) 9 (leaf RWX 5 Owned) 3))
     (5 ∷ 6 ∷ 7 ∷ [])
     ≡ guests 2 9 ∷ guests 2 10 ∷ guests 2 11 ∷ [])
     × (map
-    (told_condition 3 (Some 2)
+    (touched_condition 3 (Some 2)
     (two_ranges 5 (leaf RWX 5 SharedOwned) 9 (leaf RW 5 SharedBorrowed) 3))
     (5 ∷ 6 ∷ 7 ∷ [])
     ≡ with_guest 2 9 ∷ with_guest 2 10 ∷ with_guest 2 11 ∷ [])

@@ -17,18 +17,18 @@ use Rattle.page_state.specs.Layouts.{Layout}
 use Rattle.reference_model.specs.rows.FoundRows.{tiny}
 use Rattle.reference_model.specs.rows.OwnerRows.{lent_row}
 use Rattle.reference_model.specs.model.State.{Reference, no_cpu, no_guest}
-use Rattle.reference_model.specs.model.Step.{foretell}
+use Rattle.reference_model.specs.model.Step.{predict_step}
 use Rattle.reference_model.specs.rows.Scene.{small, ok, vm, at}
 
 -- the replies to a list of steps of CPU 0
 abbrev pub replies : Layout → Reference → List Step → List Reply
 replies l s [] = []
-replies l s (step ∷ steps) = let r = foretell l s 0 step in r.0 ∷ replies l r.1 steps
+replies l s (step ∷ steps) = let r = predict_step l s 0 step in r.0 ∷ replies l r.1 steps
 
 -- the state after them
 abbrev pub after : Layout → Reference → List Step → Reference
 after l s [] = s
-after l s (step ∷ steps) = after l (foretell l s 0 step).1 steps
+after l s (step ∷ steps) = after l (predict_step l s 0 step).1 steps
 
 -- the reply with a frame
 abbrev pub frame : ℕ → Reply

@@ -18,7 +18,7 @@ use Rattle.page_state.specs.Layouts.{Layout}
 use Rattle.page_state.specs.Map.{Map}
 use Rattle.page_state.specs.Trees.{Block}
 use Rattle.reference_model.specs.model.State.{Reference}
-use Rattle.reference_model.specs.model.Step.{foretell}
+use Rattle.reference_model.specs.model.Step.{predict_step}
 
 -- 0x800 frames of memory from 0x1000 on, 16 device pages from 0x900 on, a carve-out of 64 frames
 -- from 0x1600 on, logs of 64 calls, and trees with `depth` levels below the root
@@ -83,8 +83,8 @@ old_row = row 9 SharedPool
 -- the step is refused so, and leaves all that there is
 pub record Refuses (l : Layout) (s : Reference) (cpu : ℕ) (step : Step)
     (why : Refusal) : Type 0 where
-  pub reply : (foretell l s cpu step).0 ≡ Refused why
-  pub left : (foretell l s cpu step).1.contents ≡ s.contents
+  pub reply : (predict_step l s cpu step).0 ≡ Refused why
+  pub left : (predict_step l s cpu step).1.contents ≡ s.contents
 
 -- only the Shared part has changed: no slot, no guest and nothing of the CPU
 abbrev pub SharedAlone : Reference → ℕ → Reference → Type 0

@@ -192,7 +192,8 @@ lonely = record scene {
       hyp =
           record {
             map = pages
-                ((0x4001001, leaf RW 0x1001 SharedBorrowed) ∷ (0x4001405, leaf RW 0x1405 Owned) ∷ []);
+                ((0x4001001, leaf RW 0x1001 SharedBorrowed) ∷ (0x4001405, leaf RW 0x1405 Owned)
+                ∷ []);
             table =
                 tables
                 (((2, 0), 0x1601) ∷ ((1, 0x20008), 0x1611) ∷ ((1, 0x2000a), 0x1608) ∷ []);

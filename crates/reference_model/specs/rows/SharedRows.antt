@@ -6,7 +6,7 @@ use Rattle.page_state.specs.declared.entry.Entry.TheVariants.{Unmapped}
 use Rattle.call_table.specs.declared.reply.Refusal.TheVariants.{Perm, Invalid, NoPool}
 use Rattle.call_table.specs.declared.step.Step.TheVariants.{ShareHyp, UnshareHyp, DonateHyp, HypDonateHost}
 use Rattle.page_state.specs.EntryTests.{leaf, annotation}
-use Rattle.reference_model.specs.model.Step.{foretell}
+use Rattle.reference_model.specs.model.Step.{predict_step}
 use Rattle.reference_model.specs.rows.Scene.{small, ok, at, Refuses, SharedAlone}
 use Rattle.reference_model.specs.rows.SceneState.{scene, with_free, lonely}
 
@@ -14,7 +14,7 @@ use Rattle.reference_model.specs.rows.SceneState.{scene, with_free, lonely}
 -- free frame, the hypervisor's the next
 abbrev pub ShareHypMade : Type 0
 ShareHypMade =
-    let r = foretell (small 1) scene 2 (ShareHyp 0x1401) in
+    let r = predict_step (small 1) scene 2 (ShareHyp 0x1401) in
     (r.0 ≡ ok) × SharedAlone scene 2 r.1
     × (at r.1.contents.shared.host.map (0x1400 ∷ 0x1401 ∷ 0x1402 ∷ [])
     ≡ Unmapped ∷ leaf RWX 0x1401 SharedOwned ∷ Unmapped ∷ [])
@@ -27,7 +27,7 @@ ShareHypMade =
 -- an Owned page can be shared as well, and tables that exist take no frame
 abbrev pub ShareHypNear : Type 0
 ShareHypNear =
-    let r = foretell (small 1) scene 2 (ShareHyp 0x1000) in
+    let r = predict_step (small 1) scene 2 (ShareHyp 0x1000) in
     (r.0 ≡ ok)
     × (at r.1.contents.shared.host.map (0xfff ∷ 0x1000 ∷ 0x1001 ∷ [])
     ≡ Unmapped ∷ leaf RWX 0x1000 SharedOwned ∷ leaf RWX 0x1001 SharedOwned ∷ [])
@@ -38,7 +38,7 @@ ShareHypNear =
 -- two free frames are enough for a share that needs two tables
 abbrev pub ShareHypEnough : Type 0
 ShareHypEnough = let r =
-    foretell (small 1) (with_free (0x1615 ∷ 0x1630 ∷ []) scene) 2 (ShareHyp 0x1401) in
+    predict_step (small 1) (with_free (0x1615 ∷ 0x1630 ∷ []) scene) 2 (ShareHyp 0x1401) in
     (r.0 ≡ ok) × (r.1.contents.shared.free ≡ [])
 
 -- a share is refused: no memory frame; a page that is shared, with a guest too, borrowed or
@@ -61,7 +61,7 @@ ShareHypRefused =
 -- pages stay
 abbrev pub UnshareHypMade : Type 0
 UnshareHypMade =
-    let r = foretell (small 1) scene 2 (UnshareHyp 0x1001) in
+    let r = predict_step (small 1) scene 2 (UnshareHyp 0x1001) in
     (r.0 ≡ ok) × SharedAlone scene 2 r.1
     × (at r.1.contents.shared.host.map (0x1000 ∷ 0x1001 ∷ 0x1002 ∷ [])
     ≡ leaf RWX 0x1000 Owned ∷ leaf RWX 0x1001 Owned ∷ annotation 1 ∷ [])
@@ -73,7 +73,7 @@ UnshareHypMade =
 -- its place in the pool's order; the roots and the host's table stay
 abbrev pub UnshareHypRemoves : Type 0
 UnshareHypRemoves =
-    let r = foretell (small 1) lonely 2 (UnshareHyp 0x1001) in
+    let r = predict_step (small 1) lonely 2 (UnshareHyp 0x1001) in
     (r.0 ≡ ok)
     × (r.1.contents.shared.hyp.table (1, 0x20008) ≡ None)
     × (r.1.contents.shared.hyp.table (2, 0) ≡ Some 0x1601)
@@ -96,7 +96,7 @@ UnshareHypRefused =
 -- a donation annotates the host's range and maps the hypervisor's, frame by frame
 abbrev pub DonateHypMade : Type 0
 DonateHypMade =
-    let r = foretell (small 1) scene 2 (DonateHyp 0x1410 3) in
+    let r = predict_step (small 1) scene 2 (DonateHyp 0x1410 3) in
     (r.0 ≡ ok) × SharedAlone scene 2 r.1
     × (at r.1.contents.shared.host.map (0x140f ∷ 0x1410 ∷ 0x1412 ∷ 0x1413 ∷ [])
     ≡ Unmapped ∷ annotation 1 ∷ annotation 1 ∷ Unmapped ∷ [])
@@ -107,7 +107,7 @@ DonateHypMade =
 -- a whole block of 512 pages is one word in each tree, and takes no table
 abbrev pub DonateHypBlock : Type 0
 DonateHypBlock =
-    let r = foretell (small 1) (with_free [] scene) 2 (DonateHyp 0x1400 512) in
+    let r = predict_step (small 1) (with_free [] scene) 2 (DonateHyp 0x1400 512) in
     (r.0 ≡ ok)
     × (at r.1.contents.shared.host.map (0x1400 ∷ 0x15ff ∷ [])
     ≡ annotation 1 ∷ annotation 1 ∷ [])
@@ -132,7 +132,7 @@ DonateHypRefused =
 -- a page that the hypervisor gives back is unmapped on both sides
 abbrev pub HypDonateHostMade : Type 0
 HypDonateHostMade =
-    let r = foretell (small 1) scene 2 (HypDonateHost 0x1002 2) in
+    let r = predict_step (small 1) scene 2 (HypDonateHost 0x1002 2) in
     (r.0 ≡ ok) × SharedAlone scene 2 r.1
     × (at r.1.contents.shared.host.map (0x1001 ∷ 0x1002 ∷ 0x1003 ∷ 0x1004 ∷ [])
     ≡ leaf RWX 0x1001 SharedOwned ∷ Unmapped ∷ Unmapped ∷ annotation 1 ∷ [])
@@ -143,7 +143,7 @@ HypDonateHostMade =
 -- a page of a block is given back: both blocks are split, and their other pages stay as they were
 abbrev pub HypDonateHostSplits : Type 0
 HypDonateHostSplits =
-    let r = foretell (small 1) scene 2 (HypDonateHost 0x1200 1) in
+    let r = predict_step (small 1) scene 2 (HypDonateHost 0x1200 1) in
     (r.0 ≡ ok)
     × (at r.1.contents.shared.host.map (0x1200 ∷ 0x1201 ∷ 0x13ff ∷ [])
     ≡ Unmapped ∷ annotation 1 ∷ annotation 1 ∷ [])
@@ -156,7 +156,7 @@ HypDonateHostSplits =
 -- the last page of both trees' tables is given back: both frames come back, each to its place
 abbrev pub HypDonateHostRemoves : Type 0
 HypDonateHostRemoves =
-    let r = foretell (small 1) lonely 2 (HypDonateHost 0x1405 1) in
+    let r = predict_step (small 1) lonely 2 (HypDonateHost 0x1405 1) in
     (r.0 ≡ ok)
     × (r.1.contents.shared.host.table (1, 10) ≡ None)
     × (r.1.contents.shared.hyp.table (1, 0x2000a) ≡ None)

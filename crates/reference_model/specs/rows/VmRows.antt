@@ -7,7 +7,7 @@ use Rattle.call_table.specs.declared.reply.Value.TheVariants.{Vm}
 use Rattle.call_table.specs.declared.step.Step.TheVariants.{VmReserve, VmOpen, VcpuLoad, VcpuPut, Teardown, VmRelease}
 use Rattle.call_table.specs.declared.step.VmKind.TheVariants.{Protected, Plain as PlainVm}
 use Rattle.reference_model.specs.model.State.{reserved, opened, closing, no_slot, no_cpu}
-use Rattle.reference_model.specs.model.Step.{foretell}
+use Rattle.reference_model.specs.model.Step.{predict_step}
 use Rattle.reference_model.specs.rows.Scene.{small, ok, range, vm, at, Refuses, SlotsAlone}
 use Rattle.reference_model.specs.rows.SceneState.{scene, held_slot, open_slot, loading, ticketed, with_slots}
 
@@ -15,7 +15,7 @@ use Rattle.reference_model.specs.rows.SceneState.{scene, held_slot, open_slot, l
 -- has its ticket, and the reply is its name
 abbrev pub VmReserveMade : Type 0
 VmReserveMade =
-    let r = foretell (small 1) scene 2 (VmReserve Protected 3) in
+    let r = predict_step (small 1) scene 2 (VmReserve Protected 3) in
     (r.0 ≡ Done (Vm (vm 12 6)))
     × SlotsAlone scene r.1
     × (r.1.contents.vms.slot 12
@@ -27,9 +27,9 @@ VmReserveMade =
 -- is one too
 abbrev pub VmReservePlain : Type 0
 VmReservePlain =
-    let r = foretell (small 1) scene 1 (VmReserve PlainVm 8) in
+    let r = predict_step (small 1) scene 1 (VmReserve PlainVm 8) in
     let q =
-    foretell (small 1)
+    predict_step (small 1)
     (with_slots (λ v. if v == 63 then no_slot 2 else open_slot 1 PlainVm []) scene) 2
     (VmReserve PlainVm 1) in
     (r.0 ≡ Done (Vm (vm 12 6)))
@@ -55,7 +55,7 @@ VmReserveRefused =
 -- an installed VM's slot is Open, its ticket is given up, and the reply is its name
 abbrev pub VmOpenMade : Type 0
 VmOpenMade =
-    let r = foretell (small 1) scene 7 VmOpen in
+    let r = predict_step (small 1) scene 7 VmOpen in
     (r.0 ≡ Done (Vm (vm 9 1)))
     × SlotsAlone scene r.1
     × (r.1.contents.vms.slot 9 ≡ record (held_slot reserved 1) { stand = opened })
@@ -74,7 +74,7 @@ VmOpenRefused =
 -- the CPU loads a vCPU: the CPU and the slot name each other; the slot's other vCPUs stay
 abbrev pub VcpuLoadMade : Type 0
 VcpuLoadMade =
-    let r = foretell (small 1) scene 2 (VcpuLoad (vm 4 2) 2) in
+    let r = predict_step (small 1) scene 2 (VcpuLoad (vm 4 2) 2) in
     (r.0 ≡ ok)
     × SlotsAlone scene r.1
     × (at (r.1.contents.vms.slot 4).loaded (0 ∷ 1 ∷ 2 ∷ 3 ∷ [])
@@ -102,7 +102,7 @@ VcpuLoadRefused =
 -- the CPU's vCPU isn't loaded any more, and its slot's others stay
 abbrev pub VcpuPutMade : Type 0
 VcpuPutMade =
-    let r = foretell (small 1) scene 9 VcpuPut in
+    let r = predict_step (small 1) scene 9 VcpuPut in
     (r.0 ≡ ok)
     × SlotsAlone scene r.1
     × (at (r.1.contents.vms.slot 4).loaded (0 ∷ 1 ∷ 2 ∷ 3 ∷ [])
@@ -118,8 +118,8 @@ VcpuPutRefused = Refuses (small 1) scene 2 VcpuPut NoVm × Refuses (small 1) sce
 -- kind
 abbrev pub TeardownMade : Type 0
 TeardownMade =
-    let r = foretell (small 1) scene 3 (Teardown (vm 0 1)) in
-    let q = foretell (small 1) scene 1 (Teardown (vm 2 4)) in
+    let r = predict_step (small 1) scene 3 (Teardown (vm 0 1)) in
+    let q = predict_step (small 1) scene 1 (Teardown (vm 2 4)) in
     (r.0 ≡ ok)
     × SlotsAlone scene r.1
     × (r.1.contents.vms.slot 0 ≡ record (open_slot 1 Protected []) { stand = closing })
@@ -148,8 +148,8 @@ TeardownRefused =
 -- up; the CPU's hand stays
 abbrev pub VmReleaseMade : Type 0
 VmReleaseMade =
-    let r = foretell (small 1) scene 4 VmRelease in
-    let q = foretell (small 1) scene 8 VmRelease in
+    let r = predict_step (small 1) scene 4 VmRelease in
+    let q = predict_step (small 1) scene 8 VmRelease in
     (r.0 ≡ ok)
     × SlotsAlone scene r.1
     × (r.1.contents.vms.slot 6 ≡ no_slot 10)

@@ -1,6 +1,6 @@
 -- The effect of a change on one slot.
 use Rattle.std.specs.Prelude.{◌≡◌, ◌≢◌, ℕ, ◌+◌, ◌*◌, ◌%◌, ◌<◌, ◌≤◌, ◌⊎◌, true, false, List, ◌∷◌, Option, IfSome, Some, None, drop, take, slice_set}
-use Rattle.descriptor.specs.Word.{desc_of, CanBeSaid}
+use Rattle.descriptor.specs.Word.{desc_of, IsEncodable}
 use Rattle.page_state.specs.declared.entry.Entry.{Entry}
 use Rattle.page_state.specs.Entries.{advance, entry_of_word, word_of_entry}
 use Rattle.page_state.specs.Blocks.{fits_word}
@@ -53,7 +53,7 @@ pub record IsOpening {A : Type 0} (depth : ℕ) (s : Slot A) (c : Change) : Type
 pub record IsFirst {A : Type 0} (depth : ℕ) (s : Slot A) (first : Option Entry) : Type 0 where
   pub word : IfSome first
       (λ x. (w : ℕ) × (s ≡ Word w) × (x ≡ entry_of_word (desc_of (level_at depth) w)))
-  pub said : IfSome first (λ x. CanBeSaid (level_at depth) (word_of_entry x))
+  pub said : IfSome first (λ x. IsEncodable (level_at depth) (word_of_entry x))
   pub child : first ≡ None → HoldsWord s → ⊥
 
 -- the result of a look at slot `i`
@@ -120,7 +120,7 @@ pub record IsFilled {A : Type 0} (d : ℕ) (x : Entry) (t : Table A) : Type 0 wh
   pub parts : (k : ℕ) → k < 512 → IsPart d x k (slot_at t k)
 
 -- a word one level up encodes the map of a table with `depth` levels below it
-pub record IsSaidBy {A : Type 0} (depth : ℕ) (t : Table A) (word : ℕ) : Type 0 where
+pub record IsEntryOfParts {A : Type 0} (depth : ℕ) (t : Table A) (word : ℕ) : Type 0 where
   pub said : IsEntryWord (depth + 1) word
   pub fits : fits_word (depth + 1) (entry_of_word (desc_of (level_at (depth + 1)) word)) ≡ true
   pub parts : (k : ℕ)
@@ -134,7 +134,7 @@ pub record IsSaidBy {A : Type 0} (depth : ℕ) (t : Table A) (word : ℕ) : Type
 pub record IsFoldedIn {A : Type 0} (depth i : ℕ) (t u child : Table A)
     (before after : List ℕ) : Type 0 where
   pub word : ℕ
-  pub says : IsSaidBy depth child word
+  pub says : IsEntryOfParts depth child word
   pub written : IsWritten i word t u
   pub here : slot_at u i ≡ Word word
   pub freed : after ≡ frame_of child ∷ before

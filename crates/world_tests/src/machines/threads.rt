@@ -213,8 +213,8 @@ fn agrees(
     let (cpu, step, reply) = *call;
     assert!(rt; cpu < state.lists().layout.config.cpus);
     assert!(rt; has_next_generation(&state, cpu, step));
-    let (foretold, after) = predict_last(alloc, state, cpu, step)?;
-    assert_eq!(rt; reply, foretold);
+    let (predicted, after) = predict_last(alloc, state, cpu, step)?;
+    assert_eq!(rt; reply, predicted);
     Ok(after)
 }
 

@@ -8,6 +8,6 @@ returns c =
       layout = layout_once;
       lists = fault_once;
       made = unmade_once;
-      foretold = untold_once;
+      predicted = untold_once;
       judged = unjudged_once;
     }

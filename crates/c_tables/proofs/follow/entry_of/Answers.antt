@@ -2,12 +2,12 @@ use Rattle.std.proofs.Common.{ℕ, arith, refl}
 use Rattle.descriptor.specs.declared.Level.{Level}
 use Rattle.descriptor.specs.declared.Desc.{Desc}
 use Rattle.descriptor.specs.declared.Desc.TheVariants.{Malformed, Unmapped, Annotated, Leaf, Table}
-use Rattle.descriptor.specs.Word.{IsSaid}
+use Rattle.descriptor.specs.Word.{DecodesTo}
 use Rattle.page_state.specs.Entries.{entry_of_word}
 use Rattle.c_tables.specs.ByFrames.{HasSmallFrame, level_at}
 use Rattle.c_tables.proofs.follow.entry_of.Goals as goal
 
-small_entry : (l : Level) (w : ℕ) (d : Desc) → IsSaid l w d → HasSmallFrame (entry_of_word d)
+small_entry : (l : Level) (w : ℕ) (d : Desc) → DecodesTo l w d → HasSmallFrame (entry_of_word d)
 small_entry l w Malformed h = tt
 small_entry l w Unmapped h = tt
 small_entry l w (Annotated o) h = tt

@@ -51,7 +51,7 @@ returns-then-eq-clause-short c e =
     (ghost_state b) c.in_ok-before.ensures.layout c.in_ok-before.ensures.contents
     (has-room (names c.args.step) slot c.args.cpu g.layout.config.cpus
     (ghost_state b).rooms c.requires.cpu less c.in_ok-before.ensures.rooms)
-    c.in_ok-reply.reply (ghost_state c.in_ok-reply.after) c.in_ok-reply.ensures.foretold
+    c.in_ok-reply.reply (ghost_state c.in_ok-reply.after) c.in_ok-reply.ensures.predicted
     ((replies_tell c.in_ok-reply.reply (Refused NoPool)).0 (sym c.eq.ensures ∙ c.if-eq.true))
 
 pub returns-clause-told : goal.returns-clause-told
@@ -66,7 +66,7 @@ returns-clause-told c =
     (ghost_state b) c.in_ok-before.ensures.layout c.in_ok-before.ensures.contents
     (has-room (names c.args.step) slot c.args.cpu g.layout.config.cpus
     (ghost_state b).rooms c.requires.cpu less c.in_ok-before.ensures.rooms)
-    c.in_ok-reply.reply (ghost_state c.in_ok-reply.after) c.in_ok-reply.ensures.foretold
+    c.in_ok-reply.reply (ghost_state c.in_ok-reply.after) c.in_ok-reply.ensures.predicted
     (λ h. let bad : true ≡ false =
     sym ((replies_tell c.in_ok-reply.reply (Refused NoPool)).1 h) ∙ sym c.eq.ensures ∙ c.if-eq.false in
     cc)

@@ -5,7 +5,7 @@ use mathlib.Core.Path.{fun_ext}
 use Rattle.reference_model.specs.model.State.{Contents, Guest, no_guest}
 use Rattle.ghost_spec.specs.declared.lists.GhostLists.{GhostLists}
 use Rattle.ghost_spec.specs.States.{contents_in, guest_in}
-use Rattle.ghost_spec.proofs.Foretold.{contents-same}
+use Rattle.ghost_spec.proofs.Predictions.{contents-same}
 use Rattle.free_judge.specs.Asked.{filled_by, filled_guest}
 use Rattle.free_judge.proofs.Fills.{guests-filled}
 use Rattle.free_judge.proofs.bare.bare.Goals as goal

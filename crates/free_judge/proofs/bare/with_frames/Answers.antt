@@ -2,7 +2,7 @@ use Rattle.std.proofs.Common.{◌≡◌, ap, ◌∙◌}
 use Rattle.page_state.proofs.Common.{same2}
 use Rattle.reference_model.specs.model.State.{Contents, Reference}
 use Rattle.ghost_spec.specs.States.{contents_in}
-use Rattle.ghost_spec.proofs.Foretold.{contents-same}
+use Rattle.ghost_spec.proofs.Predictions.{contents-same}
 use Rattle.free_judge.specs.Asked.{filled_shared}
 use Rattle.free_judge.proofs.bare.with_frames.Goals as goal
 

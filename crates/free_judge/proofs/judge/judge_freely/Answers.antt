@@ -1,7 +1,7 @@
 use Rattle.std.proofs.Common.{◌≡◌, ap, ◌∙◌}
 use Rattle.page_state.specs.LayoutView.{layout_of}
 use Rattle.reference_model.specs.model.State.{Contents}
-use Rattle.freedoms.specs.Ample.{foretell_amply}
+use Rattle.freedoms.specs.Ample.{predict_step_amply}
 use Rattle.freedoms.specs.Freedoms.{view}
 use Rattle.ghost_spec.specs.declared.lists.GhostLists.{GhostLists}
 use Rattle.ghost_spec.specs.States.{contents_in}
@@ -16,7 +16,7 @@ returns c =
     let post = contents_in c.args.post.now in
     let made = contents_in c.in_ok-told.made in
     let e = c.in_ok-told.ensures.told in
-    let t = foretell_amply l e.ready c.args.cpu c.args.step in
+    let t = predict_step_amply l e.ready c.args.cpu c.args.step in
     let at = λ (s : Contents) (g : GhostLists). view w (layout_of g.layout) s in
     let eb : contents_in c.in_ok-before.before ≡ view w l pre =
     c.in_ok-before.ensures.contents ∙ ap (at pre) c.lists.ensures.value in

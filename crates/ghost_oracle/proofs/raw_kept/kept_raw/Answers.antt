@@ -6,7 +6,7 @@ use Rattle.run_list.specs.Runs.{run_map, AreInReach}
 use Rattle.ghost_oracle.specs.declared.trees.Source.TheVariants.{Maplets}
 use Rattle.ghost_judge.specs.Audits.{AreMapsKept}
 use Rattle.ghost_oracle.specs.Found.{HasRowsOf}
-use Rattle.ghost_oracle.specs.RawFound.{IsRawFound, SaysRawRows}
+use Rattle.ghost_oracle.specs.RawFound.{IsRawFound, HasSameRawRows}
 use Rattle.ghost_oracle.proofs.RawReady.{ready}
 use Rattle.ghost_oracle.proofs.Scratch.{if_ok, if_ok2}
 use Rattle.ghost_oracle.proofs.raw_kept.kept_raw.Goals as goal
@@ -16,7 +16,7 @@ returns-clause-found g c = c.raw_from.ensures.found
 
 pub returns-clause-rows : goal.returns-clause-rows
 returns-clause-rows g c =
-    if_ok (λ x. x.shared.rows ≡ c.in_ok-rows.rows) (SaysRawRows c.args.parts.now) c.raw_from.result
+    if_ok (λ x. x.shared.rows ≡ c.in_ok-rows.rows) (HasSameRawRows c.args.parts.now) c.raw_from.result
     (λ x h. ap (λ r. run_map advance_row r.runs) h
     ∙ ap (run_map advance_row) (c.in_ok-rows.ensures ∙ c.runs.ensures.runs))
     c.raw_from.ensures.rows

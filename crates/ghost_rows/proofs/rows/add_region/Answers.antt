@@ -4,8 +4,8 @@ use Rattle.page_state.specs.declared.row.Row.{Row}
 use Rattle.page_state.specs.Regions.{is_in_range, is_memory_kind}
 use Rattle.page_state.specs.Rows.{advance_row}
 use Rattle.run_list.specs.Runs.{run_map}
-use Rattle.ghost_rows.specs.RowsTold.{told}
-use Rattle.ghost_rows.proofs.RowsTold.{none-laid, memory-over}
+use Rattle.ghost_rows.specs.ListedRows.{told}
+use Rattle.ghost_rows.proofs.ListedRows.{none-laid, memory-over}
 use Rattle.ghost_rows.proofs.rows.add_region.Goals as goal
 
 pub returns-in_ok-found-in-Memory-clause-map : goal.returns-in_ok-found-in-Memory-clause-map

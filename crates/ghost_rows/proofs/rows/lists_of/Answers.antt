@@ -8,7 +8,7 @@ use Rattle.ghost_spec.specs.declared.cpu.GhostCpu.{GhostCpu}
 use Rattle.ghost_spec.specs.declared.parts.GhostGuest.{GhostGuest}
 use Rattle.ghost_spec.specs.Views.{shared_in_lists}
 use Rattle.ghost_rows.specs.RowsLaid.{annotated_row, any_loan, guests_loan, any_use}
-use Rattle.ghost_rows.specs.RowsTold.{row_told}
+use Rattle.ghost_rows.specs.ListedRows.{row_told}
 use Rattle.ghost_rows.proofs.RowsFound.{told-is}
 use Rattle.ghost_rows.proofs.rows.lists_of.Goals as goal
 

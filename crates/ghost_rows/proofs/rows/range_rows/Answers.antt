@@ -2,8 +2,8 @@ use Rattle.std.proofs.Common.{◌≡◌, ◌∙◌, ◌+◌, ◌-◌, ℕ, None,
 use Rattle.page_state.specs.declared.row.Row.{Row}
 use Rattle.page_state.specs.Rows.{advance_row}
 use Rattle.run_list.specs.Runs.{run_map, map_updated, EndBefore}
-use Rattle.ghost_rows.specs.RowsTold.{told}
-use Rattle.ghost_rows.proofs.RowsTold.{piece-more, all-carried}
+use Rattle.ghost_rows.specs.ListedRows.{told}
+use Rattle.ghost_rows.proofs.ListedRows.{piece-more, all-carried}
 use Rattle.ghost_rows.proofs.rows.range_rows.Goals as goal
 
 pub loop-low-preserved : goal.loop-low-preserved

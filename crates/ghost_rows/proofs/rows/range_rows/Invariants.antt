@@ -4,7 +4,7 @@ use Rattle.page_state.specs.Map.{is_within}
 use Rattle.page_state.specs.Rows.{advance_row, HasPageBelow}
 use Rattle.run_list.specs.Runs.{run_map, EndBefore}
 use Rattle.run_list.specs.View.{IsKept}
-use Rattle.ghost_rows.specs.RowsTold.{told, AreCarried}
+use Rattle.ghost_rows.specs.ListedRows.{told, AreCarried}
 use Rattle.ghost_rows.proofs.rows.range_rows.Given as goal
 
 abbrev pub invariant-loop-low : goal.invariant-loop-low

@@ -9,8 +9,8 @@ use Rattle.page_state.specs.Rows.{advance_row}
 use Rattle.reference_model.specs.model.Owner.{row_of}
 use Rattle.run_list.specs.Runs.{run_map}
 use Rattle.ghost_spec.specs.States.{contents_in}
-use Rattle.ghost_rows.specs.RowsTold.{told}
-use Rattle.ghost_rows.proofs.RowsTold.{memory_row, memory-rows, regions-more}
+use Rattle.ghost_rows.specs.ListedRows.{told}
+use Rattle.ghost_rows.proofs.ListedRows.{memory_row, memory-rows, regions-more}
 use Rattle.ghost_rows.proofs.rows.rows_from_scratch.Goals as goal
 
 pub returns-clause-rows : goal.returns-clause-rows

@@ -2,7 +2,7 @@ use Rattle.std.proofs.Common.{◌≡◌, ℕ, drop, true, false, Some, None}
 use Rattle.page_state.specs.Regions.{find_region, is_memory_region}
 use Rattle.page_state.specs.Rows.{advance_row, HasPageBelow}
 use Rattle.run_list.specs.Runs.{run_map, AreInReach}
-use Rattle.ghost_rows.specs.RowsTold.{told}
+use Rattle.ghost_rows.specs.ListedRows.{told}
 use Rattle.ghost_rows.proofs.rows.rows_from_scratch.Given as goal
 
 abbrev pub invariant-loop-i : goal.invariant-loop-i

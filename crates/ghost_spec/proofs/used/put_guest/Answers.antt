@@ -4,7 +4,7 @@ use Rattle.std.proofs.lemmas.List.Elements.{All-set}
 use Rattle.reference_model.specs.model.State.{no_guest}
 use Rattle.ghost_spec.specs.Kept.{IsKeptGuest}
 use Rattle.ghost_spec.specs.States.{guest_in}
-use Rattle.ghost_spec.proofs.Foretold.{put-list}
+use Rattle.ghost_spec.proofs.Predictions.{put-list}
 use Rattle.ghost_spec.proofs.used.put_guest.Goals as goal
 
 pub returns-in-Some-clause-guests : goal.returns-in-Some-clause-guests

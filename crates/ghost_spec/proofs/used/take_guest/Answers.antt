@@ -4,7 +4,7 @@ use Rattle.std.proofs.lemmas.List.Elements.{All-set}
 use Rattle.reference_model.specs.model.State.{put_at, no_guest}
 use Rattle.ghost_spec.specs.Kept.{IsKeptGuest}
 use Rattle.ghost_spec.specs.States.{guest_in}
-use Rattle.ghost_spec.proofs.Foretold.{put-again, put-list}
+use Rattle.ghost_spec.proofs.Predictions.{put-again, put-list}
 use Rattle.ghost_spec.proofs.used.take_guest.Goals as goal
 
 pub returns-in-Some-clause-others : goal.returns-in-Some-clause-others

@@ -7,7 +7,7 @@ use Rattle.reference_model.specs.model.Step.{guest_need, shared_after, shared_ne
 use Rattle.part_types.specs.Planned.{planned, shared_with}
 use Rattle.part_types.specs.View.{shared_of}
 use Rattle.part_types.proofs.Planned.{after_planned}
-use Rattle.hypercalls.specs.Carried.{rows_told}
+use Rattle.hypercalls.specs.Carried.{with_rows_touched}
 use Rattle.hypercalls.proofs.Carried.{can_change, suits_after}
 use Rattle.hypercalls.proofs.carry.change_both.Goals as goal
 
@@ -45,7 +45,7 @@ returns-in-Ok-clause-shared g c =
     let b = c.reserve-2.ensures.rest in
     record {
       made = c.write_rows.ensures.told
-          ∙ ap (rows_told l c.args.id (Some c.args.slot) h)
+          ∙ ap (with_rows_touched l c.args.id (Some c.args.slot) h)
           (c.commit.ensures.made ∙ ap (λ d. shared_after d (planned p) x) (b.depth ∙ c.requires.can.suits.depth)
           ∙ after_planned l.depth h p x c.in-Ok.ensures.planned.both
           ∙ ap (shared_after l.depth h) c.in-Ok.ensures.planned.whole);

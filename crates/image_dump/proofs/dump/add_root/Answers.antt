@@ -1,13 +1,13 @@
 use Rattle.std.proofs.Common.{ℕ, [], ◌∷◌, ◌++◌, Err, refl, sym, ap, ◌∙◌}
 use Rattle.image_dump.specs.declared.line.DumpLine.TheVariants as line
 use Rattle.std.specs.Option.{is_some}
-use Rattle.image_dump.specs.Stating.{told_root}
+use Rattle.image_dump.specs.Stating.{reported_root}
 use Rattle.image_dump.proofs.Collected.{append_nil, same_tree}
 use Rattle.image_dump.proofs.dump.add_root.Goals as goal
 
 pub returns-in_ok-add_line-in-Err-clause-added : goal.returns-in_ok-add_line-in-Err-clause-added
 returns-in_ok-add_line-in-Err-clause-added g c = record {
-  found = record { root = told_root (is_some c.args.records.now) c.args.root; walked = Err c.in-Err.why };
+  found = record { root = reported_root (is_some c.args.records.now) c.args.root; walked = Err c.in-Err.why };
   found_in = record { root_is = refl; walk = c.in-Err.ensures.unwalked };
   grows = record {
     lines_are = c.in_ok-add_line-in-Err.ensures

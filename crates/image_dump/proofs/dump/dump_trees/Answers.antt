@@ -1,7 +1,7 @@
 use Rattle.std.proofs.Common.{Bool, arith, ap, subst, refl, ◌∙◌, ◌++◌, map, length, ◌+◌}
 use Rattle.std.specs.Io.KnownBytes.{Appends}
 use Rattle.std.specs.List.{list_all}
-use Rattle.image_dump.specs.Dumped.{says_states, text_of_lines}
+use Rattle.image_dump.specs.Dumped.{gives_states, text_of_lines}
 use Rattle.image_findings.specs.declared.finding.Finding.{Finding}
 use Rattle.image_dump.specs.Collecting.{findings_by}
 use Rattle.image_dump.specs.declared.line.DumpLine.TheVariants as line
@@ -50,6 +50,6 @@ returns-in-Ok-clause-dumped g c =
     c.in_ok-records.ensures.records c.in_ok-unwalked.ensures.collected c.new.ensures.items c.new-2.ensures.items
     c.new-3.ensures.items c.new-4.ensures.items
     (c.all_say_states-states.ensures
-    ∙ ap (λ (b : Bool). list_all (says_states b) c.args.roots.now) c.is_some.ensures) words first
+    ∙ ap (λ (b : Bool). list_all (gives_states b) c.args.roots.now) c.is_some.ensures) words first
     (ap (λ k. c.in_ok-unwalked.unwalked + k)
     (c.len.ensures ∙ found.ok.0)) refl c.in_ok-add_line.ensures written c.outcome.ensures

@@ -8,7 +8,7 @@ use Rattle.ghost_spec.specs.States.{contents_in}
 use Rattle.c_tables.specs.Given.{AreTrees}
 use Rattle.table_audit.specs.Audited.{IsFirstFinding, IsWell}
 use Rattle.table_audit.specs.Found.{found, trees_in}
-use Rattle.pkvm_oracle.specs.Audited.{trees_said}
+use Rattle.pkvm_oracle.specs.Audited.{trees_from_c}
 use Rattle.pkvm_oracle.proofs.CheckedStates.{same_trees}
 use Rattle.pkvm_oracle.proofs.audited.checked_with.Goals as goal
 
@@ -19,7 +19,7 @@ returns-in-Ok-found-clause-checked c =
     (λ (k : GhostLists). AreTrees k.layout.geometry c.args.pages.now c.args.roots.now
     (λ k. get_or (map tree_in_lists c.in-Ok.trees.items) k no_tree)) c.lists.ensures.value
     c.in-Ok.ensures.trees in
-    let same : trees_in c.as_slice.result.now ≡ trees_said c.args.kept.now.layout.geometry c.args.pages.now c.args.roots.now =
+    let same : trees_in c.as_slice.result.now ≡ trees_from_c c.args.kept.now.layout.geometry c.args.pages.now c.args.roots.now =
     ap trees_in c.as_slice.ensures.value
     ∙ same_trees c.args.kept.now.layout.geometry c.args.pages.now c.args.roots.now c.in-Ok.trees.items
     c.in-Ok.ensures.count are in

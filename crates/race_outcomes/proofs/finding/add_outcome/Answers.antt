@@ -4,7 +4,7 @@ use Rattle.std.proofs.lemmas.List.{map-append}
 use Rattle.std.proofs.lemmas.List.Elements.{Contains-push}
 use Rattle.call_table.specs.declared.reply.Reply.{Reply}
 use Rattle.race_outcomes.specs.declared.finding.Outcome.{Outcome}
-use Rattle.race_outcomes.specs.Layers.{IsToldBy, replies_of}
+use Rattle.race_outcomes.specs.Layers.{IsOutcomeOf, replies_of}
 use Rattle.race_outcomes.proofs.Found.{all_same}
 use Rattle.race_outcomes.proofs.finding.add_outcome.Goals as goal
 
@@ -12,9 +12,9 @@ pub returns-then-has_replies : goal.returns-then-has_replies
 returns-then-has_replies c =
     let n = c.args.node.now in
     let o = c.in-Some.outcome in
-    let is : IsToldBy n o =
+    let is : IsOutcomeOf n o =
     subst
-    (λ r. MatchOption r ((rs : List Reply) → n.told.items ≡ map Some rs → ⊥) (IsToldBy n)) c.in-Some.is
+    (λ r. MatchOption r ((rs : List Reply) → n.told.items ≡ map Some rs → ⊥) (IsOutcomeOf n)) c.in-Some.is
     c.in_ok-outcome.ensures in
     let there = c.has_replies.ensures.0 c.if-has_replies.true in
     let has : Contains (replies_of c.args.found.now.items) o.replies.items =
@@ -32,9 +32,9 @@ returns c =
     let n = c.args.node.now in
     let o = c.in-Some.outcome in
     let old = c.args.found.now.items in
-    let is : IsToldBy n o =
+    let is : IsOutcomeOf n o =
     subst
-    (λ r. MatchOption r ((rs : List Reply) → n.told.items ≡ map Some rs → ⊥) (IsToldBy n)) c.in-Some.is
+    (λ r. MatchOption r ((rs : List Reply) → n.told.items ≡ map Some rs → ⊥) (IsOutcomeOf n)) c.in-Some.is
     c.in_ok-outcome.ensures in
     let no : Contains (replies_of old) o.replies.items → ⊥ = λ h.
     let yes =

@@ -1,7 +1,7 @@
 use Rattle.std.proofs.Common.{subst}
 use Rattle.ghost_spec.specs.declared.lists.GhostLists.{GhostLists}
 use Rattle.ghost_spec.specs.States.{contents_in}
-use Rattle.state_changes.specs.Changed.{TellsAll}
+use Rattle.state_changes.specs.Changed.{ReportsAll}
 use Rattle.state_changes.specs.Together.{Adds}
 use Rattle.state_changes.proofs.Together.{adds_then}
 use Rattle.state_changes.proofs.told.add_changes.Goals as goal
@@ -12,9 +12,9 @@ returns c =
     let new = c.add_rest.new.text.items in
     subst
     (λ (x : GhostLists). Adds
-    (TellsAll (contents_in x) (contents_in c.args.after.now) c.args.cpu) old new) c.lists-old.ensures.value
+    (ReportsAll (contents_in x) (contents_in c.args.after.now) c.args.cpu) old new) c.lists-old.ensures.value
     (subst
     (λ (y : GhostLists). Adds
-    (TellsAll (contents_in c.lists-old.result.now) (contents_in y) c.args.cpu) old
+    (ReportsAll (contents_in c.lists-old.result.now) (contents_in y) c.args.cpu) old
     new) c.lists-new.ensures.value
     (adds_then _ _ _ _ _ c.in_ok-add_maps.ensures c.in_ok-add_rest.ensures))

@@ -1,7 +1,7 @@
 use Rattle.std.proofs.Common.{◌≡◌, ◌<◌, get_or, map, subst, arith}
 use Rattle.ghost_spec.specs.States.{guest_in}
 use Rattle.reference_model.specs.model.State.{Guest, no_guest}
-use Rattle.state_changes.specs.Changed.{TellsEntries, guest_name}
+use Rattle.state_changes.specs.Changed.{ReportsEntries, guest_name}
 use Rattle.state_changes.specs.Together.{Adds, Each}
 use Rattle.state_changes.proofs.Read.{read_view}
 use Rattle.state_changes.proofs.Together.{adds_more}
@@ -22,17 +22,17 @@ loop-slot-preserved c =
     let next =
     subst
     (λ (x : Guest). Adds
-    (TellsEntries (guest_name c.loop-slot.slot) x.tree.map
+    (ReportsEntries (guest_name c.loop-slot.slot) x.tree.map
     (get_or (map guest_in c.args.after.now.items) c.loop-slot.slot no_guest).tree.map) old new) was
     (subst
     (λ (y : Guest). Adds
-    (TellsEntries (guest_name c.loop-slot.slot) (guest_in c.index.result.now).tree.map y.tree.map) old new) is
+    (ReportsEntries (guest_name c.loop-slot.slot) (guest_in c.index.result.now).tree.map y.tree.map) old new) is
     c.in_ok-add_entries.ensures) in
     record {
       within = omega (arith, c.loop-slot-test.true);
       told =
           adds_more
-          (λ v. TellsEntries (guest_name v) (get_or (map guest_in c.args.before.now.items) v no_guest).tree.map
+          (λ v. ReportsEntries (guest_name v) (get_or (map guest_in c.args.before.now.items) v no_guest).tree.map
           (get_or (map guest_in c.args.after.now.items) v no_guest).tree.map) c.loop-slot.slot
           c.args.text.now.items c.loop-slot.text.items c.add_entries.new.text.items
           c.loop-slot.invariant.told next;
@@ -44,6 +44,6 @@ returns c =
     subst
     (λ n. Adds
     (Each n
-    (λ v. TellsEntries (guest_name v) (get_or (map guest_in c.args.before.now.items) v no_guest).tree.map
+    (λ v. ReportsEntries (guest_name v) (get_or (map guest_in c.args.before.now.items) v no_guest).tree.map
     (get_or (map guest_in c.args.after.now.items) v no_guest).tree.map)) c.args.text.now.items
     c.loop-slot.text.items) end c.loop-slot.invariant.told

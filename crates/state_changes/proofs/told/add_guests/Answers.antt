@@ -1,7 +1,7 @@
 use Rattle.std.proofs.Common.{◌≡◌, ◌<◌, get_or, map, subst, arith}
 use Rattle.ghost_spec.specs.States.{guest_in}
 use Rattle.reference_model.specs.model.State.{Guest, no_guest}
-use Rattle.state_changes.specs.Changed.{TellsGuest}
+use Rattle.state_changes.specs.Changed.{ReportsGuest}
 use Rattle.state_changes.specs.Together.{Adds, Each}
 use Rattle.state_changes.proofs.Read.{read_view}
 use Rattle.state_changes.proofs.Together.{adds_more}
@@ -22,16 +22,16 @@ loop-slot-preserved c =
     let next =
     subst
     (λ (x : Guest). Adds
-    (TellsGuest x
+    (ReportsGuest x
     (get_or (map guest_in c.args.after.now.items) c.loop-slot.slot no_guest) c.loop-slot.slot) old new) was
     (subst
-    (λ (y : Guest). Adds (TellsGuest (guest_in c.index.result.now) y c.loop-slot.slot) old new) is
+    (λ (y : Guest). Adds (ReportsGuest (guest_in c.index.result.now) y c.loop-slot.slot) old new) is
     c.in_ok-add_guest.ensures) in
     record {
       within = omega (arith, c.loop-slot-test.true);
       told =
           adds_more
-          (λ v. TellsGuest (get_or (map guest_in c.args.before.now.items) v no_guest)
+          (λ v. ReportsGuest (get_or (map guest_in c.args.before.now.items) v no_guest)
           (get_or (map guest_in c.args.after.now.items) v no_guest) v) c.loop-slot.slot c.args.text.now.items
           c.loop-slot.text.items c.add_guest.new.text.items c.loop-slot.invariant.told next;
     }
@@ -42,6 +42,6 @@ returns c =
     subst
     (λ n. Adds
     (Each n
-    (λ v. TellsGuest (get_or (map guest_in c.args.before.now.items) v no_guest)
+    (λ v. ReportsGuest (get_or (map guest_in c.args.before.now.items) v no_guest)
     (get_or (map guest_in c.args.after.now.items) v no_guest) v)) c.args.text.now.items
     c.loop-slot.text.items) end c.loop-slot.invariant.told

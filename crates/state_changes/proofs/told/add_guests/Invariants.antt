@@ -1,7 +1,7 @@
 use Rattle.std.proofs.Common.{◌≤◌, get_or, map}
 use Rattle.ghost_spec.specs.States.{guest_in}
 use Rattle.reference_model.specs.model.State.{no_guest}
-use Rattle.state_changes.specs.Changed.{TellsGuest}
+use Rattle.state_changes.specs.Changed.{ReportsGuest}
 use Rattle.state_changes.specs.Together.{Adds, Each}
 use Rattle.state_changes.proofs.told.add_guests.Given as goal
 
@@ -10,6 +10,6 @@ invariant-loop-slot l = record {
   within : l.slot ≤ 64;
   told : Adds
       (Each l.slot
-      (λ v. TellsGuest (get_or (map guest_in l.before.items) v no_guest)
+      (λ v. ReportsGuest (get_or (map guest_in l.before.items) v no_guest)
       (get_or (map guest_in l.after.items) v no_guest) v)) l.fn.text.items l.text.items;
 }

@@ -1,7 +1,7 @@
 use Rattle.std.proofs.Common.{◌≡◌, ◌<◌, get_or, map, subst, arith}
 use Rattle.ghost_spec.specs.States.{slot_in}
 use Rattle.reference_model.specs.model.State.{Slot, no_slot}
-use Rattle.state_changes.specs.Changed.{TellsSlot}
+use Rattle.state_changes.specs.Changed.{ReportsSlot}
 use Rattle.state_changes.specs.Together.{Adds, Each}
 use Rattle.state_changes.proofs.Read.{read_view}
 use Rattle.state_changes.proofs.Together.{adds_more}
@@ -21,17 +21,17 @@ loop-slot-preserved c =
     let next =
     subst
     (λ (x : Slot). Adds
-    (TellsSlot x
+    (ReportsSlot x
     (get_or (map slot_in c.args.after.now.items) c.loop-slot.slot (no_slot 1)) c.loop-slot.slot) old
     new) was
     (subst
-    (λ (y : Slot). Adds (TellsSlot (slot_in c.index.result.now) y c.loop-slot.slot) old new) is
+    (λ (y : Slot). Adds (ReportsSlot (slot_in c.index.result.now) y c.loop-slot.slot) old new) is
     c.in_ok-add_slot.ensures) in
     record {
       within = omega (arith, c.loop-slot-test.true);
       told =
           adds_more
-          (λ v. TellsSlot (get_or (map slot_in c.args.before.now.items) v (no_slot 1))
+          (λ v. ReportsSlot (get_or (map slot_in c.args.before.now.items) v (no_slot 1))
           (get_or (map slot_in c.args.after.now.items) v (no_slot 1)) v) c.loop-slot.slot c.args.text.now.items
           c.loop-slot.text.items c.add_slot.new.text.items c.loop-slot.invariant.told next;
     }
@@ -42,6 +42,6 @@ returns c =
     subst
     (λ n. Adds
     (Each n
-    (λ v. TellsSlot (get_or (map slot_in c.args.before.now.items) v (no_slot 1))
+    (λ v. ReportsSlot (get_or (map slot_in c.args.before.now.items) v (no_slot 1))
     (get_or (map slot_in c.args.after.now.items) v (no_slot 1)) v)) c.args.text.now.items
     c.loop-slot.text.items) end c.loop-slot.invariant.told

@@ -4,7 +4,7 @@ use Rattle.trace_text.proofs.ReplayLemmas.{mapped}
 use Rattle.trace_text.specs.Oracles.{audited_lines}
 use Rattle.trace_audit.specs.Audited.{nothing_audited}
 use Rattle.trace_check.specs.View.{told_in}
-use Rattle.trace_cases.specs.Audits.{behind, last_said}
+use Rattle.trace_cases.specs.Audits.{behind, last_spoken_line}
 use Rattle.trace_cases.proofs.Going.{runs_few}
 use Rattle.trace_cases.proofs.audited.audited.Goals as goal
 
@@ -18,8 +18,8 @@ returns-clause-told g c =
       found = found;
       runs = c.in_ok-carried.ensures;
       told_is =
-          told ∙ ap (λ n. behind 0 n (audited_lines found) (told_in c.as_slice.result.now)) c.last_said.ensures
-          ∙ ap (λ ts. behind 0 (last_said lines) (audited_lines found) (told_in ts)) c.as_slice.ensures.value;
+          told ∙ ap (λ n. behind 0 n (audited_lines found) (told_in c.as_slice.result.now)) c.last_spoken_line.ensures
+          ∙ ap (λ ts. behind 0 (last_spoken_line lines) (audited_lines found) (told_in ts)) c.as_slice.ensures.value;
     })
     c.with_found.ensures.told
 

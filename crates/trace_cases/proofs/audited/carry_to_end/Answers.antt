@@ -9,7 +9,7 @@ use Rattle.trace_cases.proofs.audited.carry_to_end.Goals as goal
 pub returns-then-number-gt-MOST_LINES : goal.returns-then-number-gt-MOST_LINES
 returns-then-number-gt-MOST_LINES g c =
     subst (λ ts. Runs {A = g.row.A.Denot} 1 nothing_audited (map (λ line. line.now) c.args.lines.now) ts None)
-    (sym (told_pushed (λ reported. reported.items) _ _ _ _ c.in_ok-push.ensures.items c.in_ok-told_fault.ensures))
+    (sym (told_pushed (λ reported. reported.items) _ _ _ _ c.in_ok-push.ensures.items c.in_ok-report_of_fault.ensures))
     (step_past (λ line. line.now) c.args.lines.now c.loop-place.place _ _ c.loop-place-test.true
     (omega arith) c.loop-place.invariant.goes)
 
@@ -21,7 +21,7 @@ loop-place-preserved g c = record {
       (map (λ line. line.now) (drop (c.loop-place.place + 1) c.args.lines.now)))
       (sym
       (told_pushed
-      (λ reported. reported.items) _ _ _ _ c.in_ok-push-in-Ok.ensures.items c.in_ok-told_lines-in-Ok.ensures))
+      (λ reported. reported.items) _ _ _ _ c.in_ok-push-in-Ok.ensures.items c.in_ok-lines_of_report-in-Ok.ensures))
       (step_next (λ line. line.now) c.args.lines.now c.loop-place.place _ _ _ _ _ c.loop-place-test.true
       (omega arith) c.in-Ok.ensures.done c.loop-place.invariant.goes);
   ready = c.in-Ok.ensures.ready;

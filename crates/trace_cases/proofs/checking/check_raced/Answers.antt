@@ -9,7 +9,7 @@ use Rattle.trace_cases.proofs.checking.check_raced.Goals as goal
 pub returns : goal.returns
 returns g c =
     let raced = c.in_ok-raced.raced in
-    mapped c.check_told_raced.result _ _
+    mapped c.check_reported_raced.result _ _
     (λ checked checks. record {
       raced = raced;
       is =
@@ -19,4 +19,4 @@ returns g c =
           (lines_of c.args.trace.now)) raced) c.requires.lines c.in_ok-raced.ensures.raced;
       checks = subst (λ ls. ChecksRaced c.args.name.now ls raced checked) c.requires.lines checks;
     })
-    c.check_told_raced.ensures
+    c.check_reported_raced.ensures

@@ -8,7 +8,7 @@ use Rattle.trace_cases.proofs.checking.record_raced.Goals as goal
 pub returns : goal.returns
 returns g c =
     let raced = c.in_ok-raced.raced in
-    mapped c.record_told_raced.result _ _
+    mapped c.record_reported_raced.result _ _
     (λ text is. record {
       raced = raced;
       is =
@@ -18,4 +18,4 @@ returns g c =
           (lines_of c.args.trace.now)) raced) c.requires.lines c.in_ok-raced.ensures.raced;
       text_is = is;
     })
-    c.record_told_raced.ensures
+    c.record_reported_raced.ensures

@@ -5,8 +5,8 @@ use Rattle.trace_check.specs.View.{told_in}
 use Rattle.trace_check.proofs.Going.{runs_few}
 use Rattle.trace_check.proofs.checking.check.Goals as goal
 
-pub check_told-requires : goal.check_told-requires
-check_told-requires g c =
+pub check_reported-requires : goal.check_reported-requires
+check_reported-requires g c =
     let few =
     runs_few 1 at_start (map (λ line. line.now) c.as_slice.result.now)
     (told_in c.in_ok-carried.carried.told.items) c.in_ok-carried.ensures.told in

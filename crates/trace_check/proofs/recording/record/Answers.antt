@@ -5,8 +5,8 @@ use Rattle.trace_check.specs.View.{told_in}
 use Rattle.trace_check.proofs.Going.{runs_few}
 use Rattle.trace_check.proofs.recording.record.Goals as goal
 
-pub record_told-requires-clause-few : goal.record_told-requires-clause-few
-record_told-requires-clause-few g c =
+pub record_reported-requires-clause-few : goal.record_reported-requires-clause-few
+record_reported-requires-clause-few g c =
     let few =
     runs_few 1 at_start (map (λ line. line.now) c.as_slice.result.now)
     (told_in c.in_ok-carried.carried.told.items) c.in_ok-carried.ensures.told in

@@ -3,7 +3,7 @@ use Rattle.std.specs.Prelude.{◌||◌}
 use Rattle.std.proofs.lemmas.List.{length-map}
 use Rattle.trace_cli.proofs.Together.{all_done, at_first, ok_added, one_further, stopped}
 use Rattle.trace_cli.proofs.Greatest.{at_map}
-use Rattle.trace_cli.specs.Covering.{IsToldStatus}
+use Rattle.trace_cli.specs.Covering.{IsReportedStatus}
 use Rattle.trace_cli.proofs.covering.covered.Goals as goal
 
 pub loop-path-init : goal.loop-path-init
@@ -45,4 +45,4 @@ returns g c =
     c.args.missing c.told.result
     (omega (arith, length-map c.args.paths.now (λ path. path.now), c.loop-path-test.false)) c.loop-path.invariant.ahead
     (subst
-    (λ xs. IsToldStatus c.args.missing c.loop-path.faulty xs c.told.result) c.as_slice.ensures.value c.told.ensures)
+    (λ xs. IsReportedStatus c.args.missing c.loop-path.faulty xs c.told.result) c.as_slice.ensures.value c.told.ensures)

@@ -1,7 +1,7 @@
 use Rattle.std.proofs.Common.{◌≡◌, ◌∙◌, ◌+◌, ◌++◌, ℕ, Bool, true, false, List, [], Bor, Option, None, ap, map, subst, sym, arith}
 use Rattle.std.proofs.lemmas.List.{get_or-map, length-map}
 use Rattle.trace_cover.proofs.Going.{ends_at_fault, ends_at_poke, ends_clean, one_further}
-use Rattle.trace_cover.specs.Steps.{is_poke, line_said}
+use Rattle.trace_cover.specs.Steps.{is_poke, line_read}
 use Rattle.trace_cover.specs.View.{AddsAll, IsCountedAt, lines_in}
 use Rattle.trace_faults.specs.Spots.{place_line}
 use Rattle.trace_reader.specs.declared.outcome.Outcome.TheVariants.{Clean}
@@ -20,7 +20,7 @@ returns-then-is_poke g c =
     (lines_in c.args.lines.now) c.args.seen.now.items c.args.text.now.items c.loop-place.place
     (standing_of c.loop-place.session) c.loop-place.seen.items
     (omega (arith, length-map c.args.lines.now (λ line. line.now), c.loop-place-test.true)) c.loop-place.invariant.ahead
-    (subst (λ (x : List ℕ). is_poke (line_said (standing_of c.loop-place.session) x) ≡ true) (sym at)
+    (subst (λ (x : List ℕ). is_poke (line_read (standing_of c.loop-place.session) x) ≡ true) (sym at)
     (sym c.if-is_poke.ensures)))
 
 pub returns-in-Some : goal.returns-in-Some
@@ -37,7 +37,7 @@ returns-in-Some g c =
     (standing_of c.loop-place.session) c.loop-place.seen.items
     (omega (arith, length-map c.args.lines.now (λ line. line.now), c.loop-place-test.true)) c.loop-place.invariant.ahead
     (standing_of c.count_line.new.session) c.count_line.new.seen.items c.add_place.new.text.items c.in-Some.fault
-    (subst (λ (x : List ℕ). is_poke (line_said (standing_of c.loop-place.session) x) ≡ false) (sym at)
+    (subst (λ (x : List ℕ). is_poke (line_read (standing_of c.loop-place.session) x) ≡ false) (sym at)
     (sym c.if-is_poke.ensures)) counted
     (c.in_ok-add_place.ensures
     ∙ ap
@@ -65,7 +65,7 @@ loop-place-preserved g c =
             c.loop-place-test.true,
           )) c.loop-place.invariant.ahead
           (standing_of c.count_line.new.session) c.count_line.new.seen.items
-          (subst (λ (x : List ℕ). is_poke (line_said (standing_of c.loop-place.session) x) ≡ false) (sym at)
+          (subst (λ (x : List ℕ). is_poke (line_read (standing_of c.loop-place.session) x) ≡ false) (sym at)
           (sym c.if-is_poke.ensures)) counted;
       said = c.loop-place.invariant.said;
       few = c.count_line.ensures.steps;

@@ -1,7 +1,7 @@
 use Rattle.std.proofs.Common.{◌+◌, ◌++◌, ◌∙◌, List, [], ℕ, Bor, ap, sym}
 use Rattle.std.proofs.lemmas.List.{get_or-map}
 use Rattle.trace_explain.specs.View.{line_at, looks_in, told_line}
-use Rattle.trace_explain.proofs.Carrying.{block_made, has_frames, told_step}
+use Rattle.trace_explain.proofs.Carrying.{block_made, has_frames, report_of_step}
 use Rattle.trace_explain.proofs.explaining.show_run.Goals as goal
 use Rattle.trace_text.specs.View.{lines_reported, standing_of}
 
@@ -28,7 +28,7 @@ returns-in_ok-add_changed-in-Ok-clause-done g c = (
       (λ (x : List ℕ). c.args.text.now.items
       ++ told_line c.line_run.new.session x c.args.asked c.args.looks.now c.in-Ok.reported)
       (sym (get_or-map (λ (l : Bor (List ℕ)). l.now) c.args.lines.now c.args.place _ [] c.requires.place)))
-      (told_step (standing_of c.args.session.now).machine c.args.asked c.args.before.now
+      (report_of_step (standing_of c.args.session.now).machine c.args.asked c.args.before.now
       (standing_of c.line_run.new.session).machine c.add_line.new.text.items c.add_changed.new.text.items
       c.requires.before c.in_ok-add_changed-in-Ok.ensures),
 )

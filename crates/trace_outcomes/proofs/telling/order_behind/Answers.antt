@@ -15,7 +15,7 @@ returns-in-Ok-Some g c =
     let race = c.args.race.now in
     let n = c.in_order-count.result in
     let order = c.in-Ok-Some.order in
-    mapped c.order_told.result _ _
+    mapped c.order_reported.result _ _
     (λ t tells m made. order_tells m
     (course_in c.args.course.now) race c.as_slice.result.now c.as_slice.ensures.value c.args.texts.now n
     c.in_order-count.ensures made c.args.limit t order.items c.as_slice-in-Ok-Some.result.now
@@ -26,7 +26,7 @@ returns-in-Ok-Some g c =
     (subst
     (IsExplained (layout_of race.state.layout)
     (ghost_state race.state) c.as_slice.result.now _) c.in-Ok-Some.field-0-is
-    c.in-Ok-Some.ensures.order)) tells) c.order_told.ensures
+    c.in-Ok-Some.ensures.order)) tells) c.order_reported.ensures
 
 pub returns-in-Ok-None : goal.returns-in-Ok-None
 returns-in-Ok-None g c =

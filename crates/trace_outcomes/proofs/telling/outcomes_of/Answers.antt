@@ -2,7 +2,7 @@ use Rattle.std.proofs.Common.{subst}
 use Rattle.trace_text.proofs.ReplayLemmas.{mapped}
 use Rattle.trace_race.specs.Courses.{course_in}
 use Rattle.trace_outcomes.specs.Finds.{Finds}
-use Rattle.trace_outcomes.proofs.FoundTold.{all_told, fault_told, found_count, idle_told, many_told}
+use Rattle.trace_outcomes.proofs.FoundTold.{all_told, fault_reported, found_count, idle_told, many_told}
 use Rattle.trace_outcomes.proofs.telling.outcomes_of.Goals as goal
 
 pub returns-in-Idle : goal.returns-in-Idle
@@ -16,7 +16,7 @@ returns-in-Idle g c =
 pub returns-in-Fault : goal.returns-in-Fault
 returns-in-Fault g c =
     mapped c.faulty.result _ _
-    (λ t tells. fault_told c.args.limit (course_in c.args.course.now) t c.in-Fault.line c.in-Fault.fault
+    (λ t tells. fault_reported c.args.limit (course_in c.args.course.now) t c.in-Fault.line c.in-Fault.fault
     (subst
     (Finds c.args.limit (course_in c.args.course.now)) c.in-Fault.is
     c.in_ok-find_outcomes.ensures) tells) c.faulty.ensures

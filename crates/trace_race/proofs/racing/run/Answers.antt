@@ -22,11 +22,11 @@ make-requires-clause-cpus g c κs within =
     ap (λ (k : Config). k.cpus) c.config-cpus.ensures
     ∙ sym (ap (λ (l : Layout). l.config.cpus) c.requires.booted.1.world.layout)
 
-pub tell_made-requires-clause-made : goal.tell_made-requires-clause-made
-tell_made-requires-clause-made g c = let made = rw c.in-Ok-Some.field-0-is at c.in-Ok-Some.ensures in made.1
+pub report_made-requires-clause-made : goal.report_made-requires-clause-made
+report_made-requires-clause-made g c = let made = rw c.in-Ok-Some.field-0-is at c.in-Ok-Some.ensures in made.1
 
-pub tell_made-requires-clause-layout : goal.tell_made-requires-clause-layout
-tell_made-requires-clause-layout g c = let made = rw c.in-Ok-Some.field-0-is at c.in-Ok-Some.ensures in
+pub report_made-requires-clause-layout : goal.report_made-requires-clause-layout
+report_made-requires-clause-layout g c = let made = rw c.in-Ok-Some.field-0-is at c.in-Ok-Some.ensures in
     made.0 ∙ c.requires.booted.1.layout
 
 pub returns-in-Err-clause-begun : goal.returns-in-Err-clause-begun
@@ -53,12 +53,12 @@ returns-clause-report g c =
     let count : length c.in-Ok-Some.made.replies.items ≡ length a.steps = made.1.count ∙ ap length steps in
     let report =
     subst
-    (λ (z : ℕ × List Asked). IfOk c.tell_made.result
+    (λ (z : ℕ × List Asked). IfOk c.report_made.result
     (StepsEnd m.layout z.0 z.1 c.in-Ok-Some.made.replies.items (g.K.Sink.contents c.tell.new.sink)
-    (g.K.Sink.contents c.tell_made.new.sink)))
-    (λ i. (c.in_order-start.ensures i, steps i)) c.tell_made.ensures.report in
+    (g.K.Sink.contents c.report_made.new.sink)))
+    (λ i. (c.in_order-start.ensures i, steps i)) c.report_made.ensures.report in
     engine_ok _ _ _ c.engine.ensures
-    (mapped c.tell_made.result _ _
+    (mapped c.report_made.result _ _
     (λ outcome ends. run_ends m a c.in-Ok-Some.made.replies.items c.args.booted.line _
     (g.K.Sink.contents c.tell.new.sink) _ outcome c.requires.booted.1.line count c.in_default.ensures.ok
     ends) report)
@@ -72,14 +72,14 @@ returns-clause-begun g c =
     let count : length c.in-Ok-Some.made.replies.items ≡ length a.steps = made.1.count ∙ ap length steps in
     let one =
     subst (λ (z : ℕ × List Asked). OneHistory m.layout z.0 z.1 c.in-Ok-Some.made.replies.items)
-    (λ i. (c.in_order-start.ensures i, steps i)) c.tell_made.ensures.history in
+    (λ i. (c.in_order-start.ensures i, steps i)) c.report_made.ensures.history in
     let front =
     subst
-    (λ (ss : List Asked). OnErr c.tell_made.result
+    (λ (ss : List Asked). OnErr c.report_made.result
     (WritesFront (lines_behind ss c.in-Ok-Some.made.replies.items) (g.K.Sink.contents c.tell.new.sink)
-    (g.K.Sink.contents c.tell_made.new.sink))) steps c.tell_made.ensures.begun in
+    (g.K.Sink.contents c.report_made.new.sink))) steps c.report_made.ensures.begun in
     engine_err _ _ _ c.engine.ensures
-    (when_err c.tell_made.result _ _
+    (when_err c.report_made.result _ _
     (λ begins. run_begins m a c.in-Ok-Some.made.replies.items c.args.booted.line _
     (g.K.Sink.contents c.tell.new.sink) _ c.requires.booted.1.line count one c.in_default.ensures.ok
     begins) front)

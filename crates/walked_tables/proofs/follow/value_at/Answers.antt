@@ -3,7 +3,7 @@ use Rattle.descriptor.specs.declared.Level.{Level}
 use Rattle.table_words.specs.declared.profile.Profile.{Profile}
 use Rattle.table_words.specs.declared.word.Decoded.{Decoded}
 use Rattle.table_words.specs.declared.word.Decoded.TheVariants.{Malformed, Unmapped, Annotated, Poisoned, Locked, Cleared, Leaf, Table}
-use Rattle.table_words.specs.Said.{frame_of, IsSaid}
+use Rattle.table_words.specs.Said.{frame_of, DecodesTo}
 use Rattle.table_words.specs.Decoding.{decoded_of}
 use Rattle.walked_tables.specs.Values.{IsSmall, value_of}
 use Rattle.walked_tables.proofs.follow.value_at.Goals as goal
@@ -12,7 +12,7 @@ frame_small : (wide : Bool) (w : ℕ) → frame_of wide w < 2 ^ 40
 frame_small false w = omega arith
 frame_small true w = omega arith
 
-small_said : (p : Profile) (l : Level) (w : ℕ) (d : Decoded) → IsSaid p l w d → IsSmall d
+small_said : (p : Profile) (l : Level) (w : ℕ) (d : Decoded) → DecodesTo p l w d → IsSmall d
 small_said p l w (Leaf m) h = rw h.frame_is (frame_small p.lpa2 w)
 small_said p l w Malformed h = tt
 small_said p l w Unmapped h = tt

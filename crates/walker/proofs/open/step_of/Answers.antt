@@ -1,5 +1,5 @@
 use Rattle.std.proofs.Common.{◌+◌, ◌*◌, sym, subst, ◌∙◌, arith}
-use Rattle.descriptor.specs.Word.{CanBeSaid}
+use Rattle.descriptor.specs.Word.{IsEncodable}
 use Rattle.page_state.specs.Entries.{word_of_entry}
 use Rattle.table_tree.specs.Ahead.{GoesAhead}
 use Rattle.table_tree.specs.Meaning.{level_at}
@@ -11,4 +11,4 @@ returns-in-Leaf c = subst (λ e. GoesAhead c.args.depth e (4096 * c.pages_before
     (said_leaf_goes c.args.depth c.pages_before.result c.in-Leaf.frame c.in-Leaf.prot c.in-Leaf.kind c.in-Leaf.state
     c.requires.depth_in
     (c.pages_before.ensures.value ∙ omega arith)
-    (subst (λ e. CanBeSaid (level_at (c.args.depth + 1)) (word_of_entry e)) c.in-Leaf.is c.requires.entry_in))
+    (subst (λ e. IsEncodable (level_at (c.args.depth + 1)) (word_of_entry e)) c.in-Leaf.is c.requires.entry_in))

@@ -3,14 +3,14 @@ use Rattle.call_table.specs.declared.reply.Call.{Call}
 use Rattle.call_table.specs.declared.reply.Reply.{Reply}
 use Rattle.call_table.specs.declared.step.Step.{Step}
 use Rattle.world.specs.inner.Merging.{left, whole, LogName, IsNext}
-use Rattle.world.proofs.Merging.{IsToldOf, fewer, has_merged, next_inside, no_list, told_all, told_more, told_none}
+use Rattle.world.proofs.Merging.{IsWhyIllegal, fewer, has_merged, next_inside, no_list, told_all, told_more, told_none}
 use Rattle.world.proofs.merge.merged.Goals as goal
 
 pub loop-call-init : goal.loop-call-init
 loop-call-init c = record {
   placed = c.in-Ok.ensures.placed;
   begun =
-      subst (IsToldOf c.args.histories.now c.in-Ok.places) (sym c.new-told.ensures.items)
+      subst (IsWhyIllegal c.args.histories.now c.in-Ok.places) (sym c.new-told.ensures.items)
       (told_none c.args.histories.now c.in-Ok.places c.in-Ok.ensures.start);
 }
 
@@ -28,7 +28,7 @@ loop-call-preserved c =
     record {
       placed = c.advance.ensures.placed;
       begun =
-          subst (IsToldOf h c.advance.new.places) (sym c.in-Ok-push.ensures.items)
+          subst (IsWhyIllegal h c.advance.new.places) (sym c.in-Ok-push.ensures.items)
           (told_more h c.loop-call.places c.advance.new.places told c.in-Some.call c.loop-call.invariant.begun
           c.in-Some.ensures.next c.advance.ensures.left);
     }

@@ -1,5 +1,5 @@
 use Rattle.std.proofs.Common.{arith}
-use Rattle.ghost_rows.proofs.RowsTold.{stand-on}
+use Rattle.ghost_rows.proofs.ListedRows.{stand-on}
 use Rattle.ghost_rows.proofs.rows.pieces.look.Goals as goal
 
 pub returns-clause-goes_on : goal.returns-clause-goes_on

@@ -1,7 +1,7 @@
 use Rattle.std.proofs.Common.{◌≡◌, ℕ, suc, ◌+◌, ◌<◌, take, true, nat_lt, sym, subst, ◌∙◌, arith}
 use Rattle.std.proofs.lemmas.Bool.Decides.{nat_tests}
 use Rattle.run_list.specs.Runs.{EndBefore}
-use Rattle.ghost_rows.proofs.RowsTold.{one-more}
+use Rattle.ghost_rows.proofs.ListedRows.{one-more}
 use Rattle.ghost_rows.proofs.rows.pieces.place_from.Goals as goal
 
 is-below : (a b : ℕ) → nat_lt a b ≡ true → a < b

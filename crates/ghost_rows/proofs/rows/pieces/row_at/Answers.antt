@@ -1,5 +1,5 @@
 use Rattle.std.proofs.Common.{Some, sym, ap, ◌∙◌}
-use Rattle.ghost_rows.proofs.RowsTold.{stand-none, in-reach, row-there}
+use Rattle.ghost_rows.proofs.ListedRows.{stand-none, in-reach, row-there}
 use Rattle.ghost_rows.proofs.rows.pieces.row_at.Goals as goal
 
 pub advanced-requires : goal.advanced-requires

@@ -3,7 +3,7 @@ use Rattle.page_state.specs.declared.row.Row.{Row}
 use Rattle.page_state.specs.Rows.{plain_row, HasPageBelow}
 use Rattle.run_list.specs.declared.run.Run.{Run}
 use Rattle.run_list.proofs.Found.{reach_at}
-use Rattle.ghost_rows.proofs.RowsTold.{stand-behind, stand-before, stand-inside}
+use Rattle.ghost_rows.proofs.ListedRows.{stand-behind, stand-before, stand-inside}
 use Rattle.ghost_rows.proofs.rows.pieces.stand_at.Goals as goal
 
 abbrev no_run : Run Row

@@ -13,7 +13,7 @@ use Rattle.ghost_spec.specs.States.{ghost_state, rooms_in}
 use Rattle.ghost_spec.specs.Kept.{HasNextGeneration}
 use Rattle.ghost_spec.specs.Used.{used_in}
 use Rattle.ghost_spec.specs.Views.{cpu_in}
-use Rattle.ghost_spec.proofs.Foretold.{foretold-full, foretold-answer}
+use Rattle.ghost_spec.proofs.Predictions.{predicted-full, predicted-answer}
 use Rattle.ghost_spec.proofs.lists.GhostLists.advance.Goals as goal
 
 state-with : Contents → Rooms → Reference
@@ -22,8 +22,8 @@ state-with s r = record { contents = s; rooms = r }
 pair : Reply → Reference → Reply × Reference
 pair a b = (a, b)
 
-pub returns-then-is_full-clause-foretold : goal.returns-then-is_full-clause-foretold
-returns-then-is_full-clause-foretold c =
+pub returns-then-is_full-clause-predicted : goal.returns-then-is_full-clause-predicted
+returns-then-is_full-clause-predicted c =
     let g : GhostLists = c.args.self.now in
     let less : c.args.cpu < length g.cpus.items = rw c.requires.kept.cpus_count c.requires.cpu in
     let own : get_or (map cpu_in g.cpus.items) c.args.cpu no_cpu ≡ cpu_in c.index.result.now =
@@ -31,12 +31,12 @@ returns-then-is_full-clause-foretold c =
     let named : c.guest_slot-slot.result ≡ guest_slot ((ghost_state g).contents.cpu c.args.cpu) c.args.step =
     c.guest_slot-slot.ensures.value ∙ ap (λ (k : Cpu). guest_slot k c.args.step) (sym own) in
     sym
-    (foretold-full (layout_of g.layout) (ghost_state g) c.args.cpu c.args.step c.guest_slot-slot.result named
+    (predicted-full (layout_of g.layout) (ghost_state g) c.args.cpu c.args.step c.guest_slot-slot.result named
     (sym c.is_full.ensures ∙ c.if-is_full.true))
 
-pub returns-clause-foretold : goal.returns-clause-foretold
+pub returns-clause-predicted : goal.returns-clause-predicted
 unfolding state-with pair
-returns-clause-foretold c =
+returns-clause-predicted c =
     let g : GhostLists = c.args.self.now in
     let slot : Option ℕ = c.guest_slot-slot.result in
     let less : c.args.cpu < length g.cpus.items = rw c.requires.kept.cpus_count c.requires.cpu in
@@ -60,11 +60,11 @@ returns-clause-foretold c =
     (stored (rooms_of (names c.args.step) slot c.args.cpu r))) before in
     ap (pair c.in-Ok.reply) (same2 state-with contents rooms)
     ∙ sym
-    (foretold-answer (layout_of g.layout) (ghost_state g) c.args.cpu c.args.step slot named c.in-Ok.reply
+    (predicted-answer (layout_of g.layout) (ghost_state g) c.args.cpu c.args.step slot named c.in-Ok.reply
     (used_in c.answer.new.used) (sym c.is_full.ensures ∙ c.if-is_full.false) said)
 
-pub returns-in_err-used-clause-foretold : goal.returns-in_err-used-clause-foretold
-returns-in_err-used-clause-foretold c = IfOk-from_err _ _ c.from_residual.ensures.0
+pub returns-in_err-used-clause-predicted : goal.returns-in_err-used-clause-predicted
+returns-in_err-used-clause-predicted c = IfOk-from_err _ _ c.from_residual.ensures.0
 
 pub returns-in_err-used-clause-kept : goal.returns-in_err-used-clause-kept
 returns-in_err-used-clause-kept c = IfOk-from_err _ _ c.from_residual.ensures.0
@@ -129,8 +129,8 @@ answer-requires-clause-generation c =
 pub answer-requires-clause-vms : goal.answer-requires-clause-vms
 answer-requires-clause-vms c = c.in_ok-used.ensures.taken.count
 
-pub returns-in_default-clause-foretold : goal.returns-in_default-clause-foretold
-returns-in_default-clause-foretold c = tt
+pub returns-in_default-clause-predicted : goal.returns-in_default-clause-predicted
+returns-in_default-clause-predicted c = tt
 
 pub returns-in_default-clause-kept : goal.returns-in_default-clause-kept
 returns-in_default-clause-kept c = tt

@@ -5,7 +5,7 @@ use Rattle.reference_model.specs.model.State.{no_cpu}
 use Rattle.reference_model.specs.model.Used.{put_back}
 use Rattle.ghost_spec.specs.Kept.{IsKeptCpu}
 use Rattle.ghost_spec.specs.Views.{cpu_in}
-use Rattle.ghost_spec.proofs.Foretold.{contents-same, put-list}
+use Rattle.ghost_spec.proofs.Predictions.{contents-same, put-list}
 use Rattle.ghost_spec.proofs.lists.GhostLists.put_back.Goals as goal
 
 pub returns-clause-contents : goal.returns-clause-contents

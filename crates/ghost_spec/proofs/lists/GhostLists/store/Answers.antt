@@ -4,7 +4,7 @@ use Rattle.reference_model.specs.model.Rules.{names}
 use Rattle.reference_model.specs.model.State.{put_at}
 use Rattle.ghost_spec.specs.declared.lists.GhostRooms.{GhostRooms}
 use Rattle.ghost_spec.specs.States.{rooms_in}
-use Rattle.ghost_spec.proofs.Foretold.{put-items}
+use Rattle.ghost_spec.proofs.Predictions.{put-items}
 use Rattle.ghost_spec.proofs.Rooms.{stored-is}
 use Rattle.ghost_spec.proofs.lists.GhostLists.store.Goals as goal
 

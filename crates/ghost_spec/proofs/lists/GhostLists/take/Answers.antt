@@ -8,7 +8,7 @@ use Rattle.reference_model.specs.model.State.{Vms, Shared, Guest, Cpu, no_cpu}
 use Rattle.reference_model.specs.model.Used.{Used, used_of, put_back}
 use Rattle.ghost_spec.specs.Kept.{IsKeptCpu}
 use Rattle.ghost_spec.specs.Views.{cpu_in, shared_in_lists}
-use Rattle.ghost_spec.proofs.Foretold.{contents-same, if-stays}
+use Rattle.ghost_spec.proofs.Predictions.{contents-same, if-stays}
 use Rattle.ghost_spec.proofs.lists.GhostLists.take.Goals as goal
 
 make : Vms → Shared → Guest → Cpu → Used

@@ -8,7 +8,7 @@ use Rattle.trace_audit.proofs.auditing.AuditPlayer.end.Goals as goal
 pub returns-clause-front : goal.returns-clause-front
 returns-clause-front g c =
     let lines = audited_lines c.in-Ok.found in
-    when_err c.tell_found.result _ _
+    when_err c.report_found.result _ _
     (λ front. inr (
       _,
       outcome_of (length lines),
@@ -20,4 +20,4 @@ returns-clause-front g c =
       ),
       front,
     ))
-    c.tell_found.ensures.front
+    c.report_found.ensures.front

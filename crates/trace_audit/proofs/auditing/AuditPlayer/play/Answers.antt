@@ -4,11 +4,11 @@ use Rattle.trace_audit.proofs.auditing.AuditPlayer.play.Goals as goal
 
 pub returns-clause-front : goal.returns-clause-front
 returns-clause-front g c =
-    when_err c.tell_answer.result _ _
+    when_err c.report_answer.result _ _
     (λ front. record {
       answer = answer_of c.run-ran.new.self.session c.run-ran.result;
       after = c.run-ran.new.self;
       runs = c.run-ran.ensures.done;
       writes = front;
     })
-    c.tell_answer.ensures.front
+    c.report_answer.ensures.front

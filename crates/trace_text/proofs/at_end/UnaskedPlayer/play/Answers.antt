@@ -4,7 +4,7 @@ use Rattle.trace_text.proofs.at_end.UnaskedPlayer.play.Goals as goal
 
 pub returns-clause-front : goal.returns-clause-front
 returns-clause-front g c =
-    when_err c.tell_answer.result _ _
+    when_err c.report_answer.result _ _
     (λ front. record {
       answer = answer_of c.run_unasked-ran.new.self c.run_unasked-ran.result;
       after =
@@ -13,4 +13,4 @@ returns-clause-front g c =
           c.run_unasked-ran.ensures.done;
       writes = front;
     })
-    c.tell_answer.ensures.front
+    c.report_answer.ensures.front

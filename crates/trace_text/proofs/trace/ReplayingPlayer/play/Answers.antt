@@ -4,7 +4,7 @@ use Rattle.trace_text.proofs.trace.ReplayingPlayer.play.Goals as goal
 
 pub returns-clause-front : goal.returns-clause-front
 returns-clause-front g c =
-    when_err c.tell_answer.result _ _
+    when_err c.report_answer.result _ _
     (λ front. record {
       answer = answer_of c.run-ran.new.self c.run-ran.result;
       after =
@@ -12,4 +12,4 @@ returns-clause-front g c =
       runs = c.run-ran.ensures.done;
       writes = front;
     })
-    c.tell_answer.ensures.front
+    c.report_answer.ensures.front

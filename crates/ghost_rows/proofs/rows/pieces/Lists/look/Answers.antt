@@ -1,5 +1,5 @@
 use Rattle.std.proofs.Common.{◌-◌, arith}
-use Rattle.ghost_rows.proofs.RowsTold.{small-piece}
+use Rattle.ghost_rows.proofs.ListedRows.{small-piece}
 use Rattle.ghost_rows.proofs.rows.pieces.Lists.look.Goals as goal
 
 pub returns-clause-small : goal.returns-clause-small

@@ -3,7 +3,7 @@ use Rattle.page_state.specs.declared.row.Row.{Row}
 use Rattle.page_state.specs.Rows.{advance_row}
 use Rattle.run_list.specs.declared.run.Run.{Run}
 use Rattle.run_list.specs.Runs.{run_map}
-use Rattle.ghost_rows.specs.RowsTold.{lent_told, number_told, usage_told}
+use Rattle.ghost_rows.specs.ListedRows.{lent_told, number_told, usage_told}
 use Rattle.ghost_rows.proofs.RowsWhole.{steady-told}
 use Rattle.ghost_rows.proofs.rows.pieces.Lists.steady.Goals as goal
 

@@ -1,0 +1,13 @@
+use Rattle.std.proofs.Common.{◌≡◌, ℕ, [], ◌++◌, take}
+use Rattle.std.specs.Prelude.{◌==◌, if◌then◌else◌}
+use Rattle.c_states.specs.Lists.{runs_from_c}
+use Rattle.std.proofs.Common.{◌<◌}
+use Rattle.c_states.specs.Known.{is_run}
+use Rattle.c_states.specs.Told.{AreKnown}
+use Rattle.c_states.proofs.told.push_runs.Given as goal
+
+abbrev pub invariant-loop-i : goal.invariant-loop-i
+invariant-loop-i l =
+    ((t : ℕ)
+    → runs_from_c l.told.items t ≡ runs_from_c l.fn.told.items t ++ (if l.tree == t then take l.i l.runs else []))
+    × (l.tree < 66 → AreKnown is_run l.fn.told.items → AreKnown is_run l.told.items)

@@ -1,8 +1,0 @@
-use Rattle.freedoms.proofs.Seen.{seen_by_told, reads_seen}
-use Rattle.freedoms.proofs.laws.seen_by_told.Goals as goal
-
-pub returns-clause-seen : goal.returns-clause-seen
-returns-clause-seen c = seen_by_told
-
-pub returns-clause-reads : goal.returns-clause-reads
-returns-clause-reads c = reads_seen

@@ -1,5 +1,0 @@
-use Rattle.trace_outcomes.proofs.Histories.{races_are_told}
-use Rattle.trace_outcomes.proofs.laws.races_are_told.Goals as goal
-
-pub returns : goal.returns
-returns c = races_are_told
