@@ -52,6 +52,7 @@ pub struct CallRow {
 
 impl CallName {
     /// The row of the call.
+    // A chain of tests, as the toolchain refuses function pointers that are handed out.
     pub fn row(self) -> CallRow
         ensures word { result.word.now ≡ (row_by self).word }
         ensures number { result.number ≡ (row_by self).number }

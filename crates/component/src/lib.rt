@@ -27,6 +27,7 @@ use walker::Spare;
 const MOST_NEW_RUNS: usize = 2;
 
 /// A tree and its maplets, changed together: both have one meaning, and the maplets are the coarsest list of its runs.
+// One type for both sides, without a method for each call: docs/DECISIONS.md, 2.
 #[derive(Drop)]
 pub struct Component<A: Allocator> {
     pub tree: Tree<A>,

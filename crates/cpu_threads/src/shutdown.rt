@@ -78,10 +78,12 @@ fn ended<A: Allocator>(
 }
 
 impl<A: Allocator> Machine<A> {
-    /// The world after the one legal history of all calls, once each pass that was handed out is given. It goes on from the
-    /// history of the world that the machine was made of. Each CPU has the state in which its pass ends, with the pass's
-    /// calls, and each part's log begins with what each pass has seen there (`laws::one_history`). A log that a try found full is then full (`laws::full_logs`). With it come copies of all logs,
-    /// for which room is taken before the machine ends. On a refusal the machine and the passes are returned.
+    /// The world after the one legal history of all calls, once each pass that was handed out is given. It goes on from
+    /// the history of the world that the machine was made of. Each CPU has the state in which its pass ends, with the
+    /// pass's calls, and each part's log begins with what each pass has seen there (`laws::one_history`). A log that a
+    /// try found full is then full (`laws::full_logs`). With it come copies of all logs, for which room is taken before
+    /// the machine ends. On a refusal the machine and the passes are returned.
+    // Room for the copies is taken first: docs/DECISIONS.md, 33.
     pub fn shutdown(
         self,
         global: Global,

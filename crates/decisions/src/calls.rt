@@ -63,6 +63,7 @@ fn change(first: Page, count: u64, entry: Entry) -> Option<MapChange>
 }
 
 /// The decision of a call on the VM part.
+// Five functions, by what a step uses: docs/DECISIONS.md, 19.
 pub fn decide_vms(vms: &VmPart, cpu: &CpuState, step: Step) -> Result<Changes, Refusal>
     requires names { uses_vms (names step) ≡ true }
     ensures decided { (l : ReferenceLayout)

@@ -235,6 +235,7 @@ impl<A: Allocator> RawParts<A> {
 
     /// Sets the word at a path of a tree, and changes nothing else. It answers PathFault if the path has no word, and
     /// then changes nothing.
+    // Poked trees have a type of their own, which makes no step: docs/DECISIONS.md, 25.
     pub fn poke(
         self,
         which: Which,

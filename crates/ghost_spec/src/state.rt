@@ -11,6 +11,7 @@ use std::alloc::{AllocError, Global};
 use std::marker::Model;
 
 /// The reference state: lists of the layout's lengths, with runs sorted, disjoint and joined, and with small numbers.
+// Why it has an invariant: docs/DECISIONS.md, 4.
 #[derive(Drop)]
 pub struct Ghost {
     lists: GhostLists,

@@ -38,6 +38,7 @@ impl<A: Allocator + Copy> Parts<A> {
 
     /// Makes one step of a CPU on the parts that it uses. Requires parts at the end of one legal history, and leaves them at
     /// the end of one.
+    // It calls the five functions itself: docs/DECISIONS.md, 19.
     pub fn step(&mut self, alloc: A, cpu: u64, step: Step) -> Reply
         requires known { cpu < self.old.layout.config.cpus }
         requires history { ∥ HasHistory self.old ∥₁ }

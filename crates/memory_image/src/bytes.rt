@@ -11,6 +11,7 @@ use std::os::unix::fs::FileExt;
 pub struct Unread;
 
 /// What an image is read from, at any place.
+// Why a file has no bytes that a clause could name: docs/DECISIONS.md, 26.
 pub trait ImageBytes {
     /// All its bytes, if the type says which they are.
     ghost bytes: { Self → Option (List ℕ) };

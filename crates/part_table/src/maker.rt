@@ -16,6 +16,7 @@ use std::alloc::Allocator;
 /// Makes the step of a call while its pass holds the parts that the call uses, once the gate has heard that it does.
 /// The step is the same for every maker; what else a maker does with the parts before and after the step changes only
 /// its report.
+// Why a step is made by a maker: docs/DECISIONS.md, 31.
 pub trait Maker<T, G: Gate> {
     ghost use Rattle.std.specs.Prelude.{ℕ, Option};
     ghost use Rattle.part_types.specs.declared.parts.CpuState.{CpuState};

@@ -106,6 +106,7 @@ impl<A: Allocator + Copy> SharedPart<A> {
     /// Reserves all that both changes need. It returns NoPool if and only if the pool has fewer frames than both need
     /// tables, before any allocation, and NoMemory only if a tree has fewer spares than it needs tables, or maplets no
     /// room, and the allocator refused memory. A refusal changes nothing but the number of spares.
+    // The order of what a change takes: docs/DECISIONS.md, 20.
     pub fn reserve(
         &mut self,
         alloc: A,

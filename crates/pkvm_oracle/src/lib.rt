@@ -32,7 +32,7 @@ pub extern "C" fn pkvm_version() -> u64
     VERSION
 }
 
-/// Whether this library is a proved build.
+/// Whether this library is a proved build. An unproved one is made of sources with 0, which the toolchain refuses.
 #[unsafe(no_mangle)]
 pub extern "C" fn pkvm_is_proved() -> i32
     ensures { result ≡ pos 1 }

@@ -26,6 +26,7 @@ const SLOTS: usize = 64;
 /// rows, the number of free frames of the shared pool, of each guest its phase, generation, kind and number of free
 /// frames, each VM slot with the CPU of each vCPU, and each CPU's loaded vCPU, hand and ticket. Both states have the
 /// same memory.
+// It doesn't ask the rule of the step: docs/DECISIONS.md, 22.
 pub fn add_changes(
     text: &mut Vec<u8>,
     global: Global,

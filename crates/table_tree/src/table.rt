@@ -35,6 +35,7 @@ impl Reads {
 #[derive(Drop)]
 pub struct Table<A: Allocator> {
     frame: Frame,
+    // A list: the derived destructor of an array of an owned type leaves a goal on memory size.
     slots: Vec<Slot<A>, A>,
 }
 

@@ -17,6 +17,7 @@ use std::alloc::{AllocError, Allocator, Global};
 
 /// A tree of tables. Its root table has the geometry's levels below it, no word can encode the map of a table below the
 /// root, and no two tables have one frame. It also keeps spares, tables without a frame, for later changes.
+// Why its facts are ghost fields, and why it has no model: docs/DECISIONS.md, 3.
 #[derive(Drop)]
 pub struct Tree<A: Allocator> {
     pub geometry: Geometry,

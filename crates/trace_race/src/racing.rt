@@ -33,6 +33,7 @@ use trace_text::{ReportLine, Sink, Stop, faulted, report_end, tell};
 /// once. There is one legal history of the steps, with the replies in the report: first those before `start`, in the
 /// trace's order, and then those after it. No line disagrees. Err if the source or the sink failed, once, memory was
 /// refused, or a thread couldn't start.
+// It reads all before it boots: docs/DECISIONS.md, 13.
 pub fn race<R: Threads + Wait + Sync, S: Source, K: Sink, G: Gate + Sync>(
     rt: &R,
     global: Global,
