@@ -17,7 +17,7 @@ use Rattle.c_words.specs.Said.{reply_from_c}
 use Rattle.c_words.specs.Steps.{step_from_c}
 use Rattle.c_words.specs.Written.{reply_written}
 use Rattle.c_states.specs.declared.judge.PlainCall.{PlainCall}
-use Rattle.c_states.specs.declared.judge.Predicted.{Predicted}
+use Rattle.c_states.specs.declared.judge.Prediction.{Prediction}
 use Rattle.c_states.specs.declared.judge.Unjudged.{Unjudged}
 use Rattle.c_states.specs.declared.judge.Unjudged.TheVariants as unjudged
 use Rattle.c_states.specs.declared.layout.PlainLayout.{PlainLayout}
@@ -88,7 +88,7 @@ foretold_it l regions t s before cpu plain step (Ok x) can layout state h =
 foretold_it l regions t s before cpu plain step (Err why) can layout state h = tt
 
 pub state_it : (l : PlainLayout) (regions : List PlainRegion) (t : Layout) (s : Reference) (before : Lists) (cpu : ℕ)
-    (plain : PlainStep) (step : Step) (r : Result Predicted Unjudged)
+    (plain : PlainStep) (step : Step) (r : Result Prediction Unjudged)
     → CanCall l regions before cpu plain step
     → t ≡ layout_from_c l regions
     → s ≡ state_from_c before

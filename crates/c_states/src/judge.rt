@@ -189,7 +189,7 @@ pub fn predicted(
 
 /// A reply, and the state after it.
 #[derive(Drop)]
-pub struct Predicted {
+pub struct Prediction {
     pub reply: PlainReply,
     pub after: PlainLists,
 }
@@ -201,7 +201,7 @@ pub fn predicted_state(
     before: &PlainState<'_>,
     cpu: u64,
     step: PlainStep,
-) -> Result<Predicted, Unjudged>
+) -> Result<Prediction, Unjudged>
     ensures told { IfOk result
         (λ f. IsStatePredicted layout.now layout.now.regions.now
         (lists_from_c before.now) cpu step f.reply (lists_owned f.after)) }
@@ -227,7 +227,7 @@ pub fn predicted_state(
 }
 
 /// The reply to a step on a state, and the state after it, in numbers.
-fn state_after(alloc: Global, pre: Ghost, cpu: u64, step: Step) -> Result<Predicted, Unjudged>
+fn state_after(alloc: Global, pre: Ghost, cpu: u64, step: Step) -> Result<Prediction, Unjudged>
     requires cpu { cpu < pre.layout.config.cpus }
     requires generation { HasNextGeneration ((contents_in pre).cpu cpu).ticket step }
     ensures reply { IfOk result (λ f. f.reply ≡ reply_written (told_of pre cpu step).0) }
@@ -243,7 +243,7 @@ fn state_after(alloc: Global, pre: Ghost, cpu: u64, step: Step) -> Result<Predic
     let lists = lists_of(alloc, &after);
     drop(after);
     match lists {
-        Ok(after) => Ok(Predicted {
+        Ok(after) => Ok(Prediction {
             reply: reply_to_c(reply),
             after,
         }),

@@ -13,7 +13,9 @@ mod state;
 mod text;
 mod told;
 
-pub use judge::{PlainCall, Predicted, Unjudged, Unmade, judged, made, predicted, predicted_state};
+pub use judge::{
+    PlainCall, Prediction, Unjudged, Unmade, judged, made, predicted, predicted_state,
+};
 pub use layout::{PlainLayout, PlainLayoutFault, PlainRegion, layout_of};
 pub use members::{
     PlainCpu, PlainFrame, PlainGuest, PlainLoad, PlainRow, PlainRun, PlainSlot, PlainTable,

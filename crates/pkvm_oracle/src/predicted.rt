@@ -7,7 +7,7 @@ use crate::judged::{NOTHING, PlainRefused, unjudged_refused, unjudged_status};
 use crate::statuses::NO_ROOM;
 use c_states::{
     PlainCpu, PlainFrame, PlainGuest, PlainLayout, PlainLists, PlainLoad, PlainRow, PlainRun,
-    PlainSlot, PlainState, PlainTable, Predicted, predicted_state,
+    PlainSlot, PlainState, PlainTable, Prediction, predicted_state,
 };
 use c_words::{PlainReply, PlainStep};
 use std::alloc::Global;
@@ -145,7 +145,7 @@ pub extern "C" fn pkvm_predict(
 {
     *refused = NOTHING;
     *sizes = NO_SIZES;
-    let Predicted { reply: told, after } = match predicted_state(
+    let Prediction { reply: told, after } = match predicted_state(
         alloc, layout, before, cpu, *step,
     ) {
         Ok(predicted) => predicted,
