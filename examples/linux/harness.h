@@ -27,6 +27,11 @@ enum {
  */
 #define LINEAR 0x4000000ull
 
+/* What Linux chooses otherwise than the model, and no judgement compares: tables and free frames,
+ * and which of its own pages the host has mapped.
+ */
+enum { FREEDOMS = PKVM_OWN_TABLES | PKVM_LAZY_HOST };
+
 /* A CPU is a thread: what is there once for each. */
 #define PER_CPU _Thread_local
 

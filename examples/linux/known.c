@@ -213,14 +213,12 @@ static bool is_in_parts(const struct difference *it, int count_at, uint64_t size
 	uint64_t left = step.arguments[count_at];
 	struct numbers at = numbers_of(step.call);
 	struct pkvm_reply reply;
-	struct pkvm_refused why;
 
 	keep(&state, &it->before->state);
 	for (;;) {
-
 		step.arguments[count_at] = left < size ? left : size;
 		left -= step.arguments[count_at];
-		if (foretold(&state, it->cpu, &step, &reply, &next, &why))
+		if (foretold(&state, it->cpu, &step, &reply, &next))
 			return false;
 		if (reply.refusal || !left)
 			break;

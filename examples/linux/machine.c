@@ -68,6 +68,7 @@ const char *machine_make(uint64_t address_bits, uint64_t cpus, uint64_t carve_fi
 		.carve_count = carve_count,
 		.regions = machine.regions,
 		.regions_len = machine.regions_len,
+		.freedoms = FREEDOMS,
 	};
 	return NULL;
 }

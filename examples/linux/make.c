@@ -13,7 +13,7 @@ struct made make_on_linux(const struct pkvm_step *step, uint64_t slot)
 	struct made made = {.maker = BY_LINUX, .ended = linux_call(step, slot)};
 
 	made.reply.refusal =
-		made.ended.is_stopped ? PKVM_EPERM : refusal_of(step, made.ended.error);
+		made.ended.is_stopped ? PKVM_STOPPED : refusal_of(step, made.ended.error);
 	return made;
 }
 

@@ -108,6 +108,8 @@ const char *refusal_name(uint64_t refusal)
 		return "nopool";
 	case PKVM_ELOGFULL:
 		return "logfull";
+	case PKVM_STOPPED:
+		return "stopped";
 	default:
 		snprintf(number, sizeof(number), "%" PRIu64, refusal);
 		return number;
@@ -242,9 +244,7 @@ void count_step(const struct pkvm_step *step, const struct made *made,
 		const struct judgement *judgement)
 {
 	char key[96];
-	const char *said = made->maker == BY_NOBODY ? "none"
-			   : made->ended.is_stopped ? "stopped"
-						    : refusal_name(made->reply.refusal);
+	const char *said = made->maker == BY_NOBODY ? "none" : refusal_name(made->reply.refusal);
 
 	by_call[step->call].linux_made += made->maker == BY_LINUX;
 	by_call[step->call].harness_made += made->maker == BY_HARNESS;

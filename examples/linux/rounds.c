@@ -120,8 +120,10 @@ static void reply_of(uint64_t at_line, uint64_t cpu, const struct pkvm_step *ste
 	char text[256];
 
 	/* 6.12 stops where the model says `perm`: a known difference. */
-	if (step->call == PKVM_HOST_ABORT && !linux_has_guests)
+	if (step->call == PKVM_HOST_ABORT && !linux_has_guests && told.ended.is_stopped) {
 		told.ended.is_stopped = false;
+		told.reply.refusal = PKVM_EPERM;
+	}
 	text_of_reply(&told, text, sizeof(text));
 	fprintf(report, "%" PRIu64 " %" PRIu64 " %s\n", at_line, cpu, text);
 }

@@ -362,6 +362,7 @@ static void machine_of_record(void)
 		.carve_count = named("pool_pages"),
 		.regions = machine.regions,
 		.regions_len = len,
+		.freedoms = FREEDOMS,
 	};
 	for (uint64_t slot = 0; slot < SLOTS; slot++)
 		vm_ended(slot);
