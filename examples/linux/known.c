@@ -131,8 +131,7 @@ static unsigned int borrowers(const struct difference *it, uint64_t frame)
 
 static bool says(const struct difference *it, uint64_t linux_says, uint64_t model_says)
 {
-	return !it->made->ended.is_stopped && it->made->reply.refusal == linux_says &&
-	       it->spec.refusal == model_says;
+	return it->made->reply.refusal == linux_says && it->spec.refusal == model_says;
 }
 
 /* The frame and the guest page of a call: where its arguments have them, or -1. */
@@ -552,7 +551,8 @@ static bool whole_block_relaxed(const struct difference *it)
 	static PER_CPU struct copy after;
 	uint64_t page = it->step->arguments[0], slot, size, first;
 
-	if (it->step->call != PKVM_GUEST_RELAX || !says(it, 0, 0) || !vms_loaded(it->cpu, &slot))
+	if (it->step->call != PKVM_GUEST_RELAX || it->made->reply.refusal ||
+	    !vms_loaded(it->cpu, &slot))
 		return false;
 	size = linux_guest_leaf(slot, page);
 	first = size ? page & ~(size - 1) : page;
