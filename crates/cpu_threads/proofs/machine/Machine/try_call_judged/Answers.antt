@@ -5,7 +5,7 @@ pub returns-clause-answers : goal.returns-clause-answers
 returns-clause-answers g c = c.try_step_by.ensures.answers
 
 pub returns-clause-silent : goal.returns-clause-silent
-returns-clause-silent g c = c.try_step_by.ensures.unshown
+returns-clause-silent g c = c.try_step_by.ensures.untold
 
 pub returns-clause-judged : goal.returns-clause-judged
 returns-clause-judged g c s =
