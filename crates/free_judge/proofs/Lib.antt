@@ -6,3 +6,4 @@ pub mod Aborted
 pub mod Judged
 pub mod Lows
 pub mod Ready
+pub mod OneAnswer

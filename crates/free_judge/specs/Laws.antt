@@ -1,4 +1,5 @@
--- Laws of a judgement up to the freedoms, on legal states and on steps of the model.
+-- Laws of a judgement up to the freedoms: on legal states and on steps of the model, and that it
+-- has one answer.
 use Rattle.std.specs.Prelude.{◌≡◌, ◌≢◌, ◌↔◌, ℕ, false, true, Option, None}
 use Rattle.call_table.specs.declared.reply.Call.{Call}
 use Rattle.call_table.specs.declared.reply.Refusal.TheVariants.{LogFull}
@@ -15,7 +16,7 @@ use Rattle.freedoms.specs.AnyTrees.{LegalInAnyTrees}
 use Rattle.freedoms.specs.Freedoms.{Alike, JudgedWith, is_read}
 use Rattle.freedoms.specs.OwnTables.{OwnTables}
 use Rattle.ghost_judge.specs.declared.disagreement.Disagreement.{Disagreement}
-use Rattle.free_judge.specs.Freely.{IsJudgedFreely}
+use Rattle.free_judge.specs.Freely.{AgreesBy, IsFirstBy, IsJudgedFreely, IsPredictedFreely, IsReady}
 
 -- if some legal state is like the one before, nothing is found if and only if the call is judged to
 -- agree. A read is from the state itself
@@ -45,3 +46,60 @@ NoFalseAlarm =
     → OwnTables t.contents after
     → asks_pool c.step ≡ false
     → IsJudgedFreely w l before c.cpu c.step c.reply after found → found ≡ None
+
+-- at most one disagreement is the first
+abbrev pub FirstOnce : Type 0
+FirstOnce =
+    (w : Freedoms) (step : Step) (reply told : Reply) (before after wanted post : Contents)
+    (d e : Disagreement)
+    → IsFirstBy w step reply told before after wanted post d
+    → IsFirstBy w step reply told before after wanted post e
+    → d ≡ e
+
+-- and none is if all agrees
+abbrev pub FirstElse : Type 0
+FirstElse =
+    (w : Freedoms) (step : Step) (reply told : Reply) (before after wanted post : Contents)
+    (d : Disagreement)
+    → AgreesBy w step reply told before after wanted post
+    → IsFirstBy w step reply told before after wanted post d
+    → ⊥
+
+-- the model steps from one state, unless the step reads a guest's pool
+abbrev pub ReadyOnce : Type 0
+ReadyOnce =
+    (w : Freedoms) (l : Layout) (before : Contents) (step : Step) (r s : Contents)
+    → asks_pool step ≡ false
+    → IsReady w l before step r
+    → IsReady w l before step s
+    → r ≡ s
+
+-- judgements by the model's step from one state have one answer
+abbrev pub JudgedFromOnce : Type 0
+JudgedFromOnce =
+    (w : Freedoms) (l : Layout) (before : Contents) (cpu : ℕ) (step : Step) (reply : Reply)
+    (after : Contents) (f g : Option Disagreement)
+    (a : IsJudgedFreely w l before cpu step reply after f)
+    (b : IsJudgedFreely w l before cpu step reply after g)
+    → a.ready ≡ b.ready
+    → f ≡ g
+
+-- so has each judgement of a step that doesn't read a guest's pool
+abbrev pub JudgedFreelyOnce : Type 0
+JudgedFreelyOnce =
+    (w : Freedoms) (l : Layout) (before : Contents) (cpu : ℕ) (step : Step) (reply : Reply)
+    (after : Contents) (f g : Option Disagreement)
+    → asks_pool step ≡ false
+    → IsJudgedFreely w l before cpu step reply after f
+    → IsJudgedFreely w l before cpu step reply after g
+    → f ≡ g
+
+-- and each prediction of it, apart from tables and free frames
+abbrev pub PredictedFreelyOnce : Type 0
+PredictedFreelyOnce =
+    (w : Freedoms) (l : Layout) (before : Contents) (cpu : ℕ) (step : Step) (r s : Reply)
+    (a b : Contents)
+    → asks_pool step ≡ false
+    → IsPredictedFreely w l before cpu step r a
+    → IsPredictedFreely w l before cpu step s b
+    → (r ≡ s) × OwnTables a b
