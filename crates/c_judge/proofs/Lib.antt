@@ -1,2 +1,4 @@
 pub mod Callable
 pub mod Said
+pub mod OneFinding
+pub mod OneReason

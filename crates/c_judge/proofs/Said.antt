@@ -1,6 +1,6 @@
 -- What is found of a call by what its reply says, and why there is none.
-use Rattle.std.proofs.Common.{◌≡◌, inl, refl, subst}
-use Rattle.std.specs.Prelude.{List, Option, Some, None, IsSome, Result, Ok, Err, IfOk, IfErr}
+use Rattle.std.proofs.Common.{◌≡◌, inl, inr, refl, sym, subst}
+use Rattle.std.specs.Prelude.{true, List, Option, Some, None, IsSome, Result, Ok, Err, IfOk, IfErr}
 use Rattle.call_table.specs.declared.step.Step.{Step}
 use Rattle.page_state.specs.Layouts.{Layout}
 use Rattle.page_state.specs.LayoutView.{layout_of}
@@ -19,7 +19,7 @@ use Rattle.c_states.specs.States.{Lists}
 use Rattle.c_judge.specs.declared.found.Found.{Found}
 use Rattle.c_judge.specs.declared.reply.Said.{Said}
 use Rattle.c_judge.specs.declared.found.Unfound.TheVariants.{Call}
-use Rattle.c_judge.specs.Found.{IsFound, IsFoundBy, IsFoundFreely, IsFoundOf, IsUnfound, IsUnfoundBy, IsUnfoundFreely}
+use Rattle.c_judge.specs.Found.{is_compared, IsFound, IsFoundBy, IsFoundFreely, IsFoundOf, IsUncompared, IsUnfound, IsUnfoundBy, IsUnfoundFreely}
 use Rattle.c_judge.specs.Ready.{IsCallable}
 use Rattle.c_judge.specs.Replies.{said_of}
 use Rattle.c_judge.proofs.Callable.{contents-are}
@@ -46,34 +46,44 @@ module _ (w : Freedoms) (l : PlainLayout) (regions : List PlainRegion) (before :
   }
   found-freely (Err why) k = tt
 
-  after-fault : (why : Unjudged) → IsUnjudgedAfter l regions after why → IsUnfoundFreely l regions before call after why
-  after-fault unjudged.Step k = absurd k
-  after-fault unjudged.Reply k = absurd k
-  after-fault unjudged.Cpu k = absurd k
-  after-fault (unjudged.Before why) k = absurd k
-  after-fault unjudged.Generation k = absurd k
-  after-fault (unjudged.After why) k = (some-said (said_of call.reply) says says_is, (step, h.can), k)
-  after-fault unjudged.NoMemory k = tt
+  after-fault : (why : Unjudged)
+      → is_compared w says ≡ true
+      → IsUnjudgedAfter l regions after why
+      → IsUnfoundFreely w l regions before call after why
+  after-fault unjudged.Step is k = absurd k
+  after-fault unjudged.Reply is k = absurd k
+  after-fault unjudged.Cpu is k = absurd k
+  after-fault (unjudged.Before why) is k = absurd k
+  after-fault unjudged.Generation is k = absurd k
+  after-fault (unjudged.After why) is k = ((says, says_is, is), (step, h.can), k)
+  after-fault unjudged.NoMemory is k = tt
+
+  uncompared : (why : Unjudged)
+      → IsUncompared w says l regions after why
+      → IsUnfoundFreely w l regions before call after why
+  uncompared why (inl e) = subst (IsUnfoundFreely w l regions before call after) (sym e) tt
+  uncompared why (inr k) = after-fault why k.0 k.1
 
   pub unfound-freely : (r : Result (Option Found) Unjudged)
-      → IfErr r (IsUnjudgedAfter l regions after)
-      → IfErr r (IsUnfoundFreely l regions before call after)
+      → IfErr r (IsUncompared w says l regions after)
+      → IfErr r (IsUnfoundFreely w l regions before call after)
   unfound-freely (Ok found) k = tt
-  unfound-freely (Err why) k = after-fault why k
+  unfound-freely (Err why) k = uncompared why k
 
 -- why a step that is known isn't told
-pub before-fault : (l : PlainLayout) (regions : List PlainRegion) (before : Lists) (call : PlainCall) (after : Lists)
+pub before-fault : (w : Freedoms) (l : PlainLayout) (regions : List PlainRegion) (before : Lists) (call : PlainCall)
+    (after : Lists)
     (says : Said) (why : Unjudged)
     → said_of call.reply ≡ Some says
     → IsUnpredicted l regions before call.cpu call.step why
-    → IsUnfoundFreely l regions before call after why
-before-fault l regions before call after says unjudged.Step e k = k
-before-fault l regions before call after says unjudged.Reply e k = absurd k
-before-fault l regions before call after says unjudged.Cpu e k = (some-said (said_of call.reply) says e, k)
-before-fault l regions before call after says (unjudged.Before why) e k = (some-said (said_of call.reply) says e, k)
-before-fault l regions before call after says unjudged.Generation e k = (some-said (said_of call.reply) says e, k)
-before-fault l regions before call after says (unjudged.After why) e k = absurd k
-before-fault l regions before call after says unjudged.NoMemory e k = tt
+    → IsUnfoundFreely w l regions before call after why
+before-fault w l regions before call after says unjudged.Step e k = k
+before-fault w l regions before call after says unjudged.Reply e k = absurd k
+before-fault w l regions before call after says unjudged.Cpu e k = (some-said (said_of call.reply) says e, k)
+before-fault w l regions before call after says (unjudged.Before why) e k = (some-said (said_of call.reply) says e, k)
+before-fault w l regions before call after says unjudged.Generation e k = (some-said (said_of call.reply) says e, k)
+before-fault w l regions before call after says (unjudged.After why) e k = absurd k
+before-fault w l regions before call after says unjudged.NoMemory e k = tt
 
 -- a call of which something is found can be refused for want of memory
 module _ (l : PlainLayout) (regions : List PlainRegion) (before : Lists) (call : PlainCall) (after : Lists)

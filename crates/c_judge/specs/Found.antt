@@ -1,6 +1,6 @@
 -- What the judgement of a call by plain lists and by the layout's freedoms says, and why there is
 -- none.
-use Rattle.std.specs.Prelude.{◌≡◌, ◌⊎◌, ℕ, true, false, List, Option, Some, None, IsSome, option_map}
+use Rattle.std.specs.Prelude.{◌≡◌, ◌⊎◌, ℕ, Bool, true, false, List, Option, Some, None, IsSome, option_map}
 use Rattle.call_table.specs.declared.reply.Refusal.TheVariants.{Contended}
 use Rattle.call_table.specs.declared.reply.Reply.{Reply}
 use Rattle.call_table.specs.declared.reply.Reply.TheVariants.{Refused}
@@ -19,7 +19,7 @@ use Rattle.c_states.specs.declared.judge.Unjudged.TheVariants as unjudged
 use Rattle.c_states.specs.declared.layout.PlainLayout.{PlainLayout}
 use Rattle.c_states.specs.declared.layout.PlainRegion.{PlainRegion}
 use Rattle.c_states.specs.Faults.{AreTaken}
-use Rattle.c_states.specs.Judged.{prediction_from_c, CanCall, IsJudged, IsUnjudged, IsUnjudgedAfter, IsUnpredicted}
+use Rattle.c_states.specs.Judged.{prediction_from_c, CanCall, IsJudged, IsUnjudged, IsUnjudgedAfter, IsUnmade, IsUnpredicted}
 use Rattle.c_states.specs.Layouts.{layout_from_c}
 use Rattle.c_states.specs.States.{Lists, contents_from_c}
 use Rattle.c_judge.specs.declared.found.Found.{Found}
@@ -118,18 +118,32 @@ pub record IsFoundFreely (w : Freedoms) (l : PlainLayout) (regions : List PlainR
   pub found_is : IsFoundOf w (layout_from_c l regions) l.cpus
       (contents_from_c before) call.cpu step says after found
 
--- why a call isn't judged so
-abbrev pub IsUnfoundFreely : PlainLayout → List PlainRegion → Lists → PlainCall → Lists → Unjudged
+-- the state after a call with such a reply is compared
+abbrev pub is_compared : Freedoms → Said → Bool
+is_compared w (said.Known reply) = true
+is_compared w (said.Refusal n) = w.any_refusal
+is_compared w said.Stopped = false
+
+-- why a call that could be made isn't judged so: memory ran out, or the lists after it make no
+-- state and are looked at
+abbrev pub IsUncompared : Freedoms → Said → PlainLayout → List PlainRegion → Lists → Unjudged
     → Type 0
-IsUnfoundFreely l regions before call after unjudged.Step = step_from_c call.step ≡ None
-IsUnfoundFreely l regions before call after unjudged.Reply =
+IsUncompared w says l regions after why =
+    (why ≡ unjudged.NoMemory)
+    ⊎ ((is_compared w says ≡ true) × IsUnjudgedAfter l regions after why)
+
+-- why a call isn't judged so: the first that is true
+abbrev pub IsUnfoundFreely : Freedoms → PlainLayout → List PlainRegion → Lists → PlainCall → Lists
+    → Unjudged → Type 0
+IsUnfoundFreely w l regions before call after unjudged.Step = step_from_c call.step ≡ None
+IsUnfoundFreely w l regions before call after unjudged.Reply =
     IsSome (step_from_c call.step) × (said_of call.reply ≡ None)
-IsUnfoundFreely l regions before call after (unjudged.After why) =
-    IsSome (said_of call.reply)
+IsUnfoundFreely w l regions before call after (unjudged.After why) =
+    ((says : Said) × (said_of call.reply ≡ Some says) × (is_compared w says ≡ true))
     × ((step : Step) × CanCall l regions before call.cpu call.step step)
-    × IsUnjudgedAfter l regions after (unjudged.After why)
-IsUnfoundFreely l regions before call after unjudged.NoMemory = Unit {0}
-IsUnfoundFreely l regions before call after why =
+    × IsUnmade l regions after why
+IsUnfoundFreely w l regions before call after unjudged.NoMemory = Unit {0}
+IsUnfoundFreely w l regions before call after why =
     IsSome (said_of call.reply) × IsUnpredicted l regions before call.cpu call.step why
 
 -- judged by the layout's freedoms
@@ -150,7 +164,7 @@ abbrev pub IsUnfoundBy : PlainLayout → List PlainRegion → Lists → PlainCal
     → Option Freedoms → Unjudged → Type 0
 IsUnfoundBy l regions before call after None why = IsUnfoundExactly l regions before call after why
 IsUnfoundBy l regions before call after (Some w) why =
-    IsUnfoundFreely l regions before call after why
+    IsUnfoundFreely w l regions before call after why
 
 abbrev pub IsUnfound : PlainLayout → List PlainRegion → Lists → PlainCall → Lists → Unfound → Type 0
 IsUnfound l regions before call after (BadFreedoms fault) = IsFreedomsFault l.freedoms fault

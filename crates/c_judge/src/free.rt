@@ -8,7 +8,7 @@ ghost use Rattle.c_states.specs.Faults.{AreTaken};
 ghost use Rattle.c_states.specs.Judged.{IsUnjudgedAfter};
 ghost use Rattle.c_states.specs.States.{contents_from_c};
 ghost use Rattle.c_states.specs.Views.{lists_from_c};
-ghost use Rattle.c_judge.specs.Found.{differs, renamed, IsCompared, IsFoundFreely, IsFoundOf, IsModelReplyOnly, IsUnfoundFreely};
+ghost use Rattle.c_judge.specs.Found.{differs, renamed, IsCompared, IsFoundFreely, IsFoundOf, IsModelReplyOnly, IsUncompared, IsUnfoundFreely};
 
 use crate::found::Found;
 use crate::ready::ready;
@@ -99,7 +99,8 @@ fn found_from(
     ensures found { IfOk result
         (IsFoundOf freedoms (layout_of pre.now.layout) layout.now.cpus
         (contents_in pre.now) cpu step said (lists_from_c after.now)) }
-    ensures unfound { IfErr result (IsUnjudgedAfter layout.now layout.now.regions.now (lists_from_c after.now)) }
+    ensures unfound { IfErr result
+        (IsUncompared freedoms said layout.now layout.now.regions.now (lists_from_c after.now)) }
 {
     match said {
         Said::Known(reply) => {
@@ -137,8 +138,8 @@ pub(crate) fn found_freely(
         (IsFoundFreely freedoms layout.now layout.now.regions.now
         (lists_from_c before.now) call.now (lists_from_c after.now)) }
     ensures unfound { IfErr result
-        (IsUnfoundFreely layout.now layout.now.regions.now (lists_from_c before.now) call.now
-        (lists_from_c after.now)) }
+        (IsUnfoundFreely freedoms layout.now layout.now.regions.now
+        (lists_from_c before.now) call.now (lists_from_c after.now)) }
 {
     if step_of(call.step).is_none() {
         return Err(Unjudged::Step);

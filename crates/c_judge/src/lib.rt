@@ -5,6 +5,7 @@ mod exact;
 mod found;
 mod free;
 mod judge;
+pub mod laws;
 mod ready;
 mod reply;
 mod text;
