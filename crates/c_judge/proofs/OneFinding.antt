@@ -1,6 +1,6 @@
 -- A judgement by freedoms has one answer, and a call that is judged isn't refused.
 use Rattle.std.proofs.Common.{◌≡◌, ℕ, ◌%◌, refl, sym, ap, subst, ◌∙◌, arith, inl, inr}
-use Rattle.std.specs.Prelude.{◌==◌, Bool, true, false, List, Option, Some, None, is_some, if◌then◌else◌, option_map}
+use Rattle.std.specs.Prelude.{◌↔◌, ◌==◌, Bool, true, false, List, Option, Some, None, IfSome, is_some, if◌then◌else◌, option_map}
 use Rattle.std.proofs.lemmas.Bool.Decides.{nat_tests}
 use Rattle.call_table.specs.declared.reply.Reply.{Reply}
 use Rattle.call_table.specs.declared.reply.Reply.TheVariants.{Done, Refused}
@@ -13,6 +13,8 @@ use Rattle.freedoms.specs.Ample.{asks_pool}
 use Rattle.freedoms.specs.declared.Freedoms.{Freedoms}
 use Rattle.free_judge.proofs.OneAnswer.{judged_freely_once, predicted_freely_once}
 use Rattle.ghost_judge.specs.declared.disagreement.Disagreement.{Disagreement}
+use Rattle.ghost_judge.specs.Judgements.{IsFirstJudged, JudgeAgrees}
+use Rattle.ghost_judge.proofs.OneAnswer.{judged_once}
 use Rattle.c_words.specs.Numbers.{refusal_from_c}
 use Rattle.c_words.specs.Said.{reply_from_c, value_from_c}
 use Rattle.c_words.specs.declared.reply.PlainReply.{PlainReply}
@@ -23,12 +25,11 @@ use Rattle.c_states.specs.declared.judge.Unjudged.TheVariants as unjudged
 use Rattle.c_states.specs.declared.judge.Unmade.{Unmade}
 use Rattle.c_states.specs.declared.layout.PlainLayout.{PlainLayout}
 use Rattle.c_states.specs.declared.layout.PlainRegion.{PlainRegion}
-use Rattle.c_states.specs.Judged.{prediction_from_c, CanCall, IsUnmade}
+use Rattle.c_states.specs.Judged.{prediction_from_c, CanCall, IsJudged, IsUnmade}
 use Rattle.c_states.specs.Laws.{LacksMemory, MadeLacksMemory}
 use Rattle.c_states.specs.Layouts.{layout_from_c}
 use Rattle.c_states.specs.States.{Lists, contents_from_c}
 use Rattle.c_states.proofs.NoRefusal.{can_else, made_else, none_some, one_step, unknown_else}
-use Rattle.c_states.proofs.OneAnswer.{judged_once}
 use Rattle.c_judge.specs.declared.found.Found.{Found}
 use Rattle.c_judge.specs.declared.found.Found.TheVariants as found
 use Rattle.c_judge.specs.declared.found.Unfound.TheVariants.{Freedoms as BadFreedoms, Call}
@@ -86,8 +87,8 @@ no_number n o e =
     subst (λ (m : ℕ). (if m == 0 then option_map Done o else option_map Refused (refusal_from_c m)) ≡ None)
     (sym e) refl
 
-equal : (n m : ℕ) → (n == m) ≡ true → n ≡ m
-equal n m e = grind (arith, nat_tests)
+same_number : (n m : ℕ) → (n == m) ≡ true → n ≡ m
+same_number n m e = grind (arith, nat_tests)
 
 no_refusal_known : (r : PlainReply) (n : ℕ) → said_of r ≡ Some (said.Refusal n) → reply_from_c r ≡ None
 no_refusal_known r n e = refused_unknown (r.refusal == 65536) r.refusal n (reply_from_c r) e
@@ -95,11 +96,48 @@ no_refusal_known r n e = refused_unknown (r.refusal == 65536) r.refusal n (reply
 no_stop_known : (r : PlainReply) → said_of r ≡ Some said.Stopped → reply_from_c r ≡ None
 no_stop_known r e =
     stopped_unknown (r.refusal == 65536) r.refusal (reply_from_c r)
-    (λ s. no_number r.refusal (value_from_c r) (equal r.refusal 65536 s)) e
+    (λ s. no_number r.refusal (value_from_c r) (same_number r.refusal 65536 s)) e
 
 -- judged exactly
 
 module _ (l : PlainLayout) (regions : List PlainRegion) (before : Lists) (call : PlainCall) (after : Lists) where
+  abbrev NoneOf : Option Disagreement → Step → Reply → Type 0
+  NoneOf f t r =
+      (f ≡ None)
+      ↔ JudgeAgrees (contents_from_c before) t r (contents_from_c after)
+      (prediction_from_c l regions before call.cpu t)
+
+  abbrev FirstOf : Option Disagreement → Step → Reply → Type 0
+  FirstOf f t r =
+      IfSome f
+      (IsFirstJudged (contents_from_c before) t r (contents_from_c after)
+      (prediction_from_c l regions before call.cpu t))
+
+  lists_of : (t : Step) (r : Reply) (f g : Option Disagreement)
+      → NoneOf f t r
+      → FirstOf f t r
+      → NoneOf g t r
+      → FirstOf g t r
+      → f ≡ g
+  lists_of t r None g nf hf ng hg = sym (ng.1 (nf.0 refl))
+  lists_of t r (Some d) None nf hf ng hg = nf.1 (ng.0 refl)
+  lists_of t r (Some d) (Some e) nf hf ng hg =
+      ap Some
+      (judged_once (contents_from_c before) t r (contents_from_c after)
+      (prediction_from_c l regions before call.cpu t) d e hf hg)
+
+  lists_once : (f g : Option Disagreement)
+      → IsJudged l regions before call after f
+      → IsJudged l regions before call after g
+      → f ≡ g
+  lists_once f g x y =
+      let same = one_step call.step x.step y.step x.can.step_is y.can.step_is in
+      let one = one_of (reply_from_c call.reply) x.reply y.reply x.reply_is y.reply_is in
+      lists_of y.step y.reply f g
+      (subst (λ (r : Reply). NoneOf f y.step r) one (subst (λ (t : Step). NoneOf f t x.reply) same x.none))
+      (subst (λ (r : Reply). FirstOf f y.step r) one (subst (λ (t : Step). FirstOf f t x.reply) same x.first))
+      y.none y.first
+
   model_once : (r s : Reply)
       → IsModelReply l regions before call.cpu call.step r
       → IsModelReply l regions before call.cpu call.step s
@@ -115,7 +153,7 @@ module _ (l : PlainLayout) (regions : List PlainRegion) (before : Lists) (call :
       → IsFoundExactlyOf l regions before call after says g
       → f ≡ g
   exactly_of (said.Known reply) f g h k =
-      h.2 ∙ ap (option_map differs) (judged_once l regions before call after h.0 k.0 h.1 k.1) ∙ sym k.2
+      h.2 ∙ ap (option_map differs) (lists_once h.0 k.0 h.1 k.1) ∙ sym k.2
   exactly_of (said.Refusal n) f g h k =
       h.2 ∙ ap (λ (r : Reply). Some (found.Refusal n r)) (model_once h.0 k.0 h.1 k.1) ∙ sym k.2
   exactly_of said.Stopped f g h k =
