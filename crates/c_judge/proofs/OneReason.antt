@@ -20,10 +20,10 @@ use Rattle.c_judge.specs.declared.reply.Said.{Said}
 use Rattle.c_judge.specs.declared.wanted.FreedomsFault.{FreedomsFault}
 use Rattle.c_judge.specs.declared.wanted.FreedomsFault.TheVariants.{Unknown, WithoutOwnTables}
 use Rattle.c_judge.specs.Found.{IsUnfoundBy, IsUnfoundExactly, IsUnfoundFreely}
-use Rattle.c_judge.specs.Freedoms.{IsFreedomsFault, IsTakenAs}
+use Rattle.c_judge.specs.Freedoms.{IsFreedomsFault}
 use Rattle.c_judge.specs.Laws.{UnfoundOnce}
 use Rattle.c_judge.specs.Replies.{said_of}
-use Rattle.c_judge.proofs.OneFinding.{freedoms_once, taken_else}
+use Rattle.c_judge.proofs.OneFinding.{taken_else}
 
 fault_once : (n : ℕ) (a b : FreedomsFault) → IsFreedomsFault n a → IsFreedomsFault n b → a ≡ b
 fault_once n Unknown Unknown h k = refl
