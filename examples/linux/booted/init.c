@@ -1,9 +1,12 @@
 /* The first program of the booted machine: it makes VMs, runs them and ends them, and then turns
  * the machine off. A word of its command line says how many plain ones, another how many
- * protected, and at_once=1 that they live at once, each in a process of its own.
+ * protected, and at_once=1 that they live at once, each in a process of its own. With stay=1 one
+ * more VM of each kind is made that lives until the machine is off.
  */
 #include <fcntl.h>
 #include <linux/kvm.h>
+#include <signal.h>
+#include <stdbool.h>
 #include <stdint.h>
 #include <stdio.h>
 #include <stdlib.h>
@@ -62,7 +65,7 @@ static int asked(const char *what, int it)
 	return it;
 }
 
-static void live(int kvm, unsigned long kind, const uint32_t *code, size_t size)
+static void live(int kvm, unsigned long kind, const uint32_t *code, size_t size, bool stays)
 {
 	int vm = asked("a VM", ioctl(kvm, KVM_CREATE_VM, kind)), vcpu;
 	int run_size = asked("a size", ioctl(kvm, KVM_GET_VCPU_MMAP_SIZE, 0));
@@ -89,6 +92,8 @@ static void live(int kvm, unsigned long kind, const uint32_t *code, size_t size)
 		if (run->exit_reason != KVM_EXIT_MMIO)
 			break;
 	}
+	if (stays)
+		return;
 	munmap(run, (size_t)run_size);
 	close(vcpu);
 	close(vm);
@@ -107,10 +112,20 @@ static void live_each(int kvm, int count, unsigned long kind, const uint32_t *co
 	while (count--) {
 		if (number("at_once") && fork())
 			continue;
-		live(kvm, kind, code, size);
+		live(kvm, kind, code, size, false);
 		if (number("at_once"))
 			exit(0);
 	}
+}
+
+/* VMs that stay: this process keeps them, and must not end. */
+static void stay(int kvm)
+{
+	if (number("plain"))
+		live(kvm, 0, plain_code, sizeof(plain_code), true);
+	if (number("protected"))
+		live(kvm, PROTECTED, protected_code, sizeof(protected_code), true);
+	raise(SIGSTOP);
 }
 
 int main(void)
@@ -130,8 +145,8 @@ int main(void)
 		/* The first program must not end: its child does the work. */
 		int status;
 
-		wait(&status);
-		printf("all VMs ended: %d\n", status);
+		waitpid(-1, &status, WUNTRACED);
+		printf("all VMs %s: %d\n", WIFSTOPPED(status) ? "stay" : "ended", status);
 		sync();
 		reboot(RB_POWER_OFF);
 	}
@@ -140,5 +155,7 @@ int main(void)
 	live_each(kvm, number("protected"), PROTECTED, protected_code, sizeof(protected_code));
 	while (wait(0) > 0)
 		;
+	if (number("stay"))
+		stay(kvm);
 	return 0;
 }

@@ -1,5 +1,5 @@
 #!/usr/bin/env python3
-"""record.py KERNEL INITRD FOLDER CPU CPUS MEGABYTES CALLS WORDS..: boots a kernel under QEMU and records its hypervisor's calls from outside.
+"""record.py KERNEL INITRD FOLDER CPU CPUS MEGABYTES CALLS CORE WORDS..: boots a kernel under QEMU and records its hypervisor's calls from outside.
 
 KERNEL has `Image` and `names` (see `kernel`). QEMU's gdb stub stops the machine where a call begins and where it returns; nothing is
 changed in it. FOLDER gets `calls`, lines of text, and `pages`, the pages that they name:
@@ -13,18 +13,23 @@ Of several CPUs the one that begins a call runs alone until it ends, so that the
 
 What is recorded: EL2's pool, its variables, and tables of guests and the pages of their VMs' structs. It ends after CALLS calls, when
 the machine is off, or when `pages` has a gigabyte.
+
+CORE, unless it is empty, gets a core of the machine when it is about to be turned off, whether calls are still recorded or not. Then
+FOLDER also gets `dump`: how `dump` is to be asked for that core.
 """
 import hashlib
+import json
 import mmap
 import os
 import re
+import shlex
 import socket
 import struct
 import subprocess
 import sys
 import time
 
-BASE, PAGE, MOST_PAGES, PATIENCE = 0x40000000, 4096, 1 << 18, 120
+BASE, PAGE, MOST_PAGES, PATIENCE, HANDLE_OF_SLOT_0 = 0x40000000, 4096, 1 << 18, 120, 0x1000
 # The calls, and what each argument is: a number, a vCPU or a VM, of which the VM's physical address is told, or a place.
 CALLS = {
     "__pkvm_host_share_hyp": "n",
@@ -177,8 +182,106 @@ def tables(memory, frame, level, found):
             tables(memory, below, level + 1, found)
 
 
+class Core:
+    """A machine that is about to be turned off, its CPU in the host's kernel: a core of it, and how `dump` is to be asked for it."""
+
+    def __init__(self, gdb, memory, names, physical, offset):
+        self.gdb, self.memory, self.names, self.physical, self.offset = gdb, memory, names, physical, offset
+        self.el2_has_guests = "pkvm_hyp_vm.pgt" in names
+        self.release = "7.3" if self.el2_has_guests else "6.12"
+        self.numbered = 0
+
+    def number(self, at, size=8):
+        return int.from_bytes(self.memory[at - BASE : at - BASE + size], "little")
+
+    def of_el2(self, address):
+        """The physical address of one in EL2's linear map."""
+        return (address + self.offset) % (1 << 64)
+
+    def root(self, bits, level, at):
+        """FRAME:LEVEL:PAGES. A page of level 0 has 48 bits, one of level 1 has 39, .."""
+        level -= (level & 0x80) * 2
+        return f"{at // PAGE:#x}:{level}:{1 << max(0, bits - 48 + 9 * level)}"
+
+    def root_of(self, pgt):
+        """Of one of EL2's struct kvm_pgtable."""
+        bits, level, at = (pgt + self.names[f"kvm_pgtable.{it}"] for it in ("ia_bits", "start_level", "pgd"))
+        return self.root(self.number(bits, 4), self.number(level, 1), self.of_el2(self.number(at)))
+
+    def guests(self):
+        """Number, kind and root of each VM in the host's list that has tables."""
+        head = self.names["kernel.vm_list"]
+        at = self.gdb.number_at(head)
+        while at != head:
+            kvm = at - self.names["kvm.vm_list"]
+            yield from self.guest_of_el2(kvm) if self.el2_has_guests else self.guest_of_host(kvm)
+            at = self.gdb.number_at(at)
+
+    def guest_of_el2(self, kvm):
+        """7.3: the VM's handle says which slot of EL2's it has."""
+        handle = self.gdb.number_at(kvm + self.names["kvm.arch.pkvm.handle"]) & 0xFFFF
+        slot = handle - HANDLE_OF_SLOT_0
+        vm = self.of_el2(self.number(self.of_el2(self.number(self.physical("vm_table"))) + 8 * slot)) if slot >= 0 else 0
+        if 0 <= vm - BASE < len(self.memory):
+            is_protected = self.number(vm + self.names["pkvm_hyp_vm.kvm.arch.pkvm.is_protected"], 1)
+            yield slot, f"{'protected' if is_protected else 'plain'} handle {handle:#x}", self.root_of(vm + self.names["pkvm_hyp_vm.pgt"])
+
+    def guest_of_host(self, kvm):
+        """6.12: the host has the tables, and EL2 knows no VM. They are numbered as they come."""
+        pgt = self.gdb.number_at(kvm + self.names["kvm.arch.mmu.pgt"])
+        bits, level = (self.gdb.number_at(pgt + self.names[f"kvm_pgtable.{it}"]) for it in ("ia_bits", "start_level"))
+        at = self.gdb.number_at(kvm + self.names["kvm.arch.mmu.pgd_phys"])
+        yield self.numbered, "plain", self.root(bits & 0xFFFFFFFF, level & 0xFF, at)
+        self.numbered += 1
+
+    def ranges(self):
+        """What EL2 maps apart from its linear map, as hyp_create_idmap lays it out: its own pages, first and last."""
+        bits = self.number(self.physical("pkvm_pgtable") + self.names["kvm_pgtable.ia_bits"], 4)
+        first, last = (self.physical(f"__hyp_idmap_text_{it}") for it in ("start", "end"))
+        vmemmap = self.number(self.physical("__hyp_vmemmap")) % (1 << bits) // PAGE
+        size = 1 << (bits - 3 - 12)
+        yield "idmap", first // PAGE, (last - 1) // PAGE
+        yield "private", vmemmap - size, vmemmap - 1
+        yield "vmemmap", vmemmap, vmemmap + size - 1
+
+    def lines(self, core):
+        is_hvhe, is_fwb = (self.gdb.register("HCR_EL2") >> it & 1 for it in (34, 46))
+        lpa2 = "-lpa2" * (self.gdb.register("VTCR_EL2") >> 32 & 1)
+        stage_2 = self.release + "-fwb" * is_fwb + lpa2
+        words = ["--host", self.root_of(self.physical("host_mmu") + self.names["host_mmu.pgt"]), "--profile", f"host={stage_2}"]
+        words += ["--hyp", self.root_of(self.physical("pkvm_pgtable")), "--profile", f"hyp={self.release}{'-hvhe' * is_hvhe}{lpa2}"]
+        for guest, kind, root in sorted(self.guests()):
+            yield f"guest {guest} {kind} root {root}"
+            words += ["--guest", f"{guest}={root}", "--profile", f"{guest}={stage_2}"]
+        for name, first, last in self.ranges():
+            yield f"hyp {first:#x}-{last:#x} {name}"
+            words += ["--skip", f"hyp={first:#x}-{last:#x}"]
+            if name == "vmemmap" and self.el2_has_guests:
+                words += ["--vmemmap", f"{first:#x}"]
+        yield f"./run dump {shlex.quote(core)} {' '.join(words)}"
+
+    def write(self, folder, core):
+        """By QEMU's own monitor."""
+        with socket.socket(socket.AF_UNIX) as monitor:
+            monitor.settimeout(PATIENCE)
+            monitor.connect(f"{folder}/monitor")
+            with monitor.makefile("rw") as lines:
+                for command in (
+                    {"execute": "qmp_capabilities"},
+                    {"execute": "dump-guest-memory", "arguments": {"paging": False, "protocol": f"file:{os.path.abspath(core)}"}},
+                ):
+                    print(json.dumps(command), file=lines, flush=True)
+                    answer = {}
+                    while not answer.keys() & {"return", "error"}:
+                        answer = json.loads(lines.readline() or '{"error": {"desc": "QEMU is gone"}}')
+                    if "error" in answer:
+                        refuse(f"no core of the machine: {answer['error']['desc']}")
+        with open(f"{folder}/dump", "w", encoding="utf-8") as file:
+            file.writelines(f"{line}\n" for line in self.lines(core))
+
+
 def main():
-    kernel, initrd, folder, cpu, cpus, megabytes, most, *words = sys.argv[1:]
+    kernel, initrd, folder, cpu, cpus, megabytes, most, core, *words = sys.argv[1:]
     size, most = int(megabytes) << 20, int(most)
     with open(f"{kernel}/names", encoding="ascii") as file:
         names = {name: int(value, 0) for name, value in (line.split() for line in file)}
@@ -192,7 +295,7 @@ def main():
         ["qemu-system-aarch64", *machine, "-display", "none", "-nic", "none", "-no-reboot", "-S", "-kernel", f"{kernel}/Image"]
         + ["-object", f"memory-backend-file,id=memory,size={megabytes}M,mem-path={folder}/memory,share=on", "-initrd", initrd]
         + ["-append", "console=ttyAMA0 kvm-arm.mode=protected nokaslr rdinit=/init panic=-1 " + " ".join(words)]
-        + ["-serial", f"file:{folder}/console", "-monitor", "none"]
+        + ["-serial", f"file:{folder}/console", "-monitor", "none", "-qmp", f"unix:{folder}/monitor,server=on,wait=off"]
         + ["-chardev", f"socket,path={folder}/gdb,server=on,wait=off,id=gdb", "-gdb", "chardev:gdb"]
     ) as qemu:
         try:
@@ -201,7 +304,7 @@ def main():
                     break
                 time.sleep(0.1)
             record = Record(folder, memory)
-            made = run(Gdb(f"{folder}/gdb"), names, calls, memory, record, most)
+            made = run(Gdb(f"{folder}/gdb"), names, calls, memory, record, most, folder, core)
             record.close()
         finally:
             qemu.terminate()
@@ -210,7 +313,7 @@ def main():
     print(f"recorded {sum(made.values())} calls{each} and {len(record.index_of)} pages", file=sys.stderr)
 
 
-def run(gdb, names, calls, memory, record, most):
+def run(gdb, names, calls, memory, record, most, folder, core):
     # The host's kernel, before it starts EL2: it knows by now where all lies.
     gdb.stop_at(names["kernel.kvm_arm_init"])
     gdb.go_on([names["kernel.kvm_arm_init"]])
@@ -233,7 +336,8 @@ def run(gdb, names, calls, memory, record, most):
             record.line("name", name, hex(value))
 
     at = {(physical(name) - offset) % (1 << 64): name for name in calls}
-    for address in at:
+    off = names["kernel.kernel_power_off"]
+    for address in list(at) + [off] * bool(core):
         gdb.stop_at(address)
     first = min(physical(name) for name in VARIABLES) // PAGE
     last = (max(physical(name) for name in VARIABLES) + 8191) // PAGE
@@ -261,10 +365,12 @@ def run(gdb, names, calls, memory, record, most):
             value = (int.from_bytes(memory[place : place + 8], "little") + offset) % (1 << 64)
         return value
 
-    number, open_calls, made = 0, [], {}
+    number, open_calls, made, pc = 0, [], {}, 0
     try:
         while number < most or open_calls:
-            pc = gdb.go_on(set(at) | {it[1] for it in open_calls}, is_alone=bool(open_calls))
+            pc = gdb.go_on(set(at) | {off} | {it[1] for it in open_calls}, is_alone=bool(open_calls))
+            if pc == off:
+                break
             if open_calls and pc == open_calls[-1][1]:
                 own, back, name, arguments = open_calls.pop()
                 gdb.stop_no_more_at(back)
@@ -299,6 +405,16 @@ def run(gdb, names, calls, memory, record, most):
         pass
     except socket.timeout:
         print(f"examples/linux/live: the machine says nothing for {PATIENCE} seconds", file=sys.stderr)
+    if core:
+        try:
+            for address in list(at) + [it[1] for it in open_calls]:
+                gdb.stop_no_more_at(address)
+            # Another CPU may have stopped at the same time, at one of those.
+            while pc != off:
+                pc = gdb.go_on([off])
+            Core(gdb, memory, names, physical, offset).write(folder, core)
+        except (EOFError, OSError):
+            refuse("no core: the machine is off, or says nothing")
     return made
 
 
