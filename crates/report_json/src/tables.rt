@@ -175,6 +175,7 @@ pub const REPORTS: &[Form] = &[
         ["cpu", Number, ""]
     ),
     form!("disagree", "disagree ", ["what", OneOf(POOL), ""]),
+    form!("order", "order ", ["order", Text, ""]),
     form!(
         "end",
         "end steps ",

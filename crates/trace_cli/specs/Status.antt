@@ -17,7 +17,7 @@ use Rattle.trace_text.specs.Session.{at_start}
 use Rattle.trace_audit.specs.Audited.{Ends, RunsLine, nothing_audited}
 use Rattle.trace_race.specs.declared.buffered.Halted.{Halted}
 use Rattle.trace_race.specs.Courses.{course_of, nothing_asked}
-use Rattle.trace_race.specs.Raced.{HasOneHistory, IsRaceReport}
+use Rattle.trace_race.specs.Raced.{IsRaceReport}
 use Rattle.trace_outcomes.specs.Told.{ReportsOutcomes, AnswersReport}
 use Rattle.trace_outcomes.specs.declared.telling.Told.{Told as OutcomesTold}
 use Rattle.trace_cases.specs.Cases.{IsCaseChecked}
@@ -49,10 +49,10 @@ HasReplayReport bytes outcome =
     (λ all. (lines : List ReportLine) × IsReport agreed 1 at_start (lines_of all) lines outcome)
 
 -- and that of a race, and of an audit
-abbrev pub HasRaceReport : Option (List ℕ) → Outcome → Type 0
-HasRaceReport bytes outcome =
+abbrev pub HasRaceReport : Bool → Option (List ℕ) → Outcome → Type 0
+HasRaceReport ordered bytes outcome =
     IfSome bytes
-    (λ all. (lines : List ReportLine) × IsRaceReport HasOneHistory (lines_of all) lines outcome)
+    (λ all. (text : List ℕ) × IsRaceReport ordered (lines_of all) text outcome)
 
 abbrev pub HasAuditReport : Option (List ℕ) → Outcome → Type 0
 HasAuditReport bytes outcome =
@@ -122,7 +122,7 @@ HasDrawn false bytes outcome = IfSome bytes (λ all. EndsAsDrawn all outcome)
 -- recorded
 abbrev pub HasReport : Task → List ℕ → Option (List ℕ) → Outcome → Type 0
 HasReport (tasks.Replay heap looks output) path bytes outcome = HasReplayReport bytes outcome
-HasReport (tasks.Race output) path bytes outcome = HasRaceReport bytes outcome
+HasReport (tasks.Race ordered output) path bytes outcome = HasRaceReport ordered bytes outcome
 HasReport (tasks.Audit output) path bytes outcome = HasAuditReport bytes outcome
 HasReport (tasks.Outcomes limit output) path bytes outcome = HasOutcomes limit bytes outcome
 HasReport (tasks.Check looks output) path bytes outcome = HasChecked path bytes outcome
@@ -257,8 +257,8 @@ module _ {F I E : Type 0} (bytes : F → Option (List ℕ)) (opens : List ℕ �
   abbrev pub HasAskedStatus : Asking → ℕ → Type 0
   HasAskedStatus (Replaying file heap looks output) status =
       HasFileStatus bytes opens (tasks.Replay heap looks output) file status
-  HasAskedStatus (Racing file output) status =
-      HasFileStatus bytes opens (tasks.Race output) file status
+  HasAskedStatus (Racing file ordered output) status =
+      HasFileStatus bytes opens (tasks.Race ordered output) file status
   HasAskedStatus (Auditing file output) status =
       HasFileStatus bytes opens (tasks.Audit output) file status
   HasAskedStatus (Finding file limit None output) status =

@@ -77,7 +77,8 @@ fn done_by_words<
     P: Progress + Drop,
     O: Opens<F> + OpensImage<I> + ShowsWork<P>,
 >(rt: &R, files: &O, words: &[String]) -> u8
-    ensures { HasWordsStatus F.remaining (O.opens files.now) I.bytes I.may_fail (O.opens_image files.now)
+    ensures { HasWordsStatus F.remaining (O.opens files.now) I.bytes I.may_fail
+        (O.opens_image files.now)
         (map (λ w. w.bytes.items) words.now) result }
 {
     match command(rt.alloc(), words) {
@@ -94,7 +95,8 @@ fn done<
     P: Progress + Drop,
     O: Opens<F> + OpensImage<I> + ShowsWork<P>,
 >(rt: &R, files: &O, asked: Invocation<'_>) -> u8
-    ensures { HasAskedStatus F.remaining (O.opens files.now) I.bytes I.may_fail (O.opens_image files.now)
+    ensures { HasAskedStatus F.remaining (O.opens files.now) I.bytes I.may_fail
+        (O.opens_image files.now)
         (asking_of asked.entry) result }
 {
     match asked {
@@ -113,7 +115,11 @@ fn done<
                 output,
             },
         ),
-        Invocation::Race { file, output } => done_with(rt, files, file, Task::Race { output }),
+        Invocation::Race {
+            file,
+            ordered,
+            output,
+        } => done_with(rt, files, file, Task::Race { ordered, output }),
         Invocation::Audit { file, output } => done_with(rt, files, file, Task::Audit { output }),
         Invocation::Outcomes {
             file,

@@ -88,19 +88,20 @@ fn replayed_to<
     }
 }
 
-/// Races a trace.
+/// Races a trace. If `ordered`, the report has the order of its steps.
 pub fn raced<R: AllocGlobal + Print + Eprint + Threads + Wait + Sync, F: io::Read + Drop>(
     rt: &R,
     path: &str,
+    ordered: bool,
     output: Output,
     file: F,
 ) -> Result<Outcome, Halted>
-    ensures { IfOk result (HasRaceReport (F.remaining file)) }
+    ensures { IfOk result (HasRaceReport ordered (F.remaining file)) }
 {
     match output {
-        Output::Report => raced_to(rt, path, file, io::writer(rt)),
-        Output::Json => raced_to(rt, path, file, json_lines(rt)),
-        Output::Nothing => raced_to(rt, path, file, io::sink()),
+        Output::Report => raced_to(rt, path, ordered, file, io::writer(rt)),
+        Output::Json => raced_to(rt, path, ordered, file, json_lines(rt)),
+        Output::Nothing => raced_to(rt, path, ordered, file, io::sink()),
     }
 }
 
@@ -108,15 +109,15 @@ fn raced_to<
     R: AllocGlobal + Eprint + Threads + Wait + Sync,
     F: io::Read + Drop,
     W: io::Write + Drop,
->(rt: &R, path: &str, file: F, writer: W) -> Result<Outcome, Halted>
-    ensures { IfOk result (HasRaceReport (F.remaining file)) }
+>(rt: &R, path: &str, ordered: bool, file: F, writer: W) -> Result<Outcome, Halted>
+    ensures { IfOk result (HasRaceReport ordered (F.remaining file)) }
 {
     let Ok(writer) = KeptWriter::new(rt.alloc(), writer) else {
         return Err(no_memory());
     };
     let mut trace = Vec::new(rt.alloc());
     let file = KeptReader::new(file, &mut trace);
-    match race_buffered(rt, rt.alloc(), file, writer, &Open) {
+    match race_buffered(rt, rt.alloc(), file, writer, &Open, ordered) {
         Ok((outcome, writer)) => {
             let fault = fault_reported(writer.last_line());
             report_beside(rt, path, trace.as_slice(), fault, true)?;

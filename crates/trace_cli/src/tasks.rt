@@ -21,6 +21,8 @@ pub enum Task {
         output: Output,
     },
     Race {
+        /// Whether the report has the order in which the steps after `start` took effect.
+        ordered: bool,
         output: Output,
     },
     Audit {
@@ -51,8 +53,8 @@ impl Task {
     /// Whether the lines of the trace are carried out as they are read, which may take a while, and something is to be written.
     pub fn shows(self) -> bool {
         match self {
-            Task::Replay { output, .. } | Task::Race { output } | Task::Audit { output } => output
-                != Output::Nothing,
+            Task::Replay { output, .. } | Task::Race { output, .. } | Task::Audit { output } =>
+                output != Output::Nothing,
             _ => false,
         }
     }
@@ -146,7 +148,7 @@ fn answered<
             looks,
             output,
         } => replayed(rt, path, heap, looks, output, file),
-        Task::Race { output } => raced(rt, path, output, file),
+        Task::Race { ordered, output } => raced(rt, path, ordered, output, file),
         Task::Audit { output } => audited(rt, path, output, file),
         Task::Outcomes { limit, output } => outcomes_reported(
             rt, path, limit, output, file, progress,

@@ -123,7 +123,7 @@ module _ (name file : Text) (plain : strip_byte 45 file ≡ None) where
   unfolding clap_on_literals
   race_none = ap (λ k. or_else k []) (one_none (leaf race) refl file plain refl)
 
-  race_asked : asked_by (name ∷ codes "race" ∷ file ∷ []) ≡ Some (Racing file Report)
+  race_asked : asked_by (name ∷ codes "race" ∷ file ∷ []) ≡ Some (Racing file false Report)
   unfolding clap_on_literals
   race_asked =
       ap (λ (w : Walk). asked_in (codes "race", finished (leaf race).rules w.held))

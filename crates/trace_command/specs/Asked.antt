@@ -38,7 +38,8 @@ pub record DumpAsked : Type 0 where
 pub data Asking : Type 0 where
   -- the file, the heap's bytes, when the oracle looks, and how the report is written
   Replaying : Text → Option ℕ → Looks → Output → Asking
-  Racing : Text → Output → Asking
+  -- the file, whether the report has the order, and how it is written
+  Racing : Text → Bool → Output → Asking
   Auditing : Text → Output → Asking
   -- the file, the points of a step, the report that was observed, and how the own one is written
   Finding : Text → ℕ → Option Text → Output → Asking
@@ -70,7 +71,7 @@ dump_asked d = record {
 
 abbrev pub asking_of : Invocation → Asking
 asking_of (invocation.Replay file heap looks output) = Replaying file.now heap looks output
-asking_of (invocation.Race file output) = Racing file.now output
+asking_of (invocation.Race file ordered output) = Racing file.now ordered output
 asking_of (invocation.Audit file output) = Auditing file.now output
 asking_of (invocation.Outcomes file limit observed output) =
     Finding file.now limit (option_map (λ report. report.now) observed) output
@@ -157,7 +158,9 @@ replaying rows =
     (asked_heap (first_of (codes "heap") rows))) (first_of (codes "FILE") rows)
 
 abbrev pub racing : List Row → Option Asking
-racing rows = option_map (λ file. Racing file (output_in rows)) (first_of (codes "FILE") rows)
+racing rows =
+    option_map (λ file. Racing file (is_set (codes "order") rows) (output_in rows))
+    (first_of (codes "FILE") rows)
 
 abbrev pub auditing : List Row → Option Asking
 auditing rows = option_map (λ file. Auditing file (output_in rows)) (first_of (codes "FILE") rows)
@@ -347,7 +350,7 @@ pub record Takes (words : List Text) (r : Result Invocation UsageFault) : Type 0
   pub race : (name file : Text)
       → words ≡ name ∷ codes "race" ∷ file ∷ []
       → IsPlain file
-      → Gives (Racing file Report) r
+      → Gives (Racing file false Report) r
   pub outcomes : (name file : Text)
       → words ≡ name ∷ codes "outcomes" ∷ file ∷ []
       → IsPlain file

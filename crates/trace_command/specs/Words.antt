@@ -59,7 +59,7 @@ replay =
     (with_rule (with_rule (new_app (codes "replay")) file) (option (codes "heap"))) oracle)
 
 abbrev pub race : App
-race = reporting (with_rule (new_app (codes "race")) file)
+race = reporting (with_rule (with_rule (new_app (codes "race")) file) (flag (codes "order")))
 
 abbrev pub audit : App
 audit = reporting (with_rule (new_app (codes "audit")) file)

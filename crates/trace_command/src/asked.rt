@@ -335,6 +335,7 @@ fn race_asked<'a>(inner: &ArgMatches<'a>) -> Result<Invocation<'a>, Unread>
 {
     Ok(Invocation::Race {
         file: file(inner)?,
+        ordered: is_set(inner, "order"),
         output: output(inner),
     })
 }

@@ -207,6 +207,12 @@ fn race<'a>(global: Global) -> Result<Command<'a>, AllocError>
         "Run a trace, the steps after 'start' on one thread per CPU, and report each reply",
     );
     let form = with(form, file(global))?;
+    let order = flag(
+        global,
+        "order",
+        "also write the order in which the steps after 'start' took effect, by their lines",
+    );
+    let form = with(form, order)?;
     reporting(global, form)
 }
 

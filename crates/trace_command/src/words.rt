@@ -43,6 +43,8 @@ pub enum Invocation<'a> {
     /// Run the steps of a trace, those after `start` on one thread for each CPU.
     Race {
         file: &'a str,
+        /// Whether the report has the order in which the steps after `start` took effect.
+        ordered: bool,
         output: Output,
     },
     /// Run the steps of a trace, set the words that it pokes, and audit once.

@@ -14,11 +14,12 @@ use Rattle.trace_outcomes.specs.Races.{Texts}
 abbrev pub first_word : List ℕ → List ℕ
 first_word line = unwrap_or (slice_get (words_of line) 0) []
 
--- a line of no step: that of the boot, of a query or of the end
+-- a line of no step: that of the boot, of a query, of the order or of the end
 abbrev pub is_passed : List ℕ → Bool
 is_passed line =
     bytes_eq (first_word line) (codes "boot") || bytes_eq (first_word line) (codes "word")
-    || bytes_eq (first_word line) (codes "free") || bytes_eq (first_word line) (codes "end")
+    || bytes_eq (first_word line) (codes "free") || bytes_eq (first_word line) (codes "order")
+    || bytes_eq (first_word line) (codes "end")
 
 -- the text after the first space
 abbrev pub behind_space : List ℕ → List ℕ

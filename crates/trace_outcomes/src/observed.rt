@@ -33,7 +33,7 @@ enum ReportFault {
     Twice,
 }
 
-/// Whether a line is of no step: that of the boot, of a query or of the end.
+/// Whether a line is of no step: that of the boot, of a query, of the order or of the end.
 fn is_passed(line: &[u8]) -> bool
     ensures { result ≡ is_passed_line line.now }
 {
@@ -42,6 +42,7 @@ fn is_passed(line: &[u8]) -> bool
     is_name(first, b"boot")
         || is_name(first, b"word")
         || is_name(first, b"free")
+        || is_name(first, b"order")
         || is_name(first, b"end")
 }
 

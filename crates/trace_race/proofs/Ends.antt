@@ -18,6 +18,8 @@ use Rattle.reference_model.specs.model.Step.{Steps}
 use Rattle.reference_model.proofs.Ends.{parts_run}
 use Rattle.reference_model.proofs.Steps.{end_once}
 use Rattle.part_types.specs.declared.parts.CpuState.{CpuState}
+use Rattle.world.specs.declared.merge.Histories.{Histories}
+use Rattle.world.specs.Merges.{IsMerged}
 use Rattle.part_table.specs.declared.slot.Slot.{Slot}
 use Rattle.part_table.specs.Endings.{IsEndFor}
 use Rattle.part_table.specs.Parts.{part_of}
@@ -34,6 +36,7 @@ use Rattle.trace_race.proofs.Kept.{kept_cases}
 use Rattle.trace_race.proofs.Made.{at_place, map-append}
 use Rattle.trace_race.proofs.Past.{behind_all, front_by, front_none, no_guest_calls, none_by, split}
 use Rattle.trace_race.specs.declared.course.Asked.{Asked}
+use Rattle.trace_race.specs.Ordered.{IsOfLogs}
 use Rattle.trace_race.specs.Made.{AreDone, AreMade, CallsIn, FindsFull, IsCpus, MakeAll, Makes, OneHistory, answers_of, is_stored, stored_in}
 
 -- what is told of a call
@@ -101,7 +104,7 @@ module _ (l : Layout) (V W : List Call) (on : (p : Part) → calls_on p V ≡ ca
   full_as step v (inl e) = inl (ap (λ (cs : List Call). length cs) (by v.cpu) ∙ e)
   full_as step v (inr e) = inr (e.0, e.1, ap (λ (cs : List Call). length cs) (on (part_of e.0)) ∙ e.2)
 
-  makes_as : (v w : Known) (answers : List (Step × Reply))
+  pub makes_as : (v w : Known) (answers : List (Step × Reply))
       → MakeAll (CallsIn l W) v answers w
       → MakeAll (CallsIn l V) v answers w
   makes_as v w [] made = made
@@ -217,7 +220,7 @@ module _ {A : Type 0} (t : Opened) (start : ℕ) (steps : List Asked) (replies :
       }
 
   -- the one history
-  pub one_history : OneHistory (layout_of t.layout) start steps replies
+  unfoldable pub one_history : OneHistory (layout_of t.layout) start steps replies
   one_history = record {
     key = t.layout;
     key_is = refl;
@@ -233,4 +236,13 @@ module _ {A : Type 0} (t : Opened) (start : ℕ) (steps : List Asked) (replies :
         behind_all (λ (c : Call). IsStored c.reply) end.goes_on.first after
         (subst (All (λ c. IsStored c.reply)) end.goes_on.log_is end.end.left.stored);
     each = λ cpu less. each cpu less (at_place passes cpu (let n = made.done.count in omega (arith, n, less)));
+  }
+
+  -- the logs of a whole list of its calls are those of this history
+  pub of_logs : (logs : Histories) → IsMerged logs whole → IsOfLogs l start steps replies logs
+  unfolding one_history
+  of_logs logs m = record {
+    history = one_history;
+    begins = made.begun.stored_run;
+    merged = record { on = λ p. all_on p ∙ m.on p; by = λ cpu. all_by cpu ∙ m.by cpu };
   }

@@ -17,3 +17,9 @@ pub mod FullAfter
 pub mod OneCpu
 pub mod Begun
 pub mod Past
+pub mod Cutting
+pub mod Skipping
+pub mod Staying
+pub mod OwnSteps
+pub mod Reordered
+pub mod OfLogs

@@ -4,6 +4,8 @@ pub mod Failures
 pub mod Judged
 pub mod Laws
 pub mod Made
+pub mod Ordered
+pub mod Orders
 pub mod Raced
 pub mod Readings
 pub mod Told

@@ -22,25 +22,27 @@ pub struct Halted {
 
 /// Races a trace, and gives the writer back with the whole report written to it. The report goes through a buffer,
 /// which is written out even if the race stops early; if that works, the writer comes back with the text written so
-/// far.
+/// far. `ordered` is that of `race`.
 pub fn race_buffered<Rt: Threads + Wait + Sync, R: Read + Drop, W: Write + Drop, G: Gate + Sync>(
     rt: &Rt,
     global: Global,
     reader: R,
     writer: W,
     gate: &G,
+    ordered: bool,
 ) -> Result<(Outcome, W), (Halted, Option<W>)>
-    ensures report { IfOk result (λ r. IsRaced (R.remaining reader) (W.contents writer) (W.contents r.1) r.0) }
+    ensures report { IfOk result
+        (λ r. IsRaced ordered (R.remaining reader) (W.contents writer) (W.contents r.1) r.0) }
     ensures begun { IfErr result
         (λ s. IfSome s.1
-        (λ w. IsRaceBegun (R.remaining reader) (W.contents writer) (W.contents w))) }
+        (λ w. IsRaceBegun ordered (R.remaining reader) (W.contents writer) (W.contents w))) }
 {
     let Ok(writer) = BufWriter::new(global, writer) else {
         return Err((make_halted(EngineFault::NoMemory, None, false), None));
     };
     let mut source = Counting::new(reader);
     let mut sink = Counting::new(writer);
-    let answer = race(rt, global, &mut source, &mut sink, gate);
+    let answer = race(rt, global, &mut source, &mut sink, gate, ordered);
     let refused = is_start(&answer);
     match finish(engine_answer(answer), source, sink) {
         Ok(done) => Ok(done),

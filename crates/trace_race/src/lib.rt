@@ -10,6 +10,7 @@ mod fault;
 mod judged;
 pub mod laws;
 mod making;
+mod ordering;
 mod racing;
 mod reading;
 mod telling;

@@ -101,8 +101,8 @@ fn all_workers(
     Ok(workers)
 }
 
-/// A cursor at the start of each of `n` lists of replies.
-fn starts(global: Global, n: usize) -> Result<Vec<usize>, AllocError>
+/// A zero for each of `n` CPUs: a cursor at the start of its list, or a count.
+pub(crate) fn starts(global: Global, n: usize) -> Result<Vec<usize>, AllocError>
     ensures count { IfOk result (λ v. length v.items ≡ n) }
     ensures start { IfOk result (λ v. (i : ℕ) → slice_index v.items i ≡ 0) }
 {

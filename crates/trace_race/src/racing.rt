@@ -7,17 +7,19 @@ ghost use Rattle.trace_race.specs.Booted.{machine_in};
 ghost use Rattle.trace_race.specs.Courses.{IsSound, course_in};
 ghost use Rattle.trace_race.specs.Failures.{RaceReads, RaceReports, RaceWrites};
 ghost use Rattle.trace_race.specs.Made.{IsMadeOf, OneHistory};
-ghost use Rattle.trace_race.specs.Raced.{IsRaceBegun, IsRaced, lines_behind};
+ghost use Rattle.trace_race.specs.Ordered.{AreAsked};
+ghost use Rattle.trace_race.specs.Orders.{idle_order as idle_order_of};
+ghost use Rattle.trace_race.specs.Raced.{IsRaceBegun, IsRaced, WritesTextFront, end_text};
 ghost use Rattle.trace_race.specs.Readings.{IsSoundRead, asked_in};
-ghost use Rattle.trace_race.specs.Told.{BeginsStop, EndsWith, IsBootedRun, RunBegins, RunEnds, StepsEnd, ReportsBegun, ReportsRace, ReportsStop};
+ghost use Rattle.trace_race.specs.Told.{BeginsStop, EndsWith, IsBootedRun, RunBegins, RunEnds, StepsBegin, StepsEnd, ReportsBegun, ReportsRace, ReportsStop};
 ghost use Rattle.trace_text.specs.Failures.{ReportsWrite};
-ghost use Rattle.trace_text.specs.Played.{WritesFront};
 
 use crate::booting::{Booted, boot_world};
 use crate::course::{Asked, Course};
 use crate::ending::{Compared, compared_at_end, dropped};
 use crate::fault::RaceFault;
 use crate::making::{Made, make};
+use crate::ordering::idle_order;
 use crate::reading::{Read, read_all};
 use crate::telling::{report_found, report_steps};
 use cpu_threads::Gate;
@@ -26,13 +28,14 @@ use std::alloc::Global;
 use std::sync::Wait;
 use std::thread::Threads;
 use trace_reader::{EngineFault, MOST_BYTES, Outcome, Source};
-use trace_text::{ReportLine, Sink, Stop, faulted, report_end, tell};
+use trace_text::{ReportLine, Sink, Stop, faulted, tell};
 
 /// Reads a whole trace, and carries it out: the steps before `start` in order, those after it on one thread for each
 /// CPU, and writes its report. A fault of any line is the whole report. The gate hears of the calls that are made at
 /// once. There is one legal history of the steps, with the replies in the report: first those before `start`, in the
-/// trace's order, and then those after it. No line disagrees. Err if the source or the sink failed, once, memory was
-/// refused, or a thread couldn't start.
+/// trace's order, and then those after it. No line disagrees. If `ordered`, a line before the last has the line numbers
+/// of the steps after `start` in the order of that history, as the logs have it. Err if the source or the sink failed,
+/// once, memory was refused, or a thread couldn't start.
 // It reads all before it boots: docs/DECISIONS.md, 13.
 pub fn race<R: Threads + Wait + Sync, S: Source, K: Sink, G: Gate + Sync>(
     rt: &R,
@@ -40,12 +43,14 @@ pub fn race<R: Threads + Wait + Sync, S: Source, K: Sink, G: Gate + Sync>(
     source: &mut S,
     sink: &mut K,
     gate: &G,
+    ordered: bool,
 ) -> Result<Outcome, RaceFault>
     ensures report { IfOk result
-        (λ outcome. IsRaced (S.remaining source.old) (K.contents sink.old)
+        (λ outcome. IsRaced ordered (S.remaining source.old) (K.contents sink.old)
         (K.contents sink.new) outcome) }
     ensures begun { OnErr result
-        (IsRaceBegun (S.remaining source.old) (K.contents sink.old) (K.contents sink.new)) }
+        (IsRaceBegun ordered (S.remaining source.old) (K.contents sink.old)
+        (K.contents sink.new)) }
     ensures reads { RaceReads (S.failures source.old) (S.failures source.new) result }
     ensures writes { RaceWrites (K.failures sink.old) (K.failures sink.new) result }
 {
@@ -53,7 +58,7 @@ pub fn race<R: Threads + Wait + Sync, S: Source, K: Sink, G: Gate + Sync>(
         return Err(RaceFault::Engine(EngineFault::NoMemory));
     };
     match read_all(global, source) {
-        Ok(read) => report(rt, global, read, sink, &mut text, gate),
+        Ok(read) => report(rt, global, read, sink, &mut text, gate, ordered),
         Err(fault) => Err(RaceFault::Engine(fault)),
     }
 }
@@ -66,16 +71,18 @@ fn report<R: Threads + Wait + Sync, K: Sink, G: Gate + Sync>(
     sink: &mut K,
     text: &mut String,
     gate: &G,
+    ordered: bool,
 ) -> Result<Outcome, RaceFault>
     requires sound { IsSoundRead read }
     ensures report { IfOk result
-        (λ outcome. ReportsRace (asked_in read) (K.contents sink.old)
+        (λ outcome. ReportsRace ordered (asked_in read) (K.contents sink.old)
         (K.contents sink.new) outcome) }
-    ensures begun { OnErr result (ReportsBegun (asked_in read) (K.contents sink.old) (K.contents sink.new)) }
+    ensures begun { OnErr result
+        (ReportsBegun ordered (asked_in read) (K.contents sink.old) (K.contents sink.new)) }
     ensures counted { RaceReports (K.failures sink.old) (K.failures sink.new) result }
 {
     match read {
-        Read::Whole(course) => carry_out(rt, global, &course, sink, text, gate),
+        Read::Whole(course) => carry_out(rt, global, &course, sink, text, gate, ordered),
         Read::Fault(line, fault) => engine(faulted(sink, text, line, fault)),
     }
 }
@@ -88,25 +95,26 @@ fn carry_out<R: Threads + Wait + Sync, K: Sink, G: Gate + Sync>(
     sink: &mut K,
     text: &mut String,
     gate: &G,
+    ordered: bool,
 ) -> Result<Outcome, RaceFault>
     requires sound { IsSound (course_in course.now) }
     ensures report { IfOk result
-        (λ outcome. ReportsRace (Ok (course_in course.now)) (K.contents sink.old)
+        (λ outcome. ReportsRace ordered (Ok (course_in course.now)) (K.contents sink.old)
         (K.contents sink.new) outcome) }
     ensures begun { OnErr result
-        (ReportsBegun (Ok (course_in course.now)) (K.contents sink.old) (K.contents sink.new)) }
+        (ReportsBegun ordered (Ok (course_in course.now)) (K.contents sink.old) (K.contents sink.new)) }
     ensures counted { RaceReports (K.failures sink.old) (K.failures sink.new) result }
 {
     let boot = match course.boot {
         Some(boot) => boot,
-        None => return report_idle(sink, text),
+        None => return report_idle(sink, text, ordered),
     };
     let carve = match course.settings.carve {
         Some(carve) => carve,
-        None => return report_idle(sink, text),
+        None => return report_idle(sink, text, ordered),
     };
     match boot_world(global, &course.settings, carve) {
-        Ok(booted) => run(rt, global, booted, course, gate, sink, text),
+        Ok(booted) => run(rt, global, booted, course, gate, sink, text, ordered),
         Err(stop) => report_stop(sink, text, boot, stop),
     }
 }
@@ -129,15 +137,20 @@ fn report_stop<K: Sink>(
 }
 
 /// Writes the report of a trace that boots nothing.
-fn report_idle<K: Sink>(sink: &mut K, text: &mut String) -> Result<Outcome, RaceFault>
+fn report_idle<K: Sink>(
+    sink: &mut K,
+    text: &mut String,
+    ordered: bool,
+) -> Result<Outcome, RaceFault>
     ensures ok { IfOk result
-        (EndsWith Outcome.Clean (ReportLine.End 0 0 ∷ []) (K.contents sink.old)
+        (EndsWith Outcome.Clean (end_text 0 (idle_order_of ordered)) (K.contents sink.old)
         (K.contents sink.new)) }
     ensures front { OnErr result
-        (WritesFront (ReportLine.End 0 0 ∷ []) (K.contents sink.old) (K.contents sink.new)) }
+        (WritesTextFront (end_text 0 (idle_order_of ordered)) (K.contents sink.old)
+        (K.contents sink.new)) }
     ensures counted { RaceReports (K.failures sink.old) (K.failures sink.new) result }
 {
-    engine(report_end(sink, text, 0, 0))
+    engine(report_found(sink, text, &[], None, idle_order(ordered), 0))
 }
 
 /// Makes the steps on a booted machine, and writes the report.
@@ -149,14 +162,15 @@ fn run<R: Threads + Wait + Sync, K: Sink, G: Gate + Sync>(
     gate: &G,
     sink: &mut K,
     text: &mut String,
+    ordered: bool,
 ) -> Result<Outcome, RaceFault>
     requires sound { IsSound (course_in course.now) }
     requires booted { IsBootedRun (course_in course.now) booted }
     ensures report { IfOk result
-        (λ outcome. RunEnds (machine_in booted.state) (course_in course.now)
+        (λ outcome. RunEnds ordered (machine_in booted.state) (course_in course.now)
         (K.contents sink.old) (K.contents sink.new) outcome) }
     ensures begun { OnErr result
-        (RunBegins (machine_in booted.state) (course_in course.now) (K.contents sink.old)
+        (RunBegins ordered (machine_in booted.state) (course_in course.now) (K.contents sink.old)
         (K.contents sink.new)) }
     ensures counted { RaceReports (K.failures sink.old) (K.failures sink.new) result }
 {
@@ -180,7 +194,7 @@ fn run<R: Threads + Wait + Sync, K: Sink, G: Gate + Sync>(
             return Err(RaceFault::Engine(EngineFault::NoMemory));
         }
     };
-    engine(report_made(global, made, state, steps, start, sink, text))
+    engine(report_made(global, made, state, steps, start, sink, text, ordered))
 }
 
 /// Writes the lines of the steps that were made, compares, and writes the rest of the report. `state` is the model's at boot.
@@ -192,16 +206,18 @@ fn report_made<K: Sink>(
     start: usize,
     sink: &mut K,
     text: &mut String,
+    ordered: bool,
 ) -> Result<Outcome, EngineFault>
     requires made { IsMadeOf start steps.now made }
     requires layout { layout_of made.machine.table.layout ≡ layout_of state.layout }
     requires boot { ghost_state state ≡ boot (layout_of state.layout) }
+    requires asked { AreAsked state.layout.config.cpus start steps.now }
     ensures report { IfOk result
-        (StepsEnd (layout_of state.layout) start steps.now made.replies.items
+        (StepsEnd ordered (layout_of state.layout) start steps.now made.replies.items
         (K.contents sink.old) (K.contents sink.new)) }
     ensures begun { OnErr result
-        (WritesFront (lines_behind steps.now made.replies.items) (K.contents sink.old)
-        (K.contents sink.new)) }
+        (StepsBegin ordered (layout_of state.layout) start steps.now made.replies.items
+        (K.contents sink.old) (K.contents sink.new)) }
     ensures history { OneHistory (layout_of state.layout) start steps.now made.replies.items }
     ensures counted { ReportsWrite (K.failures sink.old) (K.failures sink.new) result }
 {
@@ -223,11 +239,23 @@ fn report_made<K: Sink>(
         start,
         replies.as_slice(),
         state,
+        ordered,
     ) else {
         return Err(EngineFault::NoMemory);
     };
-    let Compared { judged, audited } = found;
-    report_found(sink, text, judged.as_slice(), audited, steps.len() as u64)
+    let Compared {
+        judged,
+        audited,
+        order,
+    } = found;
+    report_found(
+        sink,
+        text,
+        judged.as_slice(),
+        audited,
+        order.as_slice(),
+        steps.len() as u64,
+    )
 }
 
 /// An answer of a replay's kind.

@@ -1,7 +1,7 @@
 //! The lines of a race's report.
 ghost use Rattle.std.specs.Prelude.{◌≡◌, ◌<◌, ◌^◌, ◌+◌, ◌++◌, ◌∷◌, [], IfOk, OnOk, OnErr, length, map};
 ghost use Rattle.std.specs.Io.KnownBytes.{Appends};
-ghost use Rattle.trace_race.specs.Raced.{found_lines, found_outcome, step_lines as step_lines_of};
+ghost use Rattle.trace_race.specs.Raced.{WritesTextFront, found_outcome, found_text, step_lines as step_lines_of};
 ghost use Rattle.trace_race.specs.Told.{EndsWith};
 ghost use Rattle.trace_text.specs.Failures.{ReportsWrite};
 ghost use Rattle.trace_text.specs.Played.{WritesFront};
@@ -12,7 +12,7 @@ use call_table::Reply;
 use ghost_judge::disagreement::Disagreement;
 use std::alloc::{AllocError, Global};
 use trace_lines::Response;
-use trace_reader::{EngineFault, Outcome};
+use trace_reader::{EngineFault, Failed, Outcome};
 use trace_text::{ReportLine, Sink, report_audited, report_end, tell};
 
 /// Tells the lines of all steps, one after another.
@@ -72,24 +72,41 @@ fn report_judged<K: Sink>(
     Ok(())
 }
 
-/// Reports what a judgement and an audit found, and ends the report of a trace that has `steps` step lines.
+/// Writes the text of the order, or nothing if it is empty.
+fn report_order<K: Sink>(sink: &mut K, order: &[u8]) -> Result<(), EngineFault>
+    ensures ok { OnOk result (Appends (K.contents sink.old) (K.contents sink.new) order.now) }
+    ensures front { OnErr result
+        (WritesTextFront order.now (K.contents sink.old) (K.contents sink.new)) }
+    ensures counted { ReportsWrite (K.failures sink.old) (K.failures sink.new) result }
+{
+    match sink.write(order) {
+        Ok(()) => Ok(()),
+        Err(Failed) => Err(EngineFault::Write),
+    }
+}
+
+/// Reports what a judgement and an audit found, and the order, and ends the report of a trace that has `steps` step
+/// lines.
 pub(crate) fn report_found<K: Sink>(
     sink: &mut K,
     text: &mut String,
     judged: &[Disagreement],
     audited: Option<Disagreement>,
+    order: &[u8],
     steps: u64,
 ) -> Result<Outcome, EngineFault>
     ensures ok { IfOk result
-        (EndsWith (found_outcome judged.now audited) (found_lines judged.now audited steps)
-        (K.contents sink.old) (K.contents sink.new)) }
-    ensures front { OnErr result
-        (WritesFront (found_lines judged.now audited steps) (K.contents sink.old)
+        (EndsWith (found_outcome judged.now audited)
+        (found_text judged.now audited order.now steps) (K.contents sink.old)
         (K.contents sink.new)) }
+    ensures front { OnErr result
+        (WritesTextFront (found_text judged.now audited order.now steps)
+        (K.contents sink.old) (K.contents sink.new)) }
     ensures counted { ReportsWrite (K.failures sink.old) (K.failures sink.new) result }
 {
     report_judged(sink, text, judged)?;
     report_audited(sink, text, audited)?;
+    report_order(sink, order)?;
     let disagreements = judged.len() as u64 + u64::from(audited.is_some());
     report_end(sink, text, steps, disagreements)
 }

@@ -114,7 +114,7 @@ fn ran<R: AllocGlobal + Threads + Wait + Sync>(
     match program {
         Program::Replay => Some(replay(global, global, &mut source, &mut sink)),
         Program::Audit => Some(audit(global, global, &mut source, &mut sink)),
-        Program::Race => match race(rt, global, &mut source, &mut sink, &Open) {
+        Program::Race => match race(rt, global, &mut source, &mut sink, &Open, false) {
             Ok(outcome) => Some(Ok(outcome)),
             Err(RaceFault::Engine(fault)) => Some(Err(fault)),
             Err(RaceFault::Start) => None,

@@ -24,7 +24,7 @@ end steps 10 disagreements 0\n";
 fn race_gate(rt: HostRuntime) {
     let gate = Held::new();
     let writer = Vec::new(rt.alloc());
-    let ended = race_buffered(&rt, rt.alloc(), Cursor::new(TWO_VMS), writer, &gate);
+    let ended = race_buffered(&rt, rt.alloc(), Cursor::new(TWO_VMS), writer, &gate, false);
     assert!(rt;
         matches!(&ended, Ok((Outcome::Clean, written)) if written.as_slice() == TWO_VMS_TOLD)
     );
@@ -34,9 +34,35 @@ fn race_gate(rt: HostRuntime) {
 #[test]
 fn races_without_a_gate(rt: HostRuntime) {
     let writer = Vec::new(rt.alloc());
-    let ended = race_buffered(&rt, rt.alloc(), Cursor::new(TWO_VMS), writer, &Open);
+    let ended = race_buffered(&rt, rt.alloc(), Cursor::new(TWO_VMS), writer, &Open, false);
     assert!(rt;
         matches!(&ended, Ok((Outcome::Clean, written)) if written.as_slice() == TWO_VMS_TOLD)
+    );
+}
+
+/// That report with either order of the steps after `start`.
+const FIRST_TOLD: &[u8] = b"boot host 3 hyp 3 free 58
+7 0 ok vm 0.1\n8 0 ok\n9 0 ok\n10 0 ok vm 0.1
+11 1 ok vm 1.1\n12 1 ok\n13 1 ok\n14 1 ok vm 1.1
+16 0 ok entry unmapped\n17 1 ok entry unmapped
+order 16 17\nend steps 10 disagreements 0\n";
+
+const SECOND_TOLD: &[u8] = b"boot host 3 hyp 3 free 58
+7 0 ok vm 0.1\n8 0 ok\n9 0 ok\n10 0 ok vm 0.1
+11 1 ok vm 1.1\n12 1 ok\n13 1 ok\n14 1 ok vm 1.1
+16 0 ok entry unmapped\n17 1 ok entry unmapped
+order 17 16\nend steps 10 disagreements 0\n";
+
+#[test]
+fn says_the_order(rt: HostRuntime) {
+    let writer = Vec::new(rt.alloc());
+    let ended = race_buffered(&rt, rt.alloc(), Cursor::new(TWO_VMS), writer, &Open, true);
+    assert!(rt;
+        matches!(
+            &ended,
+            Ok((Outcome::Clean, written))
+                if written.as_slice() == FIRST_TOLD || written.as_slice() == SECOND_TOLD
+        )
     );
 }
 

@@ -1,6 +1,9 @@
-use Rattle.std.proofs.Common.{◌<◌, ℕ, All, ap, arith, length, subst, sym}
+use Rattle.std.proofs.Common.{◌<◌, ℕ, All, List, ap, arith, length, subst, sym}
 use Rattle.call_table.specs.declared.reply.Reply.{Reply}
 use Rattle.call_table.specs.declared.step.Step.{Step}
+use Rattle.page_state.specs.LayoutView.{layout_of}
+use Rattle.ghost_spec.specs.States.{ghost_state}
+use Rattle.trace_race.specs.Judged.{JudgesAll}
 use Rattle.trace_race.proofs.Judging.{told_below}
 use Rattle.trace_race.proofs.ending.compare_replies.Goals as goal
 
@@ -14,3 +17,9 @@ judge_all-requires c = record {
   few = let same = ap length c.as_slice.ensures.value in
       omega (arith, same, c.in-Ok.calls.ok.0, c.in-Ok.calls.ok.1, c.in-Ok.calls.small);
 }
+
+pub returns-clause-judged : goal.returns-clause-judged
+returns-clause-judged c =
+    subst
+    (λ (calls : List (ℕ × Step × Reply)). JudgesAll (layout_of c.args.state.layout) (ghost_state c.args.state) calls
+    c.in_ok-judged.judged.items) c.as_slice.ensures.value c.in_ok-judged.ensures.judged

@@ -2,14 +2,12 @@ use Rattle.std.proofs.Common.{◌≡◌, ◌∙◌, ℕ, IfOk, List, OnErr, ap, 
 use Rattle.page_state.specs.declared.layout.Config.{Config}
 use Rattle.page_state.specs.Layouts.{Layout}
 use Rattle.trace_lines.specs.Settings.{config_of}
-use Rattle.trace_text.specs.Played.{WritesFront}
 use Rattle.trace_text.proofs.ReplayLemmas.{mapped, when_err}
 use Rattle.trace_race.specs.Booted.{machine_in}
 use Rattle.trace_race.specs.declared.course.Asked.{Asked}
 use Rattle.trace_race.specs.Courses.{Asking, course_in}
 use Rattle.trace_race.specs.Made.{OneHistory}
-use Rattle.trace_race.specs.Raced.{lines_behind}
-use Rattle.trace_race.specs.Told.{StepsEnd}
+use Rattle.trace_race.specs.Told.{StepsBegin, StepsEnd}
 use Rattle.trace_race.proofs.Reports.{engine_err, engine_ok, run_begins, run_ends, run_fails, run_halts}
 use Rattle.trace_race.proofs.racing.run.Goals as goal
 
@@ -31,17 +29,17 @@ report_made-requires-clause-layout g c = let made = rw c.in-Ok-Some.field-0-is a
 
 pub returns-in-Err-clause-begun : goal.returns-in-Err-clause-begun
 returns-in-Err-clause-begun g c =
-    run_fails (machine_in c.args.booted.state)
+    run_fails c.args.ordered (machine_in c.args.booted.state)
     (course_in c.args.course.now) c.args.booted.line _ _ c.requires.booted.1.line c.in-Err.ensures.front
 
 pub returns-in-Ok-None-clause-begun : goal.returns-in-Ok-None-clause-begun
 returns-in-Ok-None-clause-begun g c =
-    run_halts (machine_in c.args.booted.state)
+    run_halts c.args.ordered (machine_in c.args.booted.state)
     (course_in c.args.course.now) c.args.booted.line _ _ c.requires.booted.1.line c.in_default.ensures.ok
 
 pub returns-in-Err-make-clause-begun : goal.returns-in-Err-make-clause-begun
 returns-in-Err-make-clause-begun g c =
-    run_halts (machine_in c.args.booted.state)
+    run_halts c.args.ordered (machine_in c.args.booted.state)
     (course_in c.args.course.now) c.args.booted.line _ _ c.requires.booted.1.line c.in_default.ensures.ok
 
 pub returns-clause-report : goal.returns-clause-report
@@ -54,12 +52,12 @@ returns-clause-report g c =
     let report =
     subst
     (λ (z : ℕ × List Asked). IfOk c.report_made.result
-    (StepsEnd m.layout z.0 z.1 c.in-Ok-Some.made.replies.items (g.K.Sink.contents c.tell.new.sink)
+    (StepsEnd c.args.ordered m.layout z.0 z.1 c.in-Ok-Some.made.replies.items (g.K.Sink.contents c.tell.new.sink)
     (g.K.Sink.contents c.report_made.new.sink)))
     (λ i. (c.in_order-start.ensures i, steps i)) c.report_made.ensures.report in
     engine_ok _ _ _ c.engine.ensures
     (mapped c.report_made.result _ _
-    (λ outcome ends. run_ends m a c.in-Ok-Some.made.replies.items c.args.booted.line _
+    (λ outcome ends. run_ends c.args.ordered m a c.in-Ok-Some.made.replies.items c.args.booted.line _
     (g.K.Sink.contents c.tell.new.sink) _ outcome c.requires.booted.1.line count c.in_default.ensures.ok
     ends) report)
 
@@ -75,11 +73,12 @@ returns-clause-begun g c =
     (λ i. (c.in_order-start.ensures i, steps i)) c.report_made.ensures.history in
     let front =
     subst
-    (λ (ss : List Asked). OnErr c.report_made.result
-    (WritesFront (lines_behind ss c.in-Ok-Some.made.replies.items) (g.K.Sink.contents c.tell.new.sink)
-    (g.K.Sink.contents c.report_made.new.sink))) steps c.report_made.ensures.begun in
+    (λ (z : ℕ × List Asked). OnErr c.report_made.result
+    (StepsBegin c.args.ordered m.layout z.0 z.1 c.in-Ok-Some.made.replies.items (g.K.Sink.contents c.tell.new.sink)
+    (g.K.Sink.contents c.report_made.new.sink)))
+    (λ i. (c.in_order-start.ensures i, steps i)) c.report_made.ensures.begun in
     engine_err _ _ _ c.engine.ensures
     (when_err c.report_made.result _ _
-    (λ begins. run_begins m a c.in-Ok-Some.made.replies.items c.args.booted.line _
+    (λ begins. run_begins c.args.ordered m a c.in-Ok-Some.made.replies.items c.args.booted.line _
     (g.K.Sink.contents c.tell.new.sink) _ c.requires.booted.1.line count one c.in_default.ensures.ok
     begins) front)
