@@ -11,8 +11,9 @@ use Rattle.memory_image.specs.declared.segment.Segment.{Segment}
 use Rattle.image_trees.specs.declared.root.Root.{Root}
 use Rattle.image_findings.specs.declared.finding.Finding.{Finding}
 use Rattle.image_dump.specs.Collecting.{claims_of, findings_by, lines_of, tables_of, words_of, Found}
-use Rattle.image_dump.specs.Dumped.{fault_count, faults_in, findings_of, outcome_of, report_of, gives_states, text_of_lines, AreCollected, AreFoundIn, IsAdded, IsDumped, IsFoundIn}
+use Rattle.image_dump.specs.Dumped.{fault_count, faults_in, findings_of, outcome_of, report_of, gives_states, text_by, text_of_lines, AreCollected, AreFoundIn, IsAdded, IsDumped, IsFoundIn}
 use Rattle.image_dump.specs.declared.dump.Dumped.{Dumped}
+use Rattle.image_dump.specs.declared.dump.Shape.{Shape}
 use Rattle.image_dump.specs.declared.line.DumpLine.TheVariants as line
 use Rattle.image_dump.specs.Texts.{text_of_line}
 use Rattle.image_dump.specs.declared.collect.Collected.{Collected}
@@ -163,8 +164,9 @@ from_none start xs now e n = n ∙ ap (λ z. z ++ xs) e
 
 -- what the last lines say
 pub all_dumped : (known : Option (List ℕ)) (may_fail : ℕ → ℕ → Type 0) (segments : List Segment) (roots : List Root)
-    (vmemmap : Option ℕ) (records : Option Records) (skips : List Skip) (before after : Option (List ℕ))
-    (start all : Collected) (unwalked : ℕ) (states : Bool) (words : List Finding) (first lines : List DumpLine)
+    (vmemmap : Option ℕ) (records : Option Records) (skips : List Skip) (shape : Shape)
+    (before after : Option (List ℕ)) (start all : Collected) (unwalked : ℕ) (states : Bool) (words : List Finding)
+    (first lines : List DumpLine)
     (trees findings : ℕ) (outcome : Dumped)
     → AreRecords known may_fail segments (hyp_root roots) vmemmap records
     → AreCollected known may_fail segments records roots skips start all unwalked
@@ -175,10 +177,11 @@ pub all_dumped : (known : Option (List ℕ)) (may_fail : ℕ → ℕ → Type 0)
     → findings ≡ unwalked + length words
     → trees ≡ length roots
     → lines ≡ first ++ line.End trees findings ∷ []
-    → Appends before after (text_of_lines lines)
+    → Appends before after (text_by shape lines)
     → outcome ≡ outcome_of findings
-    → IsDumped known may_fail segments roots vmemmap skips before after outcome
-all_dumped known may_fail segments roots vmemmap records skips before after start all unwalked states words first lines
+    → IsDumped known may_fail segments roots vmemmap skips shape before after outcome
+all_dumped known may_fail segments roots vmemmap records skips shape before after start all unwalked states words first
+    lines
     trees findings outcome are h no_lines no_words no_claims no_tables s w f n t l written o =
     let fs = h.trees in
     let ws = from_none start.words.items (flat_map (words_of skips) fs) all.words.items no_words h.words_are in
@@ -219,6 +222,6 @@ all_dumped known may_fail segments roots vmemmap records skips before after star
       records_are = are;
       trees = fs;
       each = h.each;
-      written = subst (λ z. Appends before after (text_of_lines z)) told written;
+      written = subst (λ z. Appends before after (text_by shape z)) told written;
       outcome_is = o ∙ ap outcome_of count;
     }

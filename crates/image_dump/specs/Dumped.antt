@@ -15,12 +15,15 @@ use Rattle.image_trees.specs.declared.root.Root.{Root}
 use Rattle.image_trees.specs.declared.root.Unwalked.{Unwalked}
 use Rattle.image_findings.specs.declared.finding.Finding.{Finding}
 use Rattle.image_dump.specs.Collecting.{claims_of, findings_by, lines_of, tables_of, words_of, Found, Grows}
+use Rattle.image_dump.specs.Pictures.{picture_of}
 use Rattle.image_dump.specs.Texts.{text_of_line}
 use Rattle.image_dump.specs.declared.collect.Collected.{Collected}
 use Rattle.image_dump.specs.declared.dump.Dumped.{Dumped}
 use Rattle.image_dump.specs.declared.dump.Dumped.TheVariants.{Sound, Unsound}
 use Rattle.image_dump.specs.declared.dump.NotDumped.{NotDumped}
 use Rattle.image_dump.specs.declared.dump.NotDumped.TheVariants.{Refused, Unwritten}
+use Rattle.image_dump.specs.declared.dump.Shape.{Shape}
+use Rattle.image_dump.specs.declared.dump.Shape.TheVariants.{Lines, Picture}
 use Rattle.image_dump.specs.declared.line.DumpLine.{DumpLine}
 use Rattle.image_dump.specs.declared.line.DumpLine.TheVariants as line
 use Rattle.image_dump.specs.declared.skip.Skip.{Skip}
@@ -39,6 +42,11 @@ gives_states has_records root = (reported_root has_records root).profile.has_sta
 unfoldable pub text_of_lines : List DumpLine → List ℕ
 text_of_lines [] = []
 text_of_lines (l ∷ ls) = (text_of_line l ++ 10 ∷ []) ++ text_of_lines ls
+
+-- and in a shape
+abbrev pub text_by : Shape → List DumpLine → List ℕ
+text_by Lines ls = text_of_lines ls
+text_by Picture ls = picture_of ls
 
 -- the walk found the tree in the image, with the states that records say, or it isn't walked for
 -- that reason
@@ -126,13 +134,14 @@ outcome_of faults = if faults == 0 then Sound else Unsound
 
 -- the report of the trees in the image was written
 pub record IsDumped (known : Option (List ℕ)) (may_fail : ℕ → ℕ → Type 0) (segments : List Segment)
-    (roots : List Root) (vmemmap : Option ℕ) (skips : List Skip) (before after : Option (List ℕ))
-    (outcome : Dumped) : Type 0 where
+    (roots : List Root) (vmemmap : Option ℕ) (skips : List Skip) (shape : Shape)
+    (before after : Option (List ℕ)) (outcome : Dumped) : Type 0 where
   pub records : Option Records
   pub records_are : AreRecords known may_fail segments (hyp_root roots) vmemmap records
   pub trees : List Found
   pub each : AreFoundIn known may_fail segments records roots trees
-  pub written : Appends before after (text_of_lines (report_of (is_some records) skips roots trees))
+  pub written : Appends before after
+      (text_by shape (report_of (is_some records) skips roots trees))
   pub outcome_is : outcome
       ≡ outcome_of (faults_in trees + length (findings_of (is_some records) skips roots trees))
 

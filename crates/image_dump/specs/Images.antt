@@ -11,6 +11,7 @@ use Rattle.image_dump.specs.declared.dump.Dumped.{Dumped}
 use Rattle.image_dump.specs.declared.dump.Dumped.TheVariants.{Sound, Unsound}
 use Rattle.image_dump.specs.declared.dump.NotDumped.{NotDumped}
 use Rattle.image_dump.specs.declared.dump.NotDumped.TheVariants.{Refused, Unwritten}
+use Rattle.image_dump.specs.declared.dump.Shape.{Shape}
 use Rattle.image_dump.specs.declared.image.Form.{Form}
 use Rattle.image_dump.specs.declared.image.Form.TheVariants.{Core, Raw}
 use Rattle.image_dump.specs.declared.skip.Skip.{Skip}
@@ -22,11 +23,11 @@ segments_by (Raw base) bytes = raw_of base bytes
 
 -- the report of the trees in the file's segments was written
 pub record IsImageDumped (known : Option (List ℕ)) (may_fail : ℕ → ℕ → Type 0) (form : Form)
-    (roots : List Root) (vmemmap : Option ℕ) (skips : List Skip) (before after : Option (List ℕ))
-    (outcome : Dumped) : Type 0 where
+    (roots : List Root) (vmemmap : Option ℕ) (skips : List Skip) (shape : Shape)
+    (before after : Option (List ℕ)) (outcome : Dumped) : Type 0 where
   pub segments : List Segment
   pub segments_are : ForSome known (λ all. segments_by form all ≡ Ok segments)
-  pub dumped : IsDumped known may_fail segments roots vmemmap skips before after outcome
+  pub dumped : IsDumped known may_fail segments roots vmemmap skips shape before after outcome
 
 -- the file has this fault, or a read of it may fail; else the report was not written, or memory was
 -- refused

@@ -2,5 +2,8 @@ pub mod Texts
 pub mod Skips
 pub mod Collecting
 pub mod Stating
+pub mod Looks
+pub mod Pictures
+pub mod ShownLines
 pub mod Dumped
 pub mod Images

@@ -6,16 +6,27 @@ ghost use Rattle.memory_image.specs.CoreFile.{IsPlaced};
 ghost use Rattle.std.specs.Option.{ForSome};
 ghost use Rattle.std.specs.Option.{is_some};
 ghost use Rattle.image_trees.specs.Records.{CanRead};
-ghost use Rattle.image_dump.specs.Dumped.{outcome_of, gives_states, text_of_lines, AreCollected, IsAdded, IsDumped, IsFault, IsRoot};
+ghost use Rattle.image_dump.specs.Dumped.{outcome_of, gives_states, text_by, text_of_lines, AreCollected, IsAdded, IsDumped, IsFault, IsRoot};
+ghost use Rattle.image_dump.specs.Pictures.{picture_of};
 
 use crate::collect::{Collected, add_findings, add_line, add_tree, add_unsound};
 use crate::line::DumpLine;
+use crate::picture::picture;
 use crate::records::{records_of, reported_root, reported_runs};
 use crate::skip::Skip;
 use image_trees::{Records, Root, Tree, Unwalked, walk_tree};
 use memory_image::{ImageBytes, Refused, Segment};
 use std::alloc::{AllocError, Global};
 use std::io::Write;
+
+/// How a report is written.
+#[derive(Clone, Copy, PartialEq, Eq, Debug)]
+pub enum Shape {
+    /// As lines.
+    Lines,
+    /// As a picture (SVG).
+    Picture,
+}
 
 /// How a dump ends.
 #[derive(Clone, Copy, PartialEq, Eq, Debug)]
@@ -143,6 +154,38 @@ fn write_lines<W: Write>(
     Ok(())
 }
 
+/// Writes the picture of lines.
+fn write_picture<W: Write>(
+    alloc: Global,
+    lines: &[DumpLine],
+    writer: &mut W,
+) -> Result<(), WriteFault>
+    ensures { OnOk result
+        (Appends (W.contents writer.old) (W.contents writer.new) (picture_of lines.now)) }
+{
+    let svg = picture(alloc, lines)?;
+    match writer.write_all(svg.as_bytes()) {
+        Ok(()) => Ok(()),
+        Err(_) => Err(WriteFault::Unwritten),
+    }
+}
+
+/// Writes lines in a shape.
+fn write_shaped<W: Write>(
+    alloc: Global,
+    shape: Shape,
+    lines: &[DumpLine],
+    writer: &mut W,
+) -> Result<(), WriteFault>
+    ensures { OnOk result
+        (Appends (W.contents writer.old) (W.contents writer.new) (text_by shape lines.now)) }
+{
+    match shape {
+        Shape::Lines => write_lines(alloc, lines, writer),
+        Shape::Picture => write_picture(alloc, lines, writer),
+    }
+}
+
 /// Finds what the roots have.
 fn collect<I: ImageBytes>(
     alloc: Global,
@@ -181,9 +224,9 @@ fn outcome(findings: u64) -> Dumped
     }
 }
 
-/// Dumps the trees of an image: a line for each tree and each of its runs, then what isn't sound, and an end line. With
-/// `vmemmap`, the hypervisor's page from which on it maps a record for each frame, the states of its tree and the
-/// host's are those that the records say, if words say none.
+/// Dumps the trees of an image: a line for each tree and each of its runs, then what isn't sound, and an end line; or a
+/// picture of these lines. With `vmemmap`, the hypervisor's page from which on it maps a record for each frame, the
+/// states of its tree and the host's are those that the records say, if words say none.
 pub fn dump_trees<I: ImageBytes, W: Write>(
     alloc: Global,
     image: &I,
@@ -191,13 +234,15 @@ pub fn dump_trees<I: ImageBytes, W: Write>(
     roots: &[Root],
     vmemmap: Option<u64>,
     skips: &[Skip],
+    shape: Shape,
     writer: &mut W,
 ) -> Result<Dumped, NotDumped>
     requires placed { All IsPlaced segments.now }
     requires roots { All IsRoot roots.now }
     requires few { length roots.now < 2 ^ 32 }
     ensures dumped { IfOk result
-        (IsDumped (I.bytes image.now) (I.may_fail image.now) segments.now roots.now vmemmap skips.now (W.contents writer.old) (W.contents writer.new)) }
+        (IsDumped (I.bytes image.now) (I.may_fail image.now) segments.now roots.now vmemmap skips.now shape
+        (W.contents writer.old) (W.contents writer.new)) }
     ensures fault { IfErr result (IsFault (I.may_fail image.now)) }
 {
     let mut all = Collected {
@@ -220,7 +265,7 @@ pub fn dump_trees<I: ImageBytes, W: Write>(
     let findings = unwalked + words.len() as u64;
     let trees = roots.len() as u64;
     add_line(&mut lines, DumpLine::End { trees, findings })?;
-    match write_lines(alloc, lines.as_slice(), writer) {
+    match write_shaped(alloc, shape, lines.as_slice(), writer) {
         Ok(()) => Ok(outcome(findings)),
         Err(WriteFault::Unwritten) => Err(NotDumped::Unwritten),
         Err(WriteFault::NoMemory) => Err(NotDumped::Refused(Refused::NoMemory)),

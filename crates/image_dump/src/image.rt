@@ -5,7 +5,7 @@ ghost use Rattle.memory_image.specs.Opened.{IsAnswered};
 ghost use Rattle.image_dump.specs.Dumped.{IsRoot};
 ghost use Rattle.image_dump.specs.Images.{segments_by, status_of, IsImageDumped, IsImageRefused};
 
-use crate::dump::{Dumped, NotDumped, dump_trees};
+use crate::dump::{Dumped, NotDumped, Shape, dump_trees};
 use crate::skip::Skip;
 use image_trees::Root;
 use memory_image::{ImageBytes, Refused, Segment, core_segments, raw_segments};
@@ -40,12 +40,14 @@ pub fn dump_image<I: ImageBytes, W: Write>(
     roots: &[Root],
     vmemmap: Option<u64>,
     skips: &[Skip],
+    shape: Shape,
     writer: &mut W,
 ) -> Result<Dumped, NotDumped>
     requires roots { All IsRoot roots.now }
     requires few { length roots.now < 2 ^ 32 }
     ensures dumped { IfOk result
-        (IsImageDumped (I.bytes image.now) (I.may_fail image.now) form roots.now vmemmap skips.now (W.contents writer.old) (W.contents writer.new)) }
+        (IsImageDumped (I.bytes image.now) (I.may_fail image.now) form roots.now vmemmap skips.now shape
+        (W.contents writer.old) (W.contents writer.new)) }
     ensures refused { IfErr result (IsImageRefused (I.bytes image.now) (I.may_fail image.now) form) }
 {
     match open(alloc, image, form) {
@@ -56,6 +58,7 @@ pub fn dump_image<I: ImageBytes, W: Write>(
             roots,
             vmemmap,
             skips,
+            shape,
             writer,
         ),
         Err(refused) => Err(NotDumped::Refused(refused)),

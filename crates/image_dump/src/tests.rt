@@ -1,7 +1,7 @@
 //! A raw image with trees of the host, the hypervisor and a guest in the model's words.
 ghost use Rattle.std.specs.Prelude.{◌≡◌, ◌≤◌};
 
-use crate::{Dumped, Skip, dump_trees};
+use crate::{Dumped, Shape, Skip, dump_trees};
 use image_trees::Root;
 use memory_image::raw_segments;
 use std::alloc::{AllocError, Global};
@@ -54,6 +54,7 @@ fn report(
     alloc: Global,
     poked: u64,
     skips: &[Skip],
+    shape: Shape,
 ) -> Result<Option<(Dumped, Vec<u8>)>, AllocError> {
     let bytes = small_image(alloc, poked)?;
     let image = bytes.as_slice();
@@ -69,6 +70,7 @@ fn report(
         roots.as_slice(),
         None,
         skips,
+        shape,
         &mut text,
     ) {
         Ok(dumped) => Ok(Some((dumped, text))),
@@ -132,7 +134,7 @@ fn tells_what_is_found(rt: HostRuntime) -> Result<(), Fail> {
         ),
     ];
     for (poked, skips, sound, line, lent, end) in rows {
-        let (dumped, text) = report(alloc, poked, skips)?.expect(&rt, "a report");
+        let (dumped, text) = report(alloc, poked, skips, Shape::Lines)?.expect(&rt, "a report");
         let all = format!(in alloc; "{TREES}{line}{HYP}{lent}{GUEST}{end}")?;
         assert!(&rt; (dumped == Dumped::Sound) == sound, "an outcome");
         assert!(&rt; text.as_slice() == all.as_bytes(), "a report");

@@ -2,14 +2,14 @@
 ghost use Rattle.std.specs.Prelude.{◌≡◌, ◌<◌, ◌^◌, All, length};
 ghost use Rattle.image_dump.specs.Dumped.{IsRoot};
 ghost use Rattle.trace_command.specs.Asked.{dump_asked};
-ghost use Rattle.trace_cli.specs.Dumping.{HasDumpStatus, IsDumpAnswer, form_by};
+ghost use Rattle.trace_cli.specs.Dumping.{HasDumpStatus, IsDumpAnswer, form_by, shape_by};
 
 use crate::files::{OpensImage, ShowsWork};
 use crate::progress::WatchedImage;
 use crate::tasks::unopened;
 use crate::telling::REFUSED;
 use dump_words::{Given, NotGiven, read_words};
-use image_dump::{Dumped, Form, NotDumped, dump_image, dump_status};
+use image_dump::{Dumped, Form, NotDumped, Shape, dump_image, dump_status};
 use memory_image::{ImageBytes, Refused};
 use report_json::{DUMPS, JsonLines};
 use std::io::{self, Write};
@@ -24,6 +24,13 @@ fn form_of(base: Option<u64>) -> Form
         Some(base) => Form::Raw { base },
         None => Form::Core,
     }
+}
+
+/// The shape of a report, by `--draw`.
+fn shape_of(draw: bool) -> Shape
+    ensures { result ≡ shape_by draw }
+{
+    if draw { Shape::Picture } else { Shape::Lines }
 }
 
 /// Dumps the image at a path, and gives the exit status.
@@ -44,6 +51,7 @@ pub fn dumped<
         skips,
         base,
         vmemmap,
+        draw,
         output,
     } = dump;
     let given = match read_words(
@@ -66,6 +74,7 @@ pub fn dumped<
                 form_of(base),
                 &given,
                 vmemmap,
+                shape_of(draw),
                 output,
                 &progress,
             );
@@ -94,13 +103,14 @@ fn written<R: AllocGlobal + Print, I: ImageBytes, P: Progress>(
     form: Form,
     given: &Given,
     vmemmap: Option<u64>,
+    shape: Shape,
     output: Output,
     progress: &P,
 ) -> Result<Dumped, NotDumped>
     requires roots { All IsRoot given.now.roots.items }
     requires few { length given.now.roots.items < 2 ^ 32 }
     ensures { IsDumpAnswer (I.bytes image.now)
-        (I.may_fail image.now) form given.now.roots.items vmemmap given.now.skips.items result }
+        (I.may_fail image.now) form given.now.roots.items vmemmap given.now.skips.items shape result }
 {
     let roots = given.roots.as_slice();
     let skips = given.skips.as_slice();
@@ -113,6 +123,7 @@ fn written<R: AllocGlobal + Print, I: ImageBytes, P: Progress>(
         roots,
         vmemmap,
         skips,
+        shape,
         &mut report,
     );
     progress.finish();

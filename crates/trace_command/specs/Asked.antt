@@ -32,6 +32,8 @@ pub record DumpAsked : Type 0 where
   pub base : Option ℕ
   -- the hypervisor's page from which on it maps a record for each frame
   pub vmemmap : Option ℕ
+  -- whether as a picture
+  pub draw : Bool
   pub output : Output
 
 -- what may be asked for
@@ -66,6 +68,7 @@ dump_asked d = record {
   skips = map (λ word. word.now) d.skips.items;
   base = d.base;
   vmemmap = d.vmemmap;
+  draw = d.draw;
   output = d.output;
 }
 
@@ -244,11 +247,12 @@ dump_in rows image host hyp base vmemmap = record {
   skips = words_given (codes "skip") rows;
   base = base;
   vmemmap = vmemmap;
+  draw = is_set (codes "draw") rows;
   output = output_in rows;
 }
 
-abbrev pub dumping : List Row → Option Asking
-dumping rows =
+abbrev pub dump_given : List Row → Option Asking
+dump_given rows =
     option_and_then
     (λ image. option_and_then
     (λ host. option_and_then
@@ -257,6 +261,11 @@ dumping rows =
     (λ vmemmap. Dumping (dump_in rows image host hyp base vmemmap))
     (number_given (first_of (codes "vmemmap") rows))) (number_given (first_of (codes "base") rows)))
     (first_of (codes "hyp") rows)) (first_of (codes "host") rows)) (first_of (codes "IMAGE") rows)
+
+-- a picture is no JSON
+abbrev pub dumping : List Row → Option Asking
+dumping rows =
+    if is_set (codes "draw") rows && is_set (codes "json") rows then None else dump_given rows
 
 -- the task asked for by a subcommand's name and its values
 abbrev pub asked_in : Text × List Row → Option Asking
@@ -314,6 +323,7 @@ of_core image host hyp =
       skips = [];
       base = None;
       vmemmap = None;
+      draw = false;
       output = Report;
     }
 

@@ -113,9 +113,11 @@ dump =
     reporting
     (with_rule
     (with_rule
+    (with_rule
     (with_rule (with_rule roots (options (codes "profile"))) (options (codes "skip")))
     (option (codes "base")))
     (option (codes "vmemmap")))
+    (flag (codes "draw")))
 
 -- the program: it needs a subcommand, shows help without words, and has a version
 abbrev pub named : App

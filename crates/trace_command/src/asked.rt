@@ -13,6 +13,7 @@ ghost use Rattle.trace_command.specs.Asked.{
   covering,
   number_given,
   drawing,
+  dump_given,
   dumping,
   explaining,
   finding,
@@ -65,6 +66,7 @@ pub(crate) enum Wanted {
     Limit,
     Line,
     OneInput,
+    OneForm,
     Root,
     Address,
     Page,
@@ -440,8 +442,8 @@ fn generate_asked<'a>(inner: &ArgMatches<'a>) -> Result<Invocation<'a>, Unread>
     })
 }
 
-fn dump_asked<'a>(global: Global, inner: &ArgMatches<'a>) -> Result<Invocation<'a>, Unread>
-    ensures { HasAsked (dumping (rows_of (found_of inner.now))) result }
+fn dump_words<'a>(global: Global, inner: &ArgMatches<'a>) -> Result<Invocation<'a>, Unread>
+    ensures { HasAsked (dump_given (rows_of (found_of inner.now))) result }
 {
     let image = word(inner, "IMAGE")?;
     let host = word(inner, "host")?;
@@ -460,8 +462,18 @@ fn dump_asked<'a>(global: Global, inner: &ArgMatches<'a>) -> Result<Invocation<'
         skips,
         base,
         vmemmap,
+        draw: is_set(inner, "draw"),
         output: output(inner),
     }))
+}
+
+fn dump_asked<'a>(global: Global, inner: &ArgMatches<'a>) -> Result<Invocation<'a>, Unread>
+    ensures { HasAsked (dumping (rows_of (found_of inner.now))) result }
+{
+    if is_set(inner, "draw") && is_set(inner, "json") {
+        return Err(Unread::Word(Wanted::OneForm));
+    }
+    dump_words(global, inner)
 }
 
 fn draw_asked<'a>(inner: &ArgMatches<'a>) -> Result<Invocation<'a>, Unread>

@@ -427,6 +427,8 @@ fn dump<'a>(global: Global) -> Result<Command<'a>, AllocError>
         "the hypervisor's page where __hyp_vmemmap begins (7.3): states of its pages and the host's",
     );
     let form = with(form, vmemmap)?;
+    let drawing = flag(global, "draw", "write a picture (SVG) instead");
+    let form = with(form, drawing)?;
     reporting(global, form)
 }
 
@@ -474,6 +476,7 @@ fn text_of(wanted: Wanted) -> &'static str {
         Wanted::Address => "ADDRESS must be a number below 2^64, decimal or 0x and hexadecimal",
         Wanted::Page => "PAGE must be a number below 2^64, decimal or 0x and hexadecimal",
         Wanted::OneInput => "FILE and REPORT can't both be standard input",
+        Wanted::OneForm => "--draw and --json can't both be given: a picture is no JSON",
         Wanted::Line =>
             "N of --line must be a number from 1 on and below 2^64, decimal or 0x and hexadecimal",
     }

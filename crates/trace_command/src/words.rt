@@ -125,6 +125,8 @@ pub struct Dump<'a> {
     pub base: Option<u64>,
     /// The hypervisor's page from which on it maps a record for each frame.
     pub vmemmap: Option<u64>,
+    /// Whether a picture is written in place of lines.
+    pub draw: bool,
     pub output: Output,
 }
 

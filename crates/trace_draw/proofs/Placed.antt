@@ -4,12 +4,12 @@ use Rattle.std.specs.Prelude.{min, slice_get}
 use Rattle.std.proofs.lemmas.Bool.{cases_lt}
 use Rattle.std.proofs.lemmas.List.{length-append}
 use Rattle.trace_draw.specs.Pictures.{AreDrawn, AreEdges, HasRectangle, IsPicture, IsPiece, IsRight, SpansColumn}
-use Rattle.trace_draw.specs.Items.{text_of_picture}
+use Rattle.svg_elements.specs.Items.{text_of_picture}
 use Rattle.trace_draw.specs.declared.columns.Column.{Column}
-use Rattle.trace_draw.specs.declared.item.Area.{Area}
-use Rattle.trace_draw.specs.declared.item.Item.{Item}
-use Rattle.trace_draw.specs.declared.item.Item.TheVariants as items
-use Rattle.trace_draw.specs.declared.item.Size.{Size}
+use Rattle.svg_elements.specs.declared.item.Area.{Area}
+use Rattle.svg_elements.specs.declared.item.Item.{Item}
+use Rattle.svg_elements.specs.declared.item.Item.TheVariants as items
+use Rattle.svg_elements.specs.declared.item.Size.{Size}
 
 kept : {X : Type 0} (xs ys : List X) (i : ℕ) (x : X) → slice_get xs i ≡ Some x → slice_get (xs ++ ys) i ≡ Some x
 kept [] ys i x e = absurd (let h = e in cc)

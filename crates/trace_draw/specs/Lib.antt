@@ -1,6 +1,5 @@
 pub mod Columns
 pub mod Courses
-pub mod Items
 pub mod Laws
 pub mod Pictures
 pub mod Played

@@ -5,13 +5,13 @@ use Rattle.trace_draw.specs.Courses.{IsRunOf}
 use Rattle.trace_draw.specs.declared.columns.Column.{Column}
 use Rattle.trace_draw.specs.declared.course.Ended.{Ended}
 use Rattle.trace_draw.specs.declared.course.Scene.{Scene}
-use Rattle.trace_draw.specs.declared.item.Area.{Area}
-use Rattle.trace_draw.specs.declared.item.Item.{Item}
-use Rattle.trace_draw.specs.declared.item.Item.TheVariants as items
-use Rattle.trace_draw.specs.declared.item.Paint.{Paint}
-use Rattle.trace_draw.specs.declared.item.Rectangle.{Rectangle}
-use Rattle.trace_draw.specs.declared.item.Size.{Size}
-use Rattle.trace_draw.specs.Items.{text_of_picture}
+use Rattle.svg_elements.specs.declared.item.Area.{Area}
+use Rattle.svg_elements.specs.declared.item.Item.{Item}
+use Rattle.svg_elements.specs.declared.item.Item.TheVariants as items
+use Rattle.svg_elements.specs.declared.item.Paint.{Paint}
+use Rattle.svg_elements.specs.declared.item.Rectangle.{Rectangle}
+use Rattle.svg_elements.specs.declared.item.Size.{Size}
+use Rattle.svg_elements.specs.Items.{text_of_picture}
 use Rattle.trace_text.specs.Session.{Standing}
 
 -- an edge is right of another, or the last that a number of 64 bits can be

@@ -3,15 +3,12 @@
 
 mod bands;
 mod cells;
-mod colours;
 mod columns;
 mod course;
-mod item;
 pub mod laws;
 mod picture;
 mod places;
 mod snapshot;
-mod svg;
 #[cfg(test)]
 mod tests;
 

@@ -4,15 +4,15 @@ ghost use Rattle.trace_draw.specs.Pictures.{AreDrawn, AreEdges, IsDrawing, IsPic
 
 use crate::bands::Look;
 use crate::cells::{Since, SlotCell, cells_of, slot_cells, used_slots};
-use crate::colours::{Colour, of_owner, of_slot};
 use crate::columns::{Column, columns_of};
 use crate::course::{Course, Ended, Moment, made};
-use crate::item::{Area, Head, Item, Label, Paint, Rectangle, Size, Style};
 use crate::places::{MARGIN, Places, TOP};
-use crate::svg::written;
 use call_table::{Reply, VmKind};
 use page_state::Usage;
 use std::alloc::{AllocError, Allocator, Global};
+use svg_elements::{
+    Area, Colour, Head, Item, Label, Paint, Rectangle, Size, Style, of_owner, of_slot, written,
+};
 use trace_reader::lines;
 use trace_text::Session;
 use vm_table::SlotState;

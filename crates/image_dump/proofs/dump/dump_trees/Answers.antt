@@ -1,7 +1,7 @@
 use Rattle.std.proofs.Common.{Bool, arith, ap, subst, refl, ◌∙◌, ◌++◌, map, length, ◌+◌}
 use Rattle.std.specs.Io.KnownBytes.{Appends}
 use Rattle.std.specs.List.{list_all}
-use Rattle.image_dump.specs.Dumped.{gives_states, text_of_lines}
+use Rattle.image_dump.specs.Dumped.{gives_states, text_by}
 use Rattle.image_findings.specs.declared.finding.Finding.{Finding}
 use Rattle.image_dump.specs.Collecting.{findings_by}
 use Rattle.image_dump.specs.declared.line.DumpLine.TheVariants as line
@@ -33,12 +33,12 @@ returns-in-Ok-clause-dumped g c =
     ∙ ap (λ ws. all.lines.items ++ map (λ (f : Finding). line.Finding f) ws) c.as_slice-3.ensures.value in
     let written =
     subst
-    (λ ls. Appends (g.W.Write.contents c.args.writer.now) (g.W.Write.contents c.write_lines.new.writer)
-    (text_of_lines ls)) c.as_slice-4.ensures.value c.in-Ok.ensures in
+    (λ ls. Appends (g.W.Write.contents c.args.writer.now) (g.W.Write.contents c.write_shaped.new.writer)
+    (text_by c.args.shape ls)) c.as_slice-4.ensures.value c.in-Ok.ensures in
     all_dumped (g.I.ImageBytes.bytes c.args.image.now)
     (g.I.ImageBytes.may_fail c.args.image.now) c.args.segments.now c.args.roots.now c.args.vmemmap
-    c.in_ok-records.records c.args.skips.now
-    (g.W.Write.contents c.args.writer.now) (g.W.Write.contents c.write_lines.new.writer)
+    c.in_ok-records.records c.args.skips.now c.args.shape
+    (g.W.Write.contents c.args.writer.now) (g.W.Write.contents c.write_shaped.new.writer)
     (record {
       lines = c.new.result;
       words = c.new-2.result;

@@ -14,4 +14,5 @@ returns-clause-app c =
     let six = c.in_ok-form-6.ensures.app ∙ ap₂ with_rule five c.options-3.ensures.rule in
     let seven = c.in_ok-form-7.ensures.app ∙ ap₂ with_rule six c.option-base.ensures.rule in
     let eight = c.in_ok-form-8.ensures.app ∙ ap₂ with_rule seven c.option-vmemmap.ensures.rule in
-    IfOk-weaker c.reporting.result _ _ (λ r h. h ∙ ap reporting eight) c.reporting.ensures.app
+    let nine = c.in_ok-form-9.ensures.app ∙ ap₂ with_rule eight c.flag-drawing.ensures.rule in
+    IfOk-weaker c.reporting.result _ _ (λ r h. h ∙ ap reporting nine) c.reporting.ensures.app

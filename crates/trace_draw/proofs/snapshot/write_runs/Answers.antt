@@ -5,7 +5,7 @@ use Rattle.page_state.specs.declared.row.Row.{Row}
 use Rattle.page_state.specs.declared.row.Usage.TheVariants.{Plain}
 use Rattle.run_list.specs.declared.run.Run.{Run}
 use Rattle.trace_draw.specs.Texts.{line_of_run}
-use Rattle.trace_draw.proofs.Pictures.{text_more}
+use Rattle.svg_elements.proofs.Joined.{text_more}
 use Rattle.trace_draw.proofs.snapshot.write_runs.Goals as goal
 
 abbrev blank : Run Row

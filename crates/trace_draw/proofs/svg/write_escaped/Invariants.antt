@@ -1,8 +1,0 @@
-use Rattle.std.specs.Prelude.{◌≡◌, ◌++◌, take, string_bytes}
-use Rattle.std.specs.List.{flat_map}
-use Rattle.trace_draw.specs.Items.{escaped}
-use Rattle.trace_draw.proofs.svg.write_escaped.Given as goal
-
-abbrev pub invariant-loop-byte : goal.invariant-loop-byte
-invariant-loop-byte l =
-    record { written : string_bytes l.svg ≡ string_bytes l.initial.svg ++ flat_map escaped (take l.byte-index l.bytes) }
