@@ -30,8 +30,8 @@ lines_of-requires-clause-below c =
     let l : Layout = parts_layout c.args.world.now.parts in
     let n : ℕ = c.args.start in
     let each : (k : ℕ)
-        → slice_index c.in_ok-counts.counts.items k
-        ≡ length (own_from k 0 (take n c.args.steps.now) (take n c.args.replies.now)) =
+    → slice_index c.in_ok-counts.counts.items k
+    ≡ length (own_from k 0 (take n c.args.steps.now) (take n c.args.replies.now)) =
     λ k. c.in_ok-counts.ensures.each k
     ∙ (λ i. length (own_from k 0 (c.split_at.ensures.front i) (c.split_at-2.ensures.front i))) in
     let all = cpus_below l n c.args.steps.now c.args.replies.now c.args.calls.now c.requires.merged
@@ -45,8 +45,8 @@ lines_of-requires-clause-fits c =
     let l : Layout = parts_layout c.args.world.now.parts in
     let n : ℕ = c.args.start in
     let each : (k : ℕ)
-        → slice_index c.in_ok-counts.counts.items k
-        ≡ length (own_from k 0 (take n c.args.steps.now) (take n c.args.replies.now)) =
+    → slice_index c.in_ok-counts.counts.items k
+    ≡ length (own_from k 0 (take n c.args.steps.now) (take n c.args.replies.now)) =
     λ k. c.in_ok-counts.ensures.each k
     ∙ (λ i. length (own_from k 0 (c.split_at.ensures.front i) (c.split_at-2.ensures.front i))) in
     λ k. ap (λ (cs : List ℕ). length (filter (λ m. m == k) cs)) c.as_slice.ensures.value
@@ -60,8 +60,8 @@ returns c =
     let l : Layout = parts_layout c.args.world.now.parts in
     let n : ℕ = c.args.start in
     let each : (k : ℕ)
-        → slice_index c.in_ok-counts.counts.items k
-        ≡ length (own_from k 0 (take n c.args.steps.now) (take n c.args.replies.now)) =
+    → slice_index c.in_ok-counts.counts.items k
+    ≡ length (own_from k 0 (take n c.args.steps.now) (take n c.args.replies.now)) =
     λ k. c.in_ok-counts.ensures.each k
     ∙ (λ i. length (own_from k 0 (c.split_at.ensures.front i) (c.split_at-2.ensures.front i))) in
     on_ok _ _ c.lines_of.result
