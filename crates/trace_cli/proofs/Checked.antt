@@ -3,18 +3,18 @@ use Rattle.std.proofs.Common.{◌≡◌, ℕ, List, Option, Some, None, subst}
 use Rattle.std.specs.Global.{Global}
 use Rattle.std.specs.Prelude.{IfSome}
 use Rattle.trace_reader.specs.declared.outcome.Outcome.{Outcome}
-use Rattle.trace_cases.specs.Cases.{IsCaseChecked}
 use Rattle.trace_check.specs.declared.checking.Checked.{Checked}
 use Rattle.trace_cli.specs.Status.{HasChecked, outcome_of_check}
+use Rattle.trace_values.specs.Checked.{IsValueChecked}
 
 pub checked_by : (bytes : Option (List ℕ)) (path trace given : List ℕ) (checked : Checked) (outcome : Outcome)
     → IfSome bytes (λ all. trace ≡ all)
     → given ≡ trace
-    → IsCaseChecked Global path given checked
+    → IsValueChecked Global path given checked
     → outcome ≡ outcome_of_check checked.clean → HasChecked path bytes outcome
 checked_by None path trace given checked outcome is same h told = tt
 checked_by (Some all) path trace given checked outcome is same h told = (
   checked,
-  subst (λ t. IsCaseChecked Global path t checked) is (subst (λ t. IsCaseChecked Global path t checked) same h),
+  subst (λ t. IsValueChecked Global path t checked) is (subst (λ t. IsValueChecked Global path t checked) same h),
   told,
 )

@@ -1,4 +1,5 @@
 mod Checked
+mod Expanded
 mod Explained
 mod Greatest
 mod Made

@@ -4,6 +4,7 @@ use Rattle.std.specs.Global.{Global}
 use Rattle.std.specs.Io.KnownBytes.{Appends}
 use Rattle.clap.specs.Words.{kind_of}
 use Rattle.clap.specs.declared.error.kind.ErrorKind.TheVariants.{DisplayVersion}
+use Rattle.trace_faults.specs.Spots.{Told as Spot}
 use Rattle.trace_reader.specs.Reading.{lines_of}
 use Rattle.trace_reader.specs.declared.outcome.Outcome.{Outcome}
 use Rattle.trace_reader.specs.declared.outcome.Outcome.TheVariants.{Clean, Disagreed, Fault}
@@ -20,7 +21,6 @@ use Rattle.trace_race.specs.Courses.{course_of, nothing_asked}
 use Rattle.trace_race.specs.Raced.{IsRaceReport}
 use Rattle.trace_outcomes.specs.Told.{ReportsOutcomes, AnswersReport}
 use Rattle.trace_outcomes.specs.declared.telling.Told.{Told as OutcomesTold}
-use Rattle.trace_cases.specs.Cases.{IsCaseChecked}
 use Rattle.trace_check.specs.declared.checking.Checked.{Checked}
 use Rattle.trace_draw.specs.declared.course.Ended.{Ended}
 use Rattle.trace_draw.specs.declared.course.Ended.TheVariants as ends
@@ -32,7 +32,9 @@ use Rattle.trace_generate.specs.declared.options.GenerateFault.TheVariants as ge
 use Rattle.trace_generate.specs.declared.options.Options.{Options}
 use Rattle.trace_generate.specs.Machine.{IsFault}
 use Rattle.trace_generate.specs.Made.{IsTrace}
-use Rattle.trace_command.specs.Asked.{Asking, Replaying, Racing, Auditing, Finding, Checking, Covering, Recording, Explaining, Generating, Drawing, Dumping, IsRead, asking_of}
+use Rattle.trace_values.specs.Checked.{IsValueChecked, IsValueRecord}
+use Rattle.trace_values.specs.Expansions.{IsExpansion}
+use Rattle.trace_command.specs.Asked.{Asking, Replaying, Racing, Auditing, Finding, Checking, Covering, Recording, Expanding, Explaining, Generating, Drawing, Dumping, IsRead, asking_of}
 use Rattle.trace_command.specs.declared.words.Invocation.{Invocation}
 use Rattle.trace_command.specs.declared.words.UsageFault.{UsageFault}
 use Rattle.trace_command.specs.declared.words.UsageFault.TheVariants.{NoMemory, Usage}
@@ -90,8 +92,29 @@ abbrev pub HasChecked : List ℕ → Option (List ℕ) → Outcome → Type 0
 HasChecked path bytes outcome =
     IfSome bytes
     (λ all. (checked : Checked)
-    × IsCaseChecked Global path all checked
+    × IsValueChecked Global path all checked
     × (outcome ≡ outcome_of_check checked.clean))
+
+-- a text was made, or a name has a fault
+abbrev pub outcome_of_text : {F : Type 0} → Result (List ℕ) F → Outcome
+outcome_of_text (Ok text) = Clean
+outcome_of_text (Err fault) = Fault
+
+-- a trace of these bytes is expanded
+abbrev pub HasExpanded : Option (List ℕ) → Outcome → Type 0
+HasExpanded bytes outcome =
+    IfSome bytes
+    (λ all. (told : Result (List ℕ) Spot)
+    × IsExpansion Global all told
+    × (outcome ≡ outcome_of_text told))
+
+-- and so its expectations are filled in
+abbrev pub HasRecorded : Option (List ℕ) → Outcome → Type 0
+HasRecorded bytes outcome =
+    IfSome bytes
+    (λ all. (told : Result (List ℕ) Spot)
+    × IsValueRecord Global all told
+    × (outcome ≡ outcome_of_text told))
 
 -- a trace of these bytes is explained, or one line of it
 abbrev pub HasExplained : List ℕ → Option ℕ → Option (List ℕ) → Outcome → Type 0
@@ -118,15 +141,15 @@ abbrev pub HasDrawn : Bool → Option (List ℕ) → Outcome → Type 0
 HasDrawn true bytes outcome = IfSome bytes (λ all. EndsAsReported all outcome)
 HasDrawn false bytes outcome = IfSome bytes (λ all. EndsAsDrawn all outcome)
 
--- the report that a task makes of these bytes has this outcome. No clause here speaks of what is
--- recorded
+-- the report that a task makes of these bytes has this outcome
 abbrev pub HasReport : Task → List ℕ → Option (List ℕ) → Outcome → Type 0
 HasReport (tasks.Replay heap looks output) path bytes outcome = HasReplayReport bytes outcome
 HasReport (tasks.Race ordered output) path bytes outcome = HasRaceReport ordered bytes outcome
 HasReport (tasks.Audit output) path bytes outcome = HasAuditReport bytes outcome
 HasReport (tasks.Outcomes limit output) path bytes outcome = HasOutcomes limit bytes outcome
 HasReport (tasks.Check looks output) path bytes outcome = HasChecked path bytes outcome
-HasReport tasks.Record path bytes outcome = outcome ≡ Clean
+HasReport tasks.Record path bytes outcome = HasRecorded bytes outcome
+HasReport tasks.Expand path bytes outcome = HasExpanded bytes outcome
 HasReport (tasks.Explain line output) path bytes outcome = HasExplained path line bytes outcome
 HasReport (tasks.Draw text) path bytes outcome = HasDrawn text bytes outcome
 
@@ -270,6 +293,7 @@ module _ {F I E : Type 0} (bytes : F → Option (List ℕ)) (opens : List ℕ �
   HasAskedStatus (Covering files missing quiet) status =
       HasCoverStatus bytes opens missing files status
   HasAskedStatus (Recording file) status = HasFileStatus bytes opens tasks.Record file status
+  HasAskedStatus (Expanding file) status = HasFileStatus bytes opens tasks.Expand file status
   HasAskedStatus (Explaining file line output) status =
       HasFileStatus bytes opens (tasks.Explain line output) file status
   HasAskedStatus (Generating seed steps cpus pages geometry hostile) status =

@@ -27,6 +27,7 @@ ghost use Rattle.trace_command.specs.Asked.{asking_of};
 
 mod covering;
 mod dumping;
+mod expansions;
 mod files;
 mod generated;
 mod kept;
@@ -144,6 +145,7 @@ fn done<
             quiet,
         } => covered(rt, files, paths.as_slice(), missing, quiet),
         Invocation::Record { file } => done_with(rt, files, file, Task::Record),
+        Invocation::Expand { file } => done_with(rt, files, file, Task::Expand),
         Invocation::Explain { file, line, output } => done_with(
             rt,
             files,

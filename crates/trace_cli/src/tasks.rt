@@ -2,9 +2,10 @@
 ghost use Rattle.std.specs.Prelude.{◌≡◌, IfOk};
 ghost use Rattle.trace_cli.specs.Status.{HasOrderAnswer, HasReport, HasStatus, status_of_end};
 
+use crate::expansions::{expanded, recorded};
 use crate::reports::{audited, raced, replayed};
 use crate::telling::{FAILED, REFUSED, tell};
-use crate::texts::{checked, drawn, explained, order_reported, outcomes_reported, recorded};
+use crate::texts::{checked, drawn, explained, order_reported, outcomes_reported};
 use std::io;
 use std::sync::Wait;
 use std::thread::Threads;
@@ -39,6 +40,8 @@ pub enum Task {
     },
     /// Write the trace with its expectations filled in.
     Record,
+    /// Write the trace with values in place of its names.
+    Expand,
     /// Show what each step looked at and changed, or that of one line.
     Explain {
         line: Option<u64>,
@@ -154,7 +157,8 @@ fn answered<
             rt, path, limit, output, file, progress,
         ),
         Task::Check { looks, output } => checked(rt, path, looks, output, file),
-        Task::Record => recorded(rt, file),
+        Task::Record => recorded(rt, path, file),
+        Task::Expand => expanded(rt, path, file),
         Task::Explain { line, output } => explained(rt, path, line, output, file),
         Task::Draw { text } => drawn(rt, path, text, file),
     }

@@ -5,7 +5,6 @@ ghost use Rattle.trace_cli.specs.Status.{EndsAsDrawn, EndsAsReported, HasChecked
 use crate::telling::{no_memory, report_beside};
 use report_json::{CHECKS, EXPLANATIONS, Form, JsonLines, OUTCOMES};
 use std::io::{self, ErrorKind, Write};
-use trace_cases::{check, record};
 use trace_check::Watch;
 use trace_command::{Looks, Output};
 use trace_draw::{Ended, draw, draw_text};
@@ -14,6 +13,7 @@ use trace_outcomes::{report_order, report_outcomes};
 use trace_race::{Halted, RaceFault};
 use trace_reader::{EngineFault, Outcome, Progress};
 use trace_text::Fault;
+use trace_values::check;
 
 /// Finds all replies that the steps after `start` may get, and writes them.
 pub fn outcomes_reported<R: AllocGlobal + Print + Eprint, F: io::Read + Drop, P: Progress>(
@@ -100,21 +100,6 @@ fn outcome_of_check(clean: bool) -> Outcome
     } else {
         Outcome::Disagreed
     }
-}
-
-/// Writes a trace with its expectations filled in.
-pub fn recorded<R: AllocGlobal + Print, F: io::Read + Drop>(
-    rt: &R,
-    file: F,
-) -> Result<Outcome, Halted>
-    ensures { IfOk result (λ outcome. outcome ≡ Outcome.Clean) }
-{
-    let trace = whole(rt, file)?;
-    let Ok(text) = record(rt.alloc(), rt.alloc(), trace.as_slice()) else {
-        return Err(no_memory());
-    };
-    write(rt, text.as_slice())?;
-    Ok(Outcome::Clean)
 }
 
 /// Explains a trace.

@@ -1,5 +1,5 @@
 -- What the words of the program ask for.
-use Rattle.std.specs.Prelude.{◌≡◌, ◌≢◌, ◌&&◌, ◌⊎◌, ⊤, ℕ, Bool, false, List, [], ◌∷◌, map, Option, Result, Some, None, Ok, Err, codes, if◌then◌else◌, nat_le, nat_lt, option_and_then, option_map, slice_get, slice_index, unwrap_or}
+use Rattle.std.specs.Prelude.{◌≡◌, ◌≢◌, ◌&&◌, ◌||◌, ◌⊎◌, ⊤, ℕ, Bool, false, true, List, [], ◌∷◌, map, Option, Result, Some, None, Ok, Err, codes, if◌then◌else◌, nat_le, nat_lt, option_and_then, option_map, slice_get, slice_index, unwrap_or}
 use Rattle.std.specs.Option.{option_map_or}
 use Rattle.std.specs.Str.{all_ascii_digits, bytes_eq}
 use Rattle.std.specs.Str.Parse.{digits_value}
@@ -49,6 +49,7 @@ pub data Asking : Type 0 where
   -- the files, whether only what never came is written, and whether nothing is
   Covering : List Text → Bool → Bool → Asking
   Recording : Text → Asking
+  Expanding : Text → Asking
   -- the line that is shown, if it is only one
   Explaining : Text → Option ℕ → Output → Asking
   -- the seed, the steps, the CPUs, the pages, the geometry, and the calls in a hundred that are to
@@ -83,6 +84,7 @@ asking_of (invocation.Check files looks output) =
 asking_of (invocation.Cover files missing quiet) =
     Covering (map (λ file. file.now) files.items) missing quiet
 asking_of (invocation.Record file) = Recording file.now
+asking_of (invocation.Expand file) = Expanding file.now
 asking_of (invocation.Explain file line output) = Explaining file.now line output
 asking_of (invocation.Generate seed steps cpus pages geometry hostile) =
     Generating seed steps cpus pages geometry hostile
@@ -193,11 +195,24 @@ recording [] = None
 recording (file ∷ []) = Some (Recording file)
 recording (file ∷ more ∷ files) = None
 
+-- and so does `check --expand`
+abbrev pub expanding : List Text → Option Asking
+expanding [] = None
+expanding (file ∷ []) = Some (Expanding file)
+expanding (file ∷ more ∷ files) = None
+
+-- only one of the two may be given
+abbrev pub writing : Bool → Bool → List Text → Option Asking
+writing true true files = None
+writing true false files = recording files
+writing false expands files = expanding files
+
 abbrev pub checking : List Row → Option Asking
 checking rows =
     option_and_then
     (λ files. option_and_then
-    (λ looks. if is_set (codes "record") rows then recording files
+    (λ looks. if is_set (codes "record") rows || is_set (codes "expand") rows
+    then writing (is_set (codes "record") rows) (is_set (codes "expand") rows) files
     else Some (Checking files looks (output_in rows)))
     (asked_looks (first_of (codes "oracle") rows))) (all_of (codes "FILE") rows)
 

@@ -75,7 +75,9 @@ abbrev pub check : App
 check =
     reporting
     (with_rule
-    (with_rule (with_rule (new_app (codes "check")) files) (flag (codes "record"))) oracle)
+    (with_rule
+    (with_rule (with_rule (new_app (codes "check")) files) (flag (codes "record")))
+    (flag (codes "expand"))) oracle)
 
 abbrev pub cover : App
 cover =

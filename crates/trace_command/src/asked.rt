@@ -15,6 +15,7 @@ ghost use Rattle.trace_command.specs.Asked.{
   drawing,
   dump_given,
   dumping,
+  expanding,
   explaining,
   finding,
   generating,
@@ -27,6 +28,7 @@ ghost use Rattle.trace_command.specs.Asked.{
   output_in,
   racing,
   recording,
+  writing,
   replaying,
 };
 
@@ -60,6 +62,8 @@ pub(crate) enum Wanted {
     Subcommand,
     File,
     OneFile,
+    OneExpanded,
+    OneText,
     Bytes,
     When,
     Number,
@@ -383,8 +387,10 @@ fn check_asked<'a>(global: Global, inner: &ArgMatches<'a>) -> Result<Invocation<
 {
     let files = files(global, inner)?;
     let looks = looks(inner)?;
-    if is_set(inner, "record") {
-        return record_asked(files.as_slice());
+    let records = is_set(inner, "record");
+    let expands = is_set(inner, "expand");
+    if records || expands {
+        return text_asked(records, expands, files.as_slice());
     }
     Ok(Invocation::Check {
         files,
@@ -401,6 +407,35 @@ fn record_asked<'a>(files: &[&'a str]) -> Result<Invocation<'a>, Unread>
         [file] => Ok(Invocation::Record { file: *file }),
         _ => Err(Unread::Word(Wanted::OneFile)),
     }
+}
+
+/// `check --expand` of these files, which are to be one.
+fn expand_asked<'a>(files: &[&'a str]) -> Result<Invocation<'a>, Unread>
+    ensures { HasAsked (expanding (map (λ path. path.now) files.now)) result }
+{
+    match files {
+        [file] => Ok(Invocation::Expand { file: *file }),
+        _ => Err(Unread::Word(Wanted::OneExpanded)),
+    }
+}
+
+/// One of the two, of which not both may be given.
+fn text_asked<'a>(
+    records: bool,
+    expands: bool,
+    files: &[&'a str],
+) -> Result<Invocation<'a>, Unread>
+    ensures {
+        HasAsked (writing records expands (map (λ path. path.now) files.now)) result
+    }
+{
+    if !records {
+        return expand_asked(files);
+    }
+    if expands {
+        return Err(Unread::Word(Wanted::OneText));
+    }
+    record_asked(files)
 }
 
 fn cover_asked<'a>(global: Global, inner: &ArgMatches<'a>) -> Result<Invocation<'a>, Unread>

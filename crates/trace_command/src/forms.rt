@@ -272,6 +272,12 @@ fn check<'a>(global: Global) -> Result<Command<'a>, AllocError>
         "write the trace with its replies as expectations (one FILE)",
     );
     let form = with(form, record)?;
+    let expand = flag(
+        global,
+        "expand",
+        "write the trace with values in place of its names (one FILE)",
+    );
+    let form = with(form, expand)?;
     let form = with(form, oracle(global))?;
     reporting(global, form)
 }
@@ -466,6 +472,8 @@ fn text_of(wanted: Wanted) -> &'static str {
         Wanted::Subcommand => "a subcommand is needed",
         Wanted::File => "FILE is needed",
         Wanted::OneFile => "--record takes one FILE",
+        Wanted::OneExpanded => "--expand takes one FILE",
+        Wanted::OneText => "--record and --expand can't both be given",
         Wanted::Bytes => "BYTES must be a decimal number from 4096 to 1073741824",
         Wanted::When => "WHEN must be each or end",
         Wanted::Number =>

@@ -79,6 +79,10 @@ pub enum Invocation<'a> {
     Record {
         file: &'a str,
     },
+    /// Write a trace with values in place of its names.
+    Expand {
+        file: &'a str,
+    },
     /// Show a trace line by line, with what each step looked at and changed.
     Explain {
         file: &'a str,
