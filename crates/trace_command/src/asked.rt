@@ -420,14 +420,8 @@ fn expand_asked<'a>(files: &[&'a str]) -> Result<Invocation<'a>, Unread>
 }
 
 /// One of the two, of which not both may be given.
-fn text_asked<'a>(
-    records: bool,
-    expands: bool,
-    files: &[&'a str],
-) -> Result<Invocation<'a>, Unread>
-    ensures {
-        HasAsked (writing records expands (map (λ path. path.now) files.now)) result
-    }
+fn text_asked<'a>(records: bool, expands: bool, files: &[&'a str]) -> Result<Invocation<'a>, Unread>
+    ensures { HasAsked (writing records expands (map (λ path. path.now) files.now)) result }
 {
     if !records {
         return expand_asked(files);

@@ -75,11 +75,9 @@ fn twice_in(seen: &Vec<&[u8]>, reserved: bool, line: &[u8]) -> Option<usize>
 
 /// Adds the name of such an expectation.
 fn add_seen<'a>(seen: &mut Vec<&'a [u8]>, reserved: bool, line: &'a [u8]) -> Result<(), AllocError>
-    ensures {
-        OnOk result
-            (map (λ other. other.now) seen.new.items
-                ≡ seen_next (map (λ other. other.now) seen.old.items) reserved line.entry.now)
-    }
+    ensures { OnOk result
+        (map (λ other. other.now) seen.new.items
+        ≡ seen_next (map (λ other. other.now) seen.old.items) reserved line.entry.now) }
 {
     if let Some(offset) = reserved_in(reserved, line) {
         seen.push(first_word(&line[offset..]))?;
@@ -89,10 +87,8 @@ fn add_seen<'a>(seen: &mut Vec<&'a [u8]>, reserved: bool, line: &'a [u8]) -> Res
 
 /// The first name that a second reservation of these lines has.
 pub(crate) fn twice<'a>(global: Global, lines: &[&'a [u8]]) -> Result<Option<Named<'a>>, AllocError>
-    ensures name {
-        IfOk result
-            (λ found. option_map named_in found ≡ twice_of (map (λ line. line.now) lines.now))
-    }
+    ensures name { IfOk result
+        (λ found. option_map named_in found ≡ twice_of (map (λ line. line.now) lines.now)) }
     ensures inside { IfOk result (λ found. IfSome found (λ named. named.offset < length named.line.now)) }
 {
     let mut seen = Vec::new(global);

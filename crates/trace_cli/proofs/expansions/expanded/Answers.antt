@@ -7,6 +7,6 @@ pub returns : goal.returns
 returns g c =
     mapped c.put.result _ _
     (λ outcome ends. expanded_by _ c.in_ok-trace.trace.items c.as_slice.result.now
-        (expansion_in c.in-Ok.expansion) outcome
+    (expansion_in c.in-Ok.expansion) outcome
     c.in_ok-trace.ensures c.as_slice.ensures.value c.in-Ok.ensures ends)
     c.put.ensures
