@@ -220,7 +220,7 @@ module _ {A : Type 0} (t : Opened) (start : ℕ) (steps : List Asked) (replies :
       }
 
   -- the one history
-  unfoldable pub one_history : OneHistory (layout_of t.layout) start steps replies
+  pub one_history : OneHistory (layout_of t.layout) start steps replies
   one_history = record {
     key = t.layout;
     key_is = refl;
