@@ -52,8 +52,9 @@ not_passed (d ∷ ds) line is some e =
     let b : (d == 98) ≡ false = grind (arith, nat_tests) in
     let w : (d == 119) ≡ false = grind (arith, nat_tests) in
     let f : (d == 102) ≡ false = grind (arith, nat_tests) in
+    let o : (d == 111) ≡ false = grind (arith, nat_tests) in
     let en : (d == 101) ≡ false = grind (arith, nat_tests) in
-    rw is (rw (b, w, f, en) refl)
+    rw is (rw (b, w, f, o, en) refl)
 
 -- a line's number, its CPU, and what is behind them
 abbrev pub whole : ℕ → ℕ → List ℕ → List ℕ
