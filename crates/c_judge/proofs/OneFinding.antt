@@ -6,10 +6,10 @@ use Rattle.call_table.specs.declared.reply.Reply.{Reply}
 use Rattle.call_table.specs.declared.reply.Reply.TheVariants.{Done, Refused}
 use Rattle.call_table.specs.declared.reply.Refusal.TheVariants.{Contended}
 use Rattle.call_table.specs.declared.reply.Value.{Value}
+use Rattle.call_table.specs.declared.reply.Value.TheVariants.{Nothing}
 use Rattle.call_table.specs.declared.step.Step.{Step}
 use Rattle.page_state.specs.Layouts.{Layout}
 use Rattle.reference_model.specs.model.State.{Contents}
-use Rattle.freedoms.specs.Ample.{asks_pool}
 use Rattle.freedoms.specs.declared.Freedoms.{Freedoms}
 use Rattle.free_judge.proofs.OneAnswer.{judged_freely_once, predicted_freely_once}
 use Rattle.ghost_judge.specs.declared.disagreement.Disagreement.{Disagreement}
@@ -39,7 +39,7 @@ use Rattle.c_judge.specs.declared.wanted.FreedomsFault.{FreedomsFault}
 use Rattle.c_judge.specs.declared.wanted.FreedomsFault.TheVariants.{Unknown, WithoutOwnTables}
 use Rattle.c_judge.specs.Found.{differs, is_compared, renamed, IsCompared, IsFoundBy, IsFoundExactly, IsFoundExactlyOf, IsFoundFreely, IsFoundOf, IsModelReply, IsModelReplyOnly, IsUnfoundBy, IsUnfoundExactly, IsUnfoundFreely}
 use Rattle.c_judge.specs.Freedoms.{IsFreedomsFault, IsTakenAs}
-use Rattle.c_judge.specs.Laws.{FoundElse, FoundOnce, IsFixed}
+use Rattle.c_judge.specs.Laws.{FoundElse, FoundOnce}
 use Rattle.c_judge.specs.Replies.{known_or, said_of}
 
 -- freedoms
@@ -217,19 +217,19 @@ module _ (l : PlainLayout) (regions : List PlainRegion) (before : Lists) (call :
 -- judged up to freedoms
 
 module _ (w : Freedoms) (m : Layout) (cpus : ℕ) (s : Contents) (cpu : ℕ) (step : Step)
-    (asks : asks_pool step ≡ false) (after : Lists) where
+    (after : Lists) where
   compared_once : (reply : Reply) (a b : Option Disagreement)
       → IsCompared w m cpus s cpu step reply after a
       → IsCompared w m cpus s cpu step reply after b
       → a ≡ b
   compared_once reply a b h k =
-      judged_freely_once w m s cpu step reply (contents_from_c after) a b asks h.judged k.judged
+      judged_freely_once w m s cpu step reply (contents_from_c after) a b h.judged k.judged
 
   only_once : (r t : Reply)
       → IsModelReplyOnly w m s cpu step r
       → IsModelReplyOnly w m s cpu step t
       → r ≡ t
-  only_once r t h k = (predicted_freely_once w m s cpu step r t h.0 k.0 asks h.1 k.1).0
+  only_once r t h k = (predicted_freely_once w m s cpu step (Done Nothing) r t h.0 k.0 h.1 k.1).0
 
   freely_of : (says : Said) (f g : Option Found)
       → IsFoundOf w m cpus s cpu step says after f
@@ -252,13 +252,12 @@ module _ (w : Freedoms) (l : PlainLayout) (regions : List PlainRegion) (before :
   OfStep t s f = IsFoundOf w (layout_from_c l regions) l.cpus (contents_from_c before) call.cpu t s after f
 
   freely_once : (f g : Option Found)
-      → ((step : Step) → step_from_c call.step ≡ Some step → asks_pool step ≡ false)
       → IsFoundFreely w l regions before call after f
       → IsFoundFreely w l regions before call after g
       → f ≡ g
-  freely_once f g asks h k =
+  freely_once f g h k =
       freely_of w (layout_from_c l regions) l.cpus (contents_from_c before) call.cpu k.step
-      (asks k.step k.can.step_is) after k.says f g
+      after k.says f g
       (subst (λ (s : Said). OfStep k.step s f)
       (one_of (said_of call.reply) h.says k.says h.says_is k.says_is)
       (subst (λ (t : Step). OfStep t h.says f)
@@ -296,14 +295,11 @@ module _ (w : Freedoms) (l : PlainLayout) (regions : List PlainRegion) (before :
 
 module _ (l : PlainLayout) (regions : List PlainRegion) (before : Lists) (call : PlainCall) (after : Lists) where
   by_once : (o : Option Freedoms) (f g : Option Found)
-      → IsTakenAs l.freedoms o
-      → IsFixed l call.step
       → IsFoundBy l regions before call after o f
       → IsFoundBy l regions before call after o g
       → f ≡ g
-  by_once None f g taken fixed h k = exactly_once l regions before call after f g h k
-  by_once (Some w) f g taken (inl none) h k = absurd (odd l.freedoms none taken.1)
-  by_once (Some w) f g taken (inr asks) h k = freely_once w l regions before call after f g asks h k
+  by_once None f g h k = exactly_once l regions before call after f g h k
+  by_once (Some w) f g h k = freely_once w l regions before call after f g h k
 
   by_else : (o : Option Freedoms) (f : Option Found) (why : Unjudged)
       → IsFoundBy l regions before call after o f
@@ -313,8 +309,8 @@ module _ (l : PlainLayout) (regions : List PlainRegion) (before : Lists) (call :
   by_else (Some w) f why h k = freely_else w l regions before call after f why h k
 
 pub found_once : FoundOnce
-found_once l regions before call after f g fixed h k =
-    by_once l regions before call after k.freedoms f g k.taken fixed
+found_once l regions before call after f g h k =
+    by_once l regions before call after k.freedoms f g
     (subst (λ (o : Option Freedoms). IsFoundBy l regions before call after o f)
     (freedoms_once l.freedoms h.freedoms k.freedoms h.taken k.taken) h.judged) k.judged
 

@@ -3,7 +3,8 @@
 use Rattle.std.specs.Prelude.{◌≡◌, ◌⊎◌, ℕ, Bool, true, false, List, Option, Some, None, IsSome, option_map}
 use Rattle.call_table.specs.declared.reply.Refusal.TheVariants.{Contended}
 use Rattle.call_table.specs.declared.reply.Reply.{Reply}
-use Rattle.call_table.specs.declared.reply.Reply.TheVariants.{Refused}
+use Rattle.call_table.specs.declared.reply.Reply.TheVariants.{Done, Refused}
+use Rattle.call_table.specs.declared.reply.Value.TheVariants.{Nothing}
 use Rattle.call_table.specs.declared.step.Step.{Step}
 use Rattle.page_state.specs.Layouts.{Layout}
 use Rattle.reference_model.specs.model.State.{Contents}
@@ -80,10 +81,11 @@ IsUnfoundExactly l regions before call after why =
     × (IsUnjudged l regions before call after why
     ⊎ IsUnpredicted l regions before call.cpu call.step why)
 
--- the reply that the model gives, whatever the tables and free frames
+-- the reply that the model gives, whatever the tables and free frames, to a call that names no
+-- frame
 abbrev pub IsModelReplyOnly : Freedoms → Layout → Contents → ℕ → Step → Reply → Type 0
 IsModelReplyOnly w l before cpu step reply =
-    (after : Contents) × IsPredictedFreely w l before cpu step reply after
+    (after : Contents) × IsPredictedFreely w l before cpu step (Done Nothing) reply after
 
 module _ (w : Freedoms) (l : Layout) (cpus : ℕ) (before : Contents) (cpu : ℕ) (step : Step) where
   -- the lists after the call make a state, and this is found of it

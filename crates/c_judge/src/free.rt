@@ -15,7 +15,7 @@ use crate::ready::ready;
 use crate::reply::{Said, said_of};
 use c_states::{PlainCall, PlainLayout, PlainState, Unjudged, made};
 use c_words::step_of;
-use call_table::{Refusal, Reply, Step};
+use call_table::{Refusal, Reply, Step, Value};
 use free_judge::judge::{judge_freely, predicted_freely};
 use freedoms::Freedoms;
 use ghost_judge::disagreement::Disagreement;
@@ -63,7 +63,7 @@ fn told(
         (IsModelReplyOnly freedoms (layout_of pre.now.layout) (contents_in pre.now) cpu step) }
     ensures unpredicted { IfErr result (λ why. why ≡ Unjudged.NoMemory) }
 {
-    let said = Reply::Refused(Refusal::Contended);
+    let said = Reply::Done(Value::Nothing);
     match predicted_freely(alloc, freedoms, pre, cpu, step, said) {
         Ok((reply, after)) => {
             drop(after);

@@ -6,7 +6,7 @@ pub fn no_refusal()
     ensures { FoundElse }
 {}
 
-/// A judgement has one answer, but if a freedom is given and the step reads a guest's pool.
+/// A judgement has one answer.
 pub fn one_answer()
     ensures { FoundOnce }
 {}

@@ -19,9 +19,11 @@ use Rattle.freedoms.proofs.More.{judged_in_view, more_lets_through, viewed}
 use Rattle.freedoms.proofs.OtherAborts.{abort_of_any_kind}
 use Rattle.freedoms.proofs.Seen.{reads_seen, seen_by_predicted}
 use Rattle.ghost_judge.specs.declared.disagreement.Disagreement.{Disagreement}
-use Rattle.free_judge.specs.Freely.{stepped_from, AgreesBy, AgreesFreely, IsFirstBy}
-use Rattle.free_judge.specs.Laws.{FoundWhere, NoFalseAlarm}
+use Rattle.free_judge.specs.Freely.{stepped_from, AgreesBy, AgreesFreely, IsFirstBy, IsJudgedFreely}
+use Rattle.free_judge.specs.Laws.{FoundWhere, HasLowMemory, NoFalseAlarm}
 use Rattle.free_judge.proofs.Aborted.{steps-touch}
+use Rattle.free_judge.proofs.PoolReclaims.{pools_judged}
+use Rattle.free_judge.proofs.Ready.{from-seen}
 
 -- by what is seen
 
@@ -145,22 +147,36 @@ module _ (w : Freedoms) (l : Layout) (before legal : Contents) (cpu : ℕ) (repl
   each (HostAbort p) own asks = by-abort p w.lazy_host refl
   each step own asks = by-view step asks refl refl
 
+module _ (w : Freedoms) (l : Layout) (before legal : Contents) (cpu : ℕ) (step : Step) (reply : Reply)
+    (after : Contents)
+    (found : Option Disagreement) (usable : IsUsable l) (low : asks_pool step ≡ true → HasLowMemory l)
+    (begins : Alike w l before legal) (own : is_read step ≡ true → OwnTables before legal)
+    (is : LegalInAnyTrees l legal) (j : IsJudgedFreely w l before cpu step reply after found) where
+  by-asked : (b : Bool) → asks_pool step ≡ b → (found ≡ None) ↔ JudgedWith w l before cpu step reply after
+  by-asked true asks =
+      both-ways j.none
+      (pools_judged w l before legal cpu reply after j.ready usable (low asks) begins is step asks j.from)
+  by-asked false asks =
+      let ready : j.ready ≡ stepped_from w l before step =
+      subst (λ (X : Type 0). X)
+      (from-seen w l (stepped_from w l before step) (before.cpu cpu) step reply j.ready asks) j.from in
+      both-ways
+      (subst
+      (λ (s : Contents). (found ≡ None)
+      ↔ AgreesFreely w l before step reply after (predict_step_amply l s cpu step)) ready j.none)
+      (each w l before legal cpu reply after usable begins is step own asks)
+
 pub found_where : FoundWhere
-found_where w l before legal cpu step reply after found usable begins own is asks j =
-    let ready = j.from.is asks in
-    both-ways
-    (subst
-    (λ (s : Contents). (found ≡ None)
-    ↔ AgreesFreely w l before step reply after (predict_step_amply l s cpu step)) ready j.none)
-    (each w l before legal cpu reply after usable begins is step own asks)
+found_where w l before legal cpu step reply after found usable low begins own is j =
+    by-asked w l before legal cpu step reply after found usable low begins own is j (asks_pool step) refl
 
 pub no_false_alarm : NoFalseAlarm
-no_false_alarm w l s t c before after found usable legal steps stored begins ends asks j =
+no_false_alarm w l s t c before after found usable low legal steps stored begins ends j =
     let own = steps_judged l s t c before after legal steps stored begins ends in
     let amply = ample_steps l s t c steps stored in
     let touch = steps-touch l s.contents t.contents c.cpu c.step c.reply amply in
     let here : Touches c.step c.reply after =
     λ p e done. ap (λ (u : Contents). is_unmapped (u.shared.host.map p)) (sym ends) ∙ touch p e done in
-    (found_where w l before s.contents c.cpu c.step c.reply after found usable (viewed w l before s.contents begins)
-    (λ r. begins) (any-trees l s.contents legal) asks j).1
+    (found_where w l before s.contents c.cpu c.step c.reply after found usable low (viewed w l before s.contents begins)
+    (λ r. begins) (any-trees l s.contents legal) j).1
     (more_lets_through w l before c.cpu c.step c.reply after here own)

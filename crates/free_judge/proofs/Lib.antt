@@ -3,7 +3,16 @@ pub mod Amply
 pub mod Rooms
 pub mod Views
 pub mod Aborted
-pub mod Judged
 pub mod Lows
+pub mod PoolFrames
+pub mod PoolStates
 pub mod Ready
 pub mod OneAnswer
+pub mod Halves
+pub mod RowsPool
+pub mod PoolStands
+pub mod PoolSteps
+pub mod TreeBlocks
+pub mod Tabled
+pub mod PoolReclaims
+pub mod Judged

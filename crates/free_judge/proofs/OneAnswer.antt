@@ -1,11 +1,12 @@
--- A judgement up to the freedoms has one answer, from each state from which the model steps.
+-- A judgement up to the freedoms has one answer, and the model steps from one state.
 use Rattle.std.proofs.Common.{◌≡◌, ℕ, refl, sym, ap, subst, ◌∙◌, inl, inr}
-use Rattle.std.specs.Prelude.{◌⊎◌, ◌↔◌, true, false, Option, Some, None, IfSome}
+use Rattle.std.specs.Prelude.{◌⊎◌, ◌↔◌, Bool, true, false, Option, Some, None, IfSome, IsTrue}
 use Rattle.call_table.specs.declared.reply.Reply.{Reply}
 use Rattle.call_table.specs.declared.reply.Reply.TheVariants.{Done, Refused}
 use Rattle.call_table.specs.declared.step.Step.{Step}
 use Rattle.call_table.specs.declared.step.Step.TheVariants.{HostAbort}
 use Rattle.page_state.specs.declared.entry.Entry.TheVariants.{Unmapped}
+use Rattle.page_state.proofs.Common.{same-tests}
 use Rattle.page_state.specs.Layouts.{Layout}
 use Rattle.reference_model.specs.model.State.{Contents}
 use Rattle.freedoms.specs.declared.Freedoms.{Freedoms}
@@ -13,11 +14,12 @@ use Rattle.freedoms.specs.Ample.{IsWant, WantsAnyMemory, is_done, predict_step_a
 use Rattle.freedoms.specs.Freedoms.{CountsAs, view}
 use Rattle.freedoms.specs.OwnTables.{OwnTables}
 use Rattle.ghost_judge.specs.declared.disagreement.Disagreement.{Disagreement}
-use Rattle.ghost_judge.specs.declared.disagreement.Disagreement.TheVariants.{Map as MapDiffers, Owner as OwnerDiffers, Reply as ReplyDiffers, Free, GuestFree, Vm, Cpu}
+use Rattle.ghost_judge.specs.declared.disagreement.Disagreement.TheVariants.{Map as MapDiffers, Owner as OwnerDiffers, Reply as ReplyDiffers, SharedPart, GuestPart, Vm, Cpu}
 use Rattle.ghost_judge.specs.declared.disagreement.TreeOf.TheVariants.{Host}
 use Rattle.ghost_judge.proofs.OneAnswer.{state_else, state_once}
-use Rattle.free_judge.specs.Freely.{page_touched, AgreesBy, AgreesFreely, IsFirstBy, IsFirstSeen, IsOtherReply, IsUntouchedBy}
-use Rattle.free_judge.specs.Laws.{FirstElse, FirstOnce, JudgedFreelyOnce, JudgedFromOnce, PredictedFreelyOnce, ReadyOnce}
+use Rattle.free_judge.specs.Freely.{page_touched, stepped_from, AgreesBy, AgreesFreely, IsFirstBy, IsFirstSeen, IsOtherReply, IsUntouchedBy}
+use Rattle.free_judge.specs.Laws.{FirstElse, FirstOnce, JudgedFreelyOnce, PredictedFreelyOnce, ReadyOnce}
+use Rattle.free_judge.specs.PoolByRows.{asked_slot, frame_named, with_rows_pool, IsAskedOf}
 
 -- a made call isn't a lack of memory
 no_want : (reply : Reply) → is_done reply ≡ true → IsWant reply → ⊥
@@ -70,8 +72,8 @@ module _ (w : Freedoms) (step : Step) (reply told : Reply) (before after wanted 
   parted (MapDiffers at an ax ay) h = inr h
   parted (OwnerDiffers an ax ay) h = inr h
   parted (ReplyDiffers ar aq) h = inl (ar, aq, refl, h)
-  parted Free h = inr h
-  parted (GuestFree av) h = inr h
+  parted (SharedPart aq) h = inr h
+  parted (GuestPart av aq) h = inr h
   parted (Vm av) h = inr h
   parted (Cpu av) h = inr h
 
@@ -135,8 +137,23 @@ first_else w step reply told before after wanted post d a h =
 
 -- judgements and predictions
 
+held-once : {X : Type 0} (a b : Bool) → IsTrue a ↔ X → IsTrue b ↔ X → a ≡ b
+held-once a b h k = same-tests a b (λ t. k.1 (h.0 t)) (λ t. h.1 (k.0 t))
+
+asked-once : (w : Freedoms) (l : Layout) (seen : Contents) (slot : Option ℕ) (step : Step) (reply : Reply)
+    (r s : Contents)
+    → IsAskedOf w l seen slot step reply r
+    → IsAskedOf w l seen slot step reply s
+    → r ≡ s
+asked-once w l seen None step reply r s h k = h ∙ sym k
+asked-once w l seen (Some v) step reply r s h k =
+    h.ready_is
+    ∙ ap (λ b. with_rows_pool l v (frame_named step reply) b seen) (held-once h.held k.held h.held_is k.held_is)
+    ∙ sym k.ready_is
+
 pub ready_once : ReadyOnce
-ready_once w l before step r s asks h k = h.is asks ∙ sym (k.is asks)
+ready_once w l before cpu step reply r s h k =
+    asked-once w l (stepped_from w l before step) (asked_slot (before.cpu cpu) step) step reply r s h k
 
 module _ (w : Freedoms) (l : Layout) (before : Contents) (cpu : ℕ) (step : Step) (reply : Reply)
     (after : Contents) where
@@ -161,20 +178,16 @@ module _ (w : Freedoms) (l : Layout) (before : Contents) (cpu : ℕ) (step : Ste
       (first_once w step reply (predict_step_amply l r cpu step).0 (view w l before)
       (view w l after) (view w l (predict_step_amply l r cpu step).1) after d e hf hg)
 
-pub from_ready_once : JudgedFromOnce
-from_ready_once w l before cpu step reply after f g a b same =
+pub judged_freely_once : JudgedFreelyOnce
+judged_freely_once w l before cpu step reply after f g a b =
+    let same = ready_once w l before cpu step reply a.ready b.ready a.from b.from in
     from_once w l before cpu step reply after b.ready f g
     (subst (λ r. NoneFrom w l before cpu step reply after r f) same a.none)
     (subst (λ r. FirstFrom w l before cpu step reply after r f) same a.first) b.none b.first
 
-pub judged_freely_once : JudgedFreelyOnce
-judged_freely_once w l before cpu step reply after f g asks a b =
-    from_ready_once w l before cpu step reply after f g a b
-    (ready_once w l before step a.ready b.ready asks a.from b.from)
-
 pub predicted_freely_once : PredictedFreelyOnce
-predicted_freely_once w l before cpu step r s a b asks h k =
-    let same = ready_once w l before step h.ready k.ready asks h.from k.from in (
+predicted_freely_once w l before cpu step said r s a b h k =
+    let same = ready_once w l before cpu step said h.ready k.ready h.from k.from in (
       h.reply_is ∙ ap (λ (x : Contents). (predict_step_amply l x cpu step).0) same ∙ sym k.reply_is,
       subst (λ (x : Contents). OwnTables a (predict_step_amply l x cpu step).1) same h.contents_are
           ∙ sym k.contents_are,

@@ -9,7 +9,7 @@ use Rattle.page_state.specs.EntryTests.{is_unmapped}
 use Rattle.page_state.specs.Layouts.{Layout}
 use Rattle.reference_model.specs.model.State.{Contents}
 use Rattle.freedoms.specs.declared.Freedoms.{Freedoms}
-use Rattle.freedoms.specs.Ample.{WantsAnyMemory, asks_pool, predict_step_amply}
+use Rattle.freedoms.specs.Ample.{WantsAnyMemory, predict_step_amply}
 use Rattle.freedoms.specs.Freedoms.{CountsAs, Touches, is_read, view}
 use Rattle.freedoms.specs.OwnTables.{OwnTables, without_tables}
 use Rattle.freedoms.specs.Seen.{AgreesSeen}
@@ -19,25 +19,25 @@ use Rattle.ghost_judge.specs.declared.disagreement.TreeOf.TheVariants.{Host}
 use Rattle.ghost_judge.specs.Judgements.{IsFirstOfState}
 use Rattle.ghost_spec.specs.declared.lists.GhostLists.{GhostLists}
 use Rattle.ghost_spec.specs.States.{contents_in}
+use Rattle.free_judge.specs.PoolByRows.{asked_slot, IsAskedOf}
 
 -- the state by which a step is judged: the state before, as far as the freedoms fix it; for a step
 -- that only reads, the state itself without tables and free frames
 abbrev pub stepped_from : Freedoms → Layout → Contents → Step → Contents
 stepped_from w l before step = if is_read step then without_tables before else view w l before
 
--- the state from which the model steps; if the step reads a guest's pool, the guest's tables and
--- free frames are chosen
-pub record IsReady (w : Freedoms) (l : Layout) (before : Contents) (step : Step)
-    (ready : Contents) : Type 0 where
-  pub alike : OwnTables ready (stepped_from w l before step)
-  pub is : asks_pool step ≡ false → ready ≡ stepped_from w l before step
+-- the state from which the model steps: that one, in which the guest whose pool a step asks has the
+-- pool of its rows
+abbrev pub IsReady : Freedoms → Layout → Contents → ℕ → Step → Reply → Contents → Type 0
+IsReady w l before cpu step reply ready =
+    IsAskedOf w l (stepped_from w l before step) (asked_slot (before.cpu cpu) step) step reply ready
 
 -- the reply and the state after it, apart from tables and free frames, are the model's for such a
--- state
+-- state; `said` is the reply that is judged
 pub record IsPredictedFreely (w : Freedoms) (l : Layout) (before : Contents) (cpu : ℕ) (step : Step)
-    (reply : Reply) (after : Contents) : Type 0 where
+    (said reply : Reply) (after : Contents) : Type 0 where
   pub ready : Contents
-  pub from : IsReady w l before step ready
+  pub from : IsReady w l before cpu step said ready
   pub reply_is : reply ≡ (predict_step_amply l ready cpu step).0
   pub contents_are : OwnTables after (predict_step_amply l ready cpu step).1
 
@@ -129,7 +129,7 @@ IsFirstIn w step reply told before after wanted post =
 pub record IsJudgedFreely (w : Freedoms) (l : Layout) (before : Contents) (cpu : ℕ) (step : Step)
     (reply : Reply) (after : Contents) (found : Option Disagreement) : Type 0 where
   pub ready : Contents
-  pub from : IsReady w l before step ready
+  pub from : IsReady w l before cpu step reply ready
   pub none : (found ≡ None)
       ↔ AgreesFreely w l before step reply after (predict_step_amply l ready cpu step)
   pub first : IfSome found

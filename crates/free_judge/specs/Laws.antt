@@ -1,12 +1,12 @@
 -- Laws of a judgement up to the freedoms: on legal states and on steps of the model, and that it
 -- has one answer.
-use Rattle.std.specs.Prelude.{◌≡◌, ◌≢◌, ◌↔◌, ℕ, false, true, Option, None}
+use Rattle.std.specs.Prelude.{◌≡◌, ◌≢◌, ◌↔◌, ◌<◌, ℕ, true, Option, None}
 use Rattle.call_table.specs.declared.reply.Call.{Call}
 use Rattle.call_table.specs.declared.reply.Refusal.TheVariants.{LogFull}
 use Rattle.call_table.specs.declared.reply.Reply.{Reply}
 use Rattle.call_table.specs.declared.reply.Reply.TheVariants.{Refused}
 use Rattle.call_table.specs.declared.step.Step.{Step}
-use Rattle.page_state.specs.Layouts.{Layout}
+use Rattle.page_state.specs.Layouts.{Layout, is_memory}
 use Rattle.reference_model.specs.help.Conditions.{IsUsable, Legal}
 use Rattle.reference_model.specs.model.State.{Contents, Reference}
 use Rattle.reference_model.specs.model.Step.{Steps}
@@ -18,17 +18,22 @@ use Rattle.freedoms.specs.OwnTables.{OwnTables}
 use Rattle.ghost_judge.specs.declared.disagreement.Disagreement.{Disagreement}
 use Rattle.free_judge.specs.Freely.{AgreesBy, IsFirstBy, IsJudgedFreely, IsPredictedFreely, IsReady}
 
+-- memory lies below page 2^26
+abbrev pub HasLowMemory : Layout → Type 0
+HasLowMemory l = (f : ℕ) → is_memory l f ≡ true → f < 67108864
+
 -- if some legal state is like the one before, nothing is found if and only if the call is judged to
--- agree. A read is from the state itself
+-- agree. A read is from the state itself; a step that reads a guest's pool is of a layout whose
+-- memory lies below page 2^26
 abbrev pub FoundWhere : Type 0
 FoundWhere =
     (w : Freedoms) (l : Layout) (before legal : Contents) (cpu : ℕ) (step : Step) (reply : Reply)
     (after : Contents) (found : Option Disagreement)
     → IsUsable l
+    → (asks_pool step ≡ true → HasLowMemory l)
     → Alike w l before legal
     → (is_read step ≡ true → OwnTables before legal)
     → LegalInAnyTrees l legal
-    → asks_pool step ≡ false
     → IsJudgedFreely w l before cpu step reply after found
     → (found ≡ None) ↔ JudgedWith w l before cpu step reply after
 
@@ -39,12 +44,12 @@ NoFalseAlarm =
     (w : Freedoms) (l : Layout) (s t : Reference) (c : Call) (before after : Contents)
     (found : Option Disagreement)
     → IsUsable l
+    → (asks_pool c.step ≡ true → HasLowMemory l)
     → Legal l s.contents
     → Steps l s c t
     → c.reply ≢ Refused LogFull
     → OwnTables before s.contents
     → OwnTables t.contents after
-    → asks_pool c.step ≡ false
     → IsJudgedFreely w l before c.cpu c.step c.reply after found → found ≡ None
 
 -- at most one disagreement is the first
@@ -65,41 +70,29 @@ FirstElse =
     → IsFirstBy w step reply told before after wanted post d
     → ⊥
 
--- the model steps from one state, unless the step reads a guest's pool
+-- the model steps from one state
 abbrev pub ReadyOnce : Type 0
 ReadyOnce =
-    (w : Freedoms) (l : Layout) (before : Contents) (step : Step) (r s : Contents)
-    → asks_pool step ≡ false
-    → IsReady w l before step r
-    → IsReady w l before step s
+    (w : Freedoms) (l : Layout) (before : Contents) (cpu : ℕ) (step : Step) (reply : Reply)
+    (r s : Contents)
+    → IsReady w l before cpu step reply r
+    → IsReady w l before cpu step reply s
     → r ≡ s
 
--- judgements by the model's step from one state have one answer
-abbrev pub JudgedFromOnce : Type 0
-JudgedFromOnce =
-    (w : Freedoms) (l : Layout) (before : Contents) (cpu : ℕ) (step : Step) (reply : Reply)
-    (after : Contents) (f g : Option Disagreement)
-    (a : IsJudgedFreely w l before cpu step reply after f)
-    (b : IsJudgedFreely w l before cpu step reply after g)
-    → a.ready ≡ b.ready
-    → f ≡ g
-
--- so has each judgement of a step that doesn't read a guest's pool
+-- a judgement has one answer
 abbrev pub JudgedFreelyOnce : Type 0
 JudgedFreelyOnce =
     (w : Freedoms) (l : Layout) (before : Contents) (cpu : ℕ) (step : Step) (reply : Reply)
     (after : Contents) (f g : Option Disagreement)
-    → asks_pool step ≡ false
     → IsJudgedFreely w l before cpu step reply after f
     → IsJudgedFreely w l before cpu step reply after g
     → f ≡ g
 
--- and each prediction of it, apart from tables and free frames
+-- and so has a prediction, apart from tables and free frames
 abbrev pub PredictedFreelyOnce : Type 0
 PredictedFreelyOnce =
-    (w : Freedoms) (l : Layout) (before : Contents) (cpu : ℕ) (step : Step) (r s : Reply)
+    (w : Freedoms) (l : Layout) (before : Contents) (cpu : ℕ) (step : Step) (said r s : Reply)
     (a b : Contents)
-    → asks_pool step ≡ false
-    → IsPredictedFreely w l before cpu step r a
-    → IsPredictedFreely w l before cpu step s b
+    → IsPredictedFreely w l before cpu step said r a
+    → IsPredictedFreely w l before cpu step said s b
     → (r ≡ s) × OwnTables a b

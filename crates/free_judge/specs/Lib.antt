@@ -1,3 +1,5 @@
+pub mod inner
 pub mod Asked
 pub mod Freely
 pub mod Laws
+pub mod PoolByRows

@@ -11,7 +11,7 @@ ghost use Rattle.free_judge.specs.Freely.{page_touched, AgreesIn, IsFirstIn, IsF
 use crate::ample::predict_amply;
 use crate::asked::asked;
 use crate::bare::without;
-use crate::same::{asks_pool, is_read, says, wants};
+use crate::same::{is_read, says, wants};
 use crate::view::viewed;
 use call_table::{Reply, Step};
 use freedoms::Freedoms;
@@ -130,7 +130,7 @@ fn ready(
 ) -> Result<Ghost, AllocError>
     requires cpu { cpu < pre.now.layout.config.cpus }
     ensures ready { IfOk result
-        (λ g. IsReady freedoms (layout_of pre.now.layout) (contents_in pre.now) step
+        (λ g. IsReady freedoms (layout_of pre.now.layout) (contents_in pre.now) cpu step reply
         (asked_of step (contents_in g))) }
     ensures cpu { IfOk result (λ g. (contents_in g).cpu ≡ (contents_in pre.now).cpu) }
     ensures layout { IfOk result (λ g. layout_of g.layout ≡ layout_of pre.now.layout) }
@@ -140,11 +140,8 @@ fn ready(
         return Ok(bare);
     }
     let seen = viewed(alloc, freedoms, &pre.lists().layout, pre)?;
-    if asks_pool(step) {
-        let asked = asked(alloc, seen, cpu, step, reply)?;
-        return Ok(asked);
-    }
-    Ok(seen)
+    let asked = asked(alloc, freedoms, seen, cpu, step, reply)?;
+    Ok(asked)
 }
 
 /// The model's reply to a step of a CPU in the view that the freedoms leave of a state, and the state after it, apart
@@ -162,7 +159,7 @@ pub fn predicted_freely(
     requires generation { HasNextGeneration ((contents_in pre.now).cpu cpu).ticket step }
     ensures told { IfOk result
         (λ r. IsPredictedFreely freedoms (layout_of pre.now.layout)
-        (contents_in pre.now) cpu step r.0 (contents_in r.1)) }
+        (contents_in pre.now) cpu step reply r.0 (contents_in r.1)) }
 {
     let ready = ready(alloc, freedoms, pre, cpu, step, reply)?;
     let told = predict_amply(alloc, &ready, cpu, step)?;
@@ -170,9 +167,10 @@ pub fn predicted_freely(
 }
 
 /// Judges a call of a CPU by the state before it, its reply and the state after it, up to the freedoms and the
-/// hypervisor's own tables and free frames: None if some states that differ from these only in that are a step of the
-/// model with such a reply. Else the first difference in the view that the freedoms leave. The layout is that of the
-/// state before. Logs are ignored. Err if the allocator refuses memory to the judge.
+/// hypervisor's own tables and free frames: None if the model's step from one state that differs from the state before
+/// only in that has such a reply, and leads to one that differs so from the state after. Else the first difference in the
+/// view that the freedoms leave. The layout is that of the state before. Logs are ignored. Err if the allocator refuses
+/// memory to the judge.
 pub fn judge_freely(
     alloc: Global,
     freedoms: Freedoms,

@@ -141,6 +141,8 @@ const OK: Reply = Reply::Done(Value::Nothing);
 
 const PERM: Reply = Reply::Refused(Refusal::Perm);
 
+const BUSY: Reply = Reply::Refused(Refusal::Busy);
+
 const NO_MEMORY: Reply = Reply::Refused(Refusal::NoMemory);
 
 const NO_POOL: Reply = Reply::Refused(Refusal::NoPool);
@@ -263,6 +265,14 @@ fn frames_of_pools(rt: HostRuntime) -> Result<(), Fail> {
     let early = "0 vcpu_put\n0 teardown 0.1\n0 mark_dying\n0 reclaim_pool 0.1\n";
     let d = told(&rt, alloc, TABLES, early, Change::Says(PERM));
     assert_eq!(rt; d.as_str(), "");
+    // all frames but the root may be tables, and any refusal then counts as the model's
+    let d = told(&rt, alloc, ALL, early, Change::Says(BUSY));
+    assert_eq!(rt; d.as_str(), "");
+    let d = told(&rt, alloc, TABLES, early, Change::Says(BUSY));
+    assert_eq!(rt;
+        d.as_str(),
+        "disagree reply said busy spec ok frame 0x40201"
+    );
     let last = ended(
         &rt,
         alloc,

@@ -11,6 +11,7 @@ pub mod Reclaims
 pub mod More
 pub mod Views
 pub mod ViewRows
+pub mod Replaced
 pub mod ByRows
 pub mod Aborts
 pub mod Seen

@@ -78,7 +78,7 @@ module _ (w : Freedoms) (l : Layout) (before s : Contents) (cpu : ℕ) (step : S
       used-self (record { cpu = cpu; number = 0; step = step; reply = reply; slot = slot_at })
       (record { contents = s; rooms = all_rooms 0 })
 
-  pub Agrees : Reply × Contents → Type 0
+  unfoldable pub Agrees : Reply × Contents → Type 0
   Agrees told = AgreesSeen w l before step reply after told
 
   says-so : (a b : Reply) → a ≡ b → CountsAs w a reply → CountsAs w b reply

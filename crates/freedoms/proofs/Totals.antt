@@ -1,6 +1,6 @@
 -- How many frames a guest holds, by the conditions: whatever its tables are, as many as the rows say.
 use Rattle.std.proofs.Common.{◌≡◌, ℕ, zero, suc, ◌+◌, ◌-◌, ◌≤◌, ◌<◌, refl, ap, sym, ◌∙◌, arith, inl, inr, [], ◌∷◌, length}
-use Rattle.std.specs.Prelude.{false, ◌==◌, is_some, Option, Some, None}
+use Rattle.std.specs.Prelude.{false, ◌&&◌, ◌==◌, is_some, Option, Some, None}
 use Rattle.std.proofs.lemmas.Bool.Decides.{nat_tests}
 use mathlib.Core.Path.{fun_ext}
 use Rattle.page_state.proofs.Common.{both, eq-self}
@@ -157,18 +157,22 @@ pub out-vm : (v : ℕ) (c : Condition) → is_inside c ≡ false → in_vm v c �
 out-vm v outside h = refl
 out-vm v c h = cc
 
+pub vm-tells : (l : Layout) (s : Contents) (legal : LegalInAnyTrees l s) (v f : ℕ)
+    → in_vm v (legal.state.frames.condition f) ≡ (is_memory l f && is_pool_of v (s.shared.row f).usage)
+vm-tells l s legal v f = elim (both (is_memory l f)) [
+  | inl m ↦ vm-row v f (legal.state.frames.condition f)
+      ∙ ap (λ (r : Row). is_pool_of v r.usage) (sym (legal.state.frames.rows f m))
+      ∙ sym (ap (λ b. b && is_pool_of v (s.shared.row f).usage) m)
+  | inr m ↦ out-vm v (legal.state.frames.condition f) (legal.state.frames.of_layout.inside f ∙ m)
+      ∙ sym (ap (λ b. b && is_pool_of v (s.shared.row f).usage) m)
+]
+
 pub vm-same : (l : Layout) (s t : Contents) (a : LegalInAnyTrees l s) (b : LegalInAnyTrees l t)
     → s.shared.row ≡ t.shared.row
     → (v f : ℕ)
     → in_vm v (a.state.frames.condition f) ≡ in_vm v (b.state.frames.condition f)
-vm-same l s t a b rows v f = elim (both (is_memory l f)) [
-  | inl m ↦ vm-row v f (a.state.frames.condition f)
-      ∙ ap (λ (r : Row). is_pool_of v r.usage)
-      (sym (a.state.frames.rows f m) ∙ ap (λ (r : ℕ → Row). r f) rows ∙ b.state.frames.rows f m)
-      ∙ sym (vm-row v f (b.state.frames.condition f))
-  | inr m ↦ out-vm v (a.state.frames.condition f) (a.state.frames.of_layout.inside f ∙ m)
-      ∙ sym (out-vm v (b.state.frames.condition f) (b.state.frames.of_layout.inside f ∙ m))
-]
+vm-same l s t a b rows v f =
+    vm-tells l s a v f ∙ ap (λ (r : ℕ → Row). is_memory l f && is_pool_of v (r f).usage) rows ∙ sym (vm-tells l t b v f)
 
 -- so two legal states with the same rows hold as many
 pub total-same : (l : Layout) (s t : Contents)

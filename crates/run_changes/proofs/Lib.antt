@@ -1,2 +1,2 @@
 pub mod Pieces
-pub mod Until
+pub mod GoesOn

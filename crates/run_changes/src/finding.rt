@@ -60,7 +60,7 @@ fn begun<V: Advance>(runs: &[Run<V>], page: u64) -> usize
 }
 
 /// A later page: up to there the map goes on as it does at the page.
-fn until<V: Advance>(runs: &[Run<V>], page: u64) -> u64
+pub fn until<V: Advance>(runs: &[Run<V>], page: u64) -> u64
     requires coarsest { IsCoarsest V.advance runs.now }
     requires reach { AreInReach V.CanAdvance runs.now }
     requires low { page < 2 ^ 63 }

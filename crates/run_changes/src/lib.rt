@@ -5,4 +5,4 @@ mod change;
 mod finding;
 
 pub use change::Change;
-pub use finding::changes;
+pub use finding::{changes, until};

@@ -21,7 +21,7 @@ returns c =
     record {
       told = told-freely c.args.freedoms (layout_of c.args.pre.now.layout)
           (layout_of c.in_ok-ready.ready.layout) (contents_in c.args.pre.now)
-          (contents_in c.in_ok-ready.ready) c.args.cpu c.args.step c.in_ok-told.told.0
+          (contents_in c.in_ok-ready.ready) c.args.cpu c.args.step c.args.reply c.in_ok-told.told.0
           (contents_in c.in_ok-told.told.1) c.in_ok-ready.ensures.layout c.in_ok-ready.ensures.ready
           c.in_ok-told.ensures.told;
     }

@@ -1,7 +1,7 @@
 use Rattle.std.proofs.Common.{◌≤◌, ◌<◌, ◌-◌, length, arith}
 use Rattle.run_list.specs.Runs.{run_end}
 use Rattle.run_list.proofs.Found.{begun_read, reach_read}
-use Rattle.run_changes.proofs.Until.{goes_inside, reach_inside, goes_outside, reach_outside, none_first, none_past}
+use Rattle.run_changes.proofs.GoesOn.{goes_inside, reach_inside, goes_outside, reach_outside, none_first, none_past}
 use Rattle.run_changes.proofs.finding.until.Goals as goal
 
 pub returns-then-place-eq0-clause-above : goal.returns-then-place-eq0-clause-above
