@@ -118,6 +118,56 @@ enum {
  *   PKVM_NO_LEVEL     and `out` stays */
 int32_t pkvm_decode(uint64_t level, uint64_t word, struct pkvm_word *out);
 
+/* By whose rules the words of a tree are written: 0 the model's own; else one of the first two, and
+ * added to it PKVM_FWB (of the host and of guests), PKVM_HVHE (of the hypervisor) and PKVM_LPA2. */
+enum {
+	PKVM_MODEL = 0,
+	PKVM_LINUX_6_12 = 1,
+	PKVM_LINUX_7_3 = 2,
+	PKVM_FWB = 16,	/* stage 2 forces memory attributes (HCR_EL2.FWB) */
+	PKVM_HVHE = 32, /* EL2 runs with HCR_EL2.E2H set */
+	PKVM_LPA2 = 64	/* addresses of 52 bits (VTCR_EL2.DS, TCR_EL2.DS) */
+};
+
+/* Who alone may execute, and memory that struct pkvm_word says as PKVM_NORMAL. */
+enum { PKVM_EL0_ALONE = 1, PKVM_ABOVE_EL0_ALONE = 2 };
+enum { PKVM_UNCACHED = 1, PKVM_AS_STAGE_1 = 2 };
+
+/* What a word says that struct pkvm_word has no place for. What isn't said is 0. */
+struct pkvm_beyond {
+	uint64_t has_guest, handle, guest_page; /* an annotation names a guest, and its page */
+	uint64_t is_poisoned;			/* the page was taken from its guest by force */
+	uint64_t is_locked;			/* the entry is being changed */
+	uint64_t is_cleared;	/* a leaf's valid bit was cleared; what else is said is of it */
+	uint64_t is_unreadable; /* of a leaf that refuses reads */
+	uint64_t is_guarded;	/* of a leaf: branches must land on landing pads (BTI) */
+	uint64_t is_aged;	/* of a leaf whose access flag is clear */
+	uint64_t is_stateless;	/* of a leaf whose word says no state */
+	uint64_t alone;		/* of a leaf: PKVM_EL0_ALONE .. */
+	uint64_t memory;	/* of a leaf: PKVM_UNCACHED .. */
+	struct pkvm_word leaf;	/* one that was cleared or is unreadable; rights without 4 refuse
+				   reads, and `state` is 0 where its word says none */
+};
+
+/* What a word of a table says by a profile: for pkvm_audit, and beyond that.
+ *
+ *   tree       whose table it is: PKVM_HOST, PKVM_HYP, else a guest's
+ *   profile    PKVM_MODEL, as pkvm_decode; or of Linux: PKVM_LINUX_6_12 .. and what is added
+ *   level      the table's, by the architecture's number: 0 to 3
+ *   word       the 64 bits
+ *   out        written: what it says, as pkvm_decode does. PKVM_UNMAPPED also of a word that is
+ *              poisoned, locked or cleared; PKVM_MALFORMED of an unreadable leaf; PKVM_OWNED of one
+ *              without a state. An annotation that names a guest by its handle has the owner
+ *              PKVM_GUEST + handle - 0x1000; below 0x1000 it is PKVM_MALFORMED
+ *   beyond     written: what it says beyond that
+ *
+ * Answers:
+ *   0                  both are written
+ *   PKVM_NO_LEVEL      in this and the next both stay
+ *   PKVM_BAD_NUMBER    the tree has no such profile */
+int32_t pkvm_decode_as(uint64_t tree, uint64_t profile, uint64_t level, uint64_t word,
+		       struct pkvm_word *out, struct pkvm_beyond *beyond);
+
 /* The one word of a table that says this.
  *
  *   level    0 to 3
@@ -305,7 +355,7 @@ enum {
 	PKVM_FAULT_PAGE_TWICE = 16,  /* two pages have one frame */
 	PKVM_FAULT_ROOT_TREE = 17,   /* a root is of a tree that can't be */
 	PKVM_FAULT_ROOT_TWICE = 18,  /* a tree has two roots */
-	PKVM_FAULT_ROOT_PAGE = 19,   /* no page has the root's frame */
+	PKVM_FAULT_ROOT_PAGE = 19,   /* a frame of the root has no page */
 	PKVM_FAULT_LOOP = 20, /* a table is below itself; of this and the next two, `list` is the
 				 tree and `index` the frame */
 	PKVM_FAULT_TWO_LEVELS = 21,    /* a table is reached at two levels, in one tree or in two */
@@ -314,7 +364,15 @@ enum {
 	PKVM_FAULT_NOT_OWN_TABLES = 24, /* freedoms has another bit without PKVM_OWN_TABLES */
 	PKVM_FAULT_CPUS = 25,		/* the CPUs aren't 1 to 64; this and the next are of layouts
 					   that are to boot */
-	PKVM_FAULT_CARVE_SMALL = 26	/* the carve-out has fewer frames than boot needs tables */
+	PKVM_FAULT_CARVE_SMALL = 26,	/* the carve-out has fewer frames than boot needs tables */
+	PKVM_FAULT_ROOT_PROFILE =
+		27, /* a root's tree has no such profile. This and the next three are told of the
+		       first root that has one, the first in this order, after 18 and before 19 */
+	PKVM_FAULT_ROOT_LEVELS = 28, /* a root has over 4 levels */
+	PKVM_FAULT_ROOT_PAGES = 29,  /* a root has a number of pages that isn't 0, 1, 2, 4, 8 or 16,
+					or ends over frame 2^64 */
+	PKVM_FAULT_ROOT_SKIPS = 30   /* a range that is left out has no page, or ends over page
+					2^52 */
 };
 
 /* The lists of a state, and those of an audit, by number. */
@@ -615,15 +673,31 @@ struct pkvm_page {
 	size_t words_len; /* 512 */
 };
 
-/* The frame of a tree's root table. A tree without a root has no table, and maps nothing. */
+/* A range of pages. */
+struct pkvm_range {
+	uint64_t first, count;
+};
+
+/* The root of a tree. A tree without one has no table, and maps nothing. With 0 behind the frame it
+ * is one table of the model's own words, of as many levels as the layout's address_bits say. */
 struct pkvm_root {
 	uint64_t tree, frame;
+	uint64_t profile; /* of its words: PKVM_MODEL or PKVM_LINUX_6_12 .. */
+	uint64_t levels;  /* of tables, 1 to 4: the root's level is 4 less this. 0: 3 where
+			     address_bits is 39, 4 where it is 48 */
+	uint64_t pages;	  /* of the root, one after the other from `frame` on: 1, 2, 4, 8 or 16 that
+			     are concatenated. 0: 1 */
+	const struct pkvm_range *skips; /* pages that are left out: the tree maps nothing there */
+	size_t skips_len;
 };
 
 /* Compares a kept state with what the tables say. The library walks from the roots by frame
  * numbers, as hardware does: a table word leads on to the page of its frame, and where no page has
  * that frame the word is malformed. It finds the runs and the tables of each tree, and the owner
- * rows that follow from them and from the kept pools and hands.
+ * rows that follow from them and from the kept pools and hands. Words are read by the profile of
+ * their root, as pkvm_decode_as has them. Where a profile has no states (of Linux 7.3's host and
+ * hypervisor, of 6.12's guests), a leaf takes the state of the kept leaf of its page: so entries
+ * are compared in all but their states. Tables are compared where pages are left out too.
  *
  *   layout      what the hypervisor runs on
  *   kept        the state that it keeps

@@ -6,8 +6,8 @@ use Rattle.c_states.specs.declared.layout.PlainRegion.{PlainRegion}
 use Rattle.c_states.specs.Layouts.{layout_from_c, IsLayoutFault, IsTakenLayout}
 use Rattle.c_states.specs.States.{Lists}
 use Rattle.c_states.specs.Told.{in_pool_order, AreWellFormed}
-use Rattle.c_calls.specs.declared.boot.Unbooted.{Unbooted}
-use Rattle.c_calls.specs.declared.boot.Unbooted.TheVariants as unbooted
+use Rattle.c_calls.specs.declared.boot_state.Unbooted.{Unbooted}
+use Rattle.c_calls.specs.declared.boot_state.Unbooted.TheVariants as unbooted
 use Rattle.c_states.specs.States.{contents_from_c}
 
 -- 1 to 64 CPUs

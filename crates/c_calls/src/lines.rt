@@ -4,7 +4,7 @@ ghost use Rattle.c_calls.specs.Boots.{CanBootPlain, IsUnbooted};
 ghost use Rattle.c_calls.specs.Lines.{config_lines, end_lines, region_line, text_of_lines, text_of_start, IsLineOf, IsUnwritten};
 ghost use Rattle.c_calls.specs.Texts.{IsOffered};
 
-use crate::boot::{Unbooted, booted};
+use crate::boot_state::{Unbooted, booted};
 use crate::text::offered;
 use c_states::{PlainCall, PlainLayout, PlainRegion};
 use c_words::step_of;

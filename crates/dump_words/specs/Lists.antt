@@ -1,7 +1,8 @@
 -- What all words of a dump say together.
 use Rattle.std.specs.Borrow.{Bor}
 use Rattle.std.specs.Global.{Global}
-use Rattle.std.specs.Prelude.{◌≡◌, ℕ, ◌+◌, ◌-◌, ◌≤◌, ◌==◌, nat_lt, All, Vec, List, [], ◌∷◌, ◌++◌, find, length, map, Option, Some, None, Result, Ok, Err, if◌then◌else◌}
+use Rattle.std.specs.Prelude.{◌≡◌, ℕ, ◌+◌, ◌≤◌, ◌==◌, ◌&&◌, not, nat_lt, Bool, All, Vec, List, [], ◌∷◌, ◌++◌, find, length, map, Option, Some, None, Result, Ok, Err, if◌then◌else◌}
+use Rattle.std.specs.List.{list_any}
 use Rattle.table_words.specs.Profiles.{model_profile}
 use Rattle.table_words.specs.declared.profile.Profile.{Profile}
 use Rattle.image_trees.specs.declared.root.Root.{Root}
@@ -45,7 +46,7 @@ root_by profiles tree word =
     record {
       tree = tree;
       frame = word.frame;
-      depth = 3 - word.level;
+      depth = word.depth;
       count = word.pages;
       profile = profile_for profiles tree;
     }
@@ -55,6 +56,10 @@ abbrev pub roots_by : List (ℕ × Profile) → RootWord → RootWord → List (
 roots_by profiles host hyp guests =
     root_by profiles 0 host ∷ root_by profiles 1 hyp
     ∷ map (λ g. root_by profiles (g.0 + 2) g.1) guests
+
+-- a root of level -1 whose words have addresses of 48 bits
+abbrev pub is_narrow : Root → Bool
+is_narrow root = root.depth == 4 && not root.profile.lpa2
 
 -- what follows if a word was read, and the fault if it wasn't
 abbrev pub or_bad : {X Y : Type 0} → Option X → BadWord → (X → Result Y BadWord) → Result Y BadWord
@@ -69,7 +74,8 @@ given_by host hyp guests profiles skips =
     if nat_lt 64 (length guests) then Err bad.ManyGuests
     else or_bad (read_all guest_of guests) bad.Guest
     (λ roots. or_bad (read_all profile_of_word profiles) bad.Profile
-    (λ words. or_bad (read_all skip_of skips) bad.Skip (λ pages.
+    (λ words. if list_any is_narrow (roots_by words own other roots) then Err bad.Narrow
+    else or_bad (read_all skip_of skips) bad.Skip (λ pages.
     Ok (roots_by words own other roots, pages))))))
 
 -- it was read, or it says which kind is wrong, or memory was refused

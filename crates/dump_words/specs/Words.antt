@@ -1,12 +1,13 @@
 -- The words of the command that dumps an image. Frames and pages are numbers as a trace writes
 -- them, all else is decimal.
-use Rattle.std.specs.Prelude.{ℕ, ◌+◌, ◌<◌, ◌≤◌, ◌^◌, ◌==◌, ◌&&◌, ◌||◌, nat_le, nat_lt, Bool, true, false, List, length, take, drop, codes, position, Option, Some, None, if◌then◌else◌}
+use Rattle.std.specs.Prelude.{ℕ, ◌+◌, ◌-◌, ◌<◌, ◌≤◌, ◌^◌, ◌==◌, ◌&&◌, ◌||◌, nat_le, nat_lt, Bool, true, false, List, length, take, drop, codes, position, Option, Some, None, if◌then◌else◌}
 use Rattle.std.specs.Str.{bytes_eq}
 use Rattle.trace_words.specs.Numbers.{decimal_of, number_of}
 use Rattle.table_words.specs.Profiles.{guest_profile, host_profile, hypervisor_profile, model_profile}
 use Rattle.table_words.specs.declared.profile.Profile.{Profile}
 use Rattle.table_words.specs.declared.profile.Release.{Release}
 use Rattle.table_words.specs.declared.profile.Release.TheVariants.{V6, V7}
+use Rattle.walked_tables.specs.ByFrames.{most_pages}
 use Rattle.image_dump.specs.declared.skip.Skip.{Skip}
 use Rattle.dump_words.specs.declared.profiles.Forms.{Forms}
 use Rattle.dump_words.specs.declared.roots.RootWord.{RootWord}
@@ -24,18 +25,26 @@ or_else (Some x) other next = next x
 abbrev pub place_of : ℕ → List ℕ → Option ℕ
 place_of mark word = position (λ b. b == mark) word
 
--- a root of these numbers: of 1 to 16 pages below frame 2^40, at a level from 0 to 3
+-- the levels below a root of level -1 to 3
+abbrev pub depth_of : List ℕ → Option ℕ
+depth_of word =
+    if bytes_eq word (codes "-1") then Some 4
+    else from (decimal_of word) (λ level. if nat_lt 3 level then None else Some (3 - level))
+
+-- a root of these numbers: below frame 2^40, with at most 4 levels below it, and of 1 page or as
+-- many more as are concatenated at its level
 abbrev pub made_of : Option ℕ → Option ℕ → Option ℕ → Option RootWord
-made_of (Some frame) (Some level) (Some pages) =
-    if ((nat_lt 3 level || nat_lt pages 1) || nat_lt 16 pages) || nat_le (2 ^ 40) frame then None
-    else Some (record { frame = frame; level = level; pages = pages })
-made_of frame level pages = None
+made_of (Some frame) (Some depth) (Some pages) =
+    if ((nat_lt 4 depth || nat_lt pages 1) || nat_lt (most_pages depth) pages)
+    || nat_le (2 ^ 40) frame then None
+    else Some (record { frame = frame; depth = depth; pages = pages })
+made_of frame depth pages = None
 
 -- its numbers are small
 pub record IsLowRoot (root : RootWord) : Type 0 where
   pub frame : root.frame < 2 ^ 40
-  pub level : root.level ≤ 3
-  pub pages : root.pages ≤ 16
+  pub depth : root.depth ≤ 4
+  pub pages : root.pages ≤ most_pages root.depth
 
 abbrev pub IsLowGuest : ℕ × RootWord → Type 0
 IsLowGuest g = (g.0 ≤ 63) × IsLowRoot g.1
@@ -43,13 +52,13 @@ IsLowGuest g = (g.0 ≤ 63) × IsLowRoot g.1
 -- FRAME and LEVEL[:PAGES]
 abbrev pub below_frame : Option ℕ → List ℕ → Option RootWord
 below_frame frame rest =
-    or_else (place_of 58 rest) (made_of frame (decimal_of rest) (Some 1))
-    (λ at. made_of frame (decimal_of (take at rest)) (decimal_of (drop (at + 1) rest)))
+    or_else (place_of 58 rest) (made_of frame (depth_of rest) (Some 1))
+    (λ at. made_of frame (depth_of (take at rest)) (decimal_of (drop (at + 1) rest)))
 
 -- FRAME[:LEVEL[:PAGES]]
 abbrev pub root_of_word : List ℕ → Option RootWord
 root_of_word word =
-    or_else (place_of 58 word) (made_of (number_of word) (Some 0) (Some 1))
+    or_else (place_of 58 word) (made_of (number_of word) (Some 3) (Some 1))
     (λ at. below_frame (number_of (take at word)) (drop (at + 1) word))
 
 -- N=ROOT

@@ -1,6 +1,7 @@
 //! All words of a dump: its roots, and the pages that are skipped.
 ghost use Rattle.std.specs.Prelude.{◌≡◌, ◌≤◌, ◌<◌, ◌^◌, ◌+◌, ℕ, ◌∷◌, [], ◌++◌, All, IfOk, List, length, map, take};
-ghost use Rattle.dump_words.specs.Lists.{AreAllLow, AreRead, IsGiven, given_by, profile_for as profile_for_tree, read_all, root_by, roots_by, texts_in};
+ghost use Rattle.std.specs.List.{list_any};
+ghost use Rattle.dump_words.specs.Lists.{AreAllLow, AreRead, IsGiven, given_by, is_narrow, profile_for as profile_for_tree, read_all, root_by, roots_by, texts_in};
 ghost use Rattle.dump_words.specs.Words.{IsLowGuest, IsLowRoot, guest_of, profile_of_word, skip_of};
 ghost use Rattle.image_dump.specs.Dumped.{IsRoot};
 
@@ -25,9 +26,9 @@ pub struct Given {
 /// Of which kind a word isn't of its form: the first kind, in this order.
 #[derive(Clone, Copy, PartialEq, Eq, Debug, Error)]
 pub enum BadWord {
-    #[error("--host wants FRAME[:LEVEL[:PAGES]], a frame below 2^40, level 0 to 3, 1 to 16 pages")]
+    #[error("--host wants FRAME[:LEVEL[:PAGES]], a frame below 2^40, level -1 to 3, 1 to 16 pages, at level -1 one")]
     Host,
-    #[error("--hyp wants FRAME[:LEVEL[:PAGES]], a frame below 2^40, level 0 to 3, 1 to 16 pages")]
+    #[error("--hyp wants FRAME[:LEVEL[:PAGES]], a frame below 2^40, level -1 to 3, 1 to 16 pages, at level -1 one")]
     Hyp,
     #[error("there are at most 64 guests")]
     ManyGuests,
@@ -35,6 +36,8 @@ pub enum BadWord {
     Guest,
     #[error("--profile wants TREE=NAME, TREE host, hyp or a guest's number, NAME model, or 6.12 or 7.3, then -fwb or -hvhe or nothing, then -lpa2 or nothing")]
     Profile,
+    #[error("level -1 is only for a tree whose profile has -lpa2")]
+    Narrow,
     #[error("--skip wants TREE=FIRST-LAST, TREE host, hyp or a guest's number")]
     Skip,
 }
@@ -119,7 +122,7 @@ fn root(profiles: &[(u64, Profile)], tree: u64, word: RootWord) -> Root
     Root {
         tree,
         frame: word.frame,
-        depth: (3 - word.level) as u32,
+        depth: word.depth as u32,
         count: word.pages,
         profile: profile_for(profiles, tree),
     }
@@ -148,6 +151,15 @@ fn roots_in(
         roots.push(root(profiles, guest + 2, word))?;
     }
     Ok(roots)
+}
+
+/// Whether a root is of level -1 without addresses of 52 bits.
+fn has_narrow(roots: &[Root]) -> bool
+    ensures { result ≡ list_any is_narrow roots.now }
+{
+    roots
+        .iter()
+        .any(|root| root.depth == 4 && !root.profile.lpa2)
 }
 
 /// Reads all words of a dump. Without a profile a tree's words are the model's.
@@ -180,9 +192,12 @@ pub fn read_words(
     let Some(profiles) = profiles_in(alloc, profiles)? else {
         return Err(NotGiven::Bad(BadWord::Profile));
     };
+    let roots = roots_in(alloc, profiles.as_slice(), own, other, guests.as_slice())?;
+    if has_narrow(roots.as_slice()) {
+        return Err(NotGiven::Bad(BadWord::Narrow));
+    }
     let Some(skips) = skips_in(alloc, skips)? else {
         return Err(NotGiven::Bad(BadWord::Skip));
     };
-    let roots = roots_in(alloc, profiles.as_slice(), own, other, guests.as_slice())?;
     Ok(Given { roots, skips })
 }

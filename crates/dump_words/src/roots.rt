@@ -1,31 +1,52 @@
 //! Roots: `FRAME[:LEVEL[:PAGES]]`.
 ghost use Rattle.std.specs.Prelude.{◌≡◌, IfSome};
-ghost use Rattle.dump_words.specs.Words.{IsLowGuest, IsLowRoot, below_frame, guest_of, made_of, root_of_word};
+ghost use Rattle.walked_tables.specs.ByFrames.{most_pages as most_pages_of};
+ghost use Rattle.dump_words.specs.Words.{IsLowGuest, IsLowRoot, below_frame, depth_of, guest_of, made_of, root_of_word};
 
 use crate::cut::mark_at;
-use trace_words::{decimal, number};
+use trace_words::{decimal, is_name, number};
 
-/// A root: the frame of its first page, its level, and how many pages there are.
+/// A root: the frame of its first page, how many levels are below it, and how many pages there are.
 #[derive(Clone, Copy, PartialEq, Eq, Debug)]
 pub struct RootWord {
     pub frame: u64,
-    pub level: u64,
+    pub depth: u64,
     pub pages: u64,
 }
 
-/// A root of these numbers: of 1 to 16 pages below frame 2^40, at a level from 0 to 3.
-fn made(frame: Option<u64>, level: Option<u64>, pages: Option<u64>) -> Option<RootWord>
-    ensures is { result ≡ made_of frame level pages }
+/// How many levels are below a root of the level that a word says: -1 to 3.
+fn depth_word(word: &[u8]) -> Option<u64>
+    ensures { result ≡ depth_of word.now }
+{
+    if is_name(word, b"-1") {
+        return Some(4);
+    }
+    match decimal(word) {
+        Some(level) => if level > 3 { None } else { Some(3 - level) },
+        None => None,
+    }
+}
+
+/// How many pages a root may have: at level -1 none are concatenated.
+fn most_pages(depth: u64) -> u64
+    ensures { result ≡ most_pages_of depth }
+{
+    if depth < 4 { 16 } else { 1 }
+}
+
+/// A root of these numbers: below frame 2^40, with at most 4 levels below it, and of as many pages as such a root may have.
+fn made(frame: Option<u64>, depth: Option<u64>, pages: Option<u64>) -> Option<RootWord>
+    ensures is { result ≡ made_of frame depth pages }
     ensures low { IfSome result IsLowRoot }
 {
-    match (frame, level, pages) {
-        (Some(frame), Some(level), Some(pages)) => {
-            if level > 3 || pages < 1 || pages > 16 || frame >= 1 << 40 {
+    match (frame, depth, pages) {
+        (Some(frame), Some(depth), Some(pages)) => {
+            if depth > 4 || pages < 1 || pages > most_pages(depth) || frame >= 1 << 40 {
                 None
             } else {
                 Some(RootWord {
                     frame,
-                    level,
+                    depth,
                     pages,
                 })
             }
@@ -40,8 +61,8 @@ fn below(frame: Option<u64>, rest: &[u8]) -> Option<RootWord>
     ensures low { IfSome result IsLowRoot }
 {
     match mark_at(rest, b':') {
-        None => made(frame, decimal(rest), Some(1)),
-        Some(at) => made(frame, decimal(&rest[..at]), decimal(&rest[at + 1..])),
+        None => made(frame, depth_word(rest), Some(1)),
+        Some(at) => made(frame, depth_word(&rest[..at]), decimal(&rest[at + 1..])),
     }
 }
 
@@ -51,7 +72,7 @@ pub fn root_word(word: &[u8]) -> Option<RootWord>
     ensures low { IfSome result IsLowRoot }
 {
     match mark_at(word, b':') {
-        None => made(number(word), Some(0), Some(1)),
+        None => made(number(word), Some(3), Some(1)),
         Some(at) => below(number(&word[..at]), &word[at + 1..]),
     }
 }

@@ -8,19 +8,24 @@ use table_words::{Release, linux_host, linux_hypervisor};
 fn reads_words(rt: HostRuntime) -> Result<(), Fail> {
     let root = RootWord {
         frame: 0x40000,
-        level: 1,
+        depth: 2,
         pages: 8,
     };
     let plain = RootWord {
         frame: 0x40000,
-        level: 0,
+        depth: 3,
         pages: 1,
     };
+    let wide = RootWord { depth: 4, ..plain };
     assert!(&rt; root_word(b"0x40000:1:8") == Some(root), "a root");
     assert!(&rt; root_word(b"0x40000") == Some(plain), "a frame");
+    assert!(&rt; root_word(b"0x40000:-1") == Some(wide), "level -1");
     for word in [
         b"0x40000:4:1".as_slice(),
         b"0x40000:1:17",
+        b"0x40000:-1:2",
+        b"0x40000:-2",
+        b"0x40000:-",
         b"0x40000:1:8:",
         b"40000x",
         b":1",

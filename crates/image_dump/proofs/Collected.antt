@@ -6,7 +6,7 @@ use Rattle.std.specs.Io.KnownBytes.{Appends}
 use Rattle.std.specs.Option.{is_some}
 use Rattle.std.proofs.lemmas.List.{take_more}
 use Rattle.image_trees.specs.declared.records.Records.{Records}
-use Rattle.image_dump.specs.Stating.{hyp_root, is_stated, reported_root, AreRecords}
+use Rattle.image_dump.specs.Stating.{hyp_root, is_stated, reported_root, AreDenied, AreRecords}
 use Rattle.memory_image.specs.declared.segment.Segment.{Segment}
 use Rattle.image_trees.specs.declared.root.Root.{Root}
 use Rattle.image_findings.specs.declared.finding.Finding.{Finding}
@@ -19,6 +19,19 @@ use Rattle.image_dump.specs.Texts.{text_of_line}
 use Rattle.image_dump.specs.declared.collect.Collected.{Collected}
 use Rattle.image_dump.specs.declared.line.DumpLine.{DumpLine}
 use Rattle.image_dump.specs.declared.skip.Skip.{Skip}
+
+-- what follows in two parts
+pub in_two : {X : Type 0} (start first second mid next : List X)
+    → mid ≡ start ++ first
+    → next ≡ mid ++ second
+    → next ≡ start ++ (first ++ second)
+in_two start first second mid next e n = n ∙ (ap (λ z. z ++ second) e ∙ append_assoc start first second)
+
+-- a tree that isn't walked has nothing that is denied
+pub none_denied : (known : Option (List ℕ)) (segments : List Segment) (records : Option Records) (root : Root)
+    → AreDenied known segments records root [] []
+none_denied known segments None root = refl
+none_denied known segments (Some records) root = ((λ told all e. refl), (λ other. refl))
 
 pub append_nil : {X : Type 0} (xs : List X) → xs ++ [] ≡ xs
 append_nil [] = refl
@@ -65,9 +78,9 @@ fault_small (Err y) = omega arith
 module _ (known : Option (List ℕ)) (may_fail : ℕ → ℕ → Type 0) (segments : List Segment) (records : Option Records)
     (skips : List Skip) where
   found_more : (roots : List Root) (fs : List Found) (root : Root) (f : Found)
-      → AreFoundIn known may_fail segments records roots fs
-      → IsFoundIn known may_fail segments records root f
-      → AreFoundIn known may_fail segments records (roots ++ root ∷ []) (fs ++ f ∷ [])
+      → AreFoundIn known may_fail segments records skips roots fs
+      → IsFoundIn known may_fail segments records skips root f
+      → AreFoundIn known may_fail segments records skips (roots ++ root ∷ []) (fs ++ f ∷ [])
   found_more [] [] root f h k = (k, tt)
   found_more [] (g ∷ gs) root f h k = absurd h
   found_more (r ∷ rs) [] root f h k = absurd h
@@ -93,7 +106,7 @@ module _ (known : Option (List ℕ)) (may_fail : ℕ → ℕ → Type 0) (segmen
   more_collected roots i d start now next n r inside h a = record {
     trees = h.trees ++ a.found ∷ [];
     each =
-        subst (λ rs. AreFoundIn known may_fail segments records rs (h.trees ++ a.found ∷ []))
+        subst (λ rs. AreFoundIn known may_fail segments records skips rs (h.trees ++ a.found ∷ []))
         (sym (take_more roots i d inside))
         (found_more (take i roots) h.trees (get_or roots i d) a.found h.each a.found_in);
     lines_are =

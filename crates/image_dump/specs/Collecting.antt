@@ -9,7 +9,7 @@ use Rattle.image_trees.specs.declared.root.Tree.{Tree}
 use Rattle.image_trees.specs.declared.root.Unwalked.{Unwalked}
 use Rattle.image_findings.specs.Claims.{claim_of}
 use Rattle.image_findings.specs.Findings.{bad_word, clashes_of, mapped_in, met_in}
-use Rattle.image_findings.specs.Unborrowed.{unborrowed_of}
+use Rattle.image_findings.specs.Unborrowed.{unborrowed_of, unshared_of}
 use Rattle.image_findings.specs.declared.claim.Claim.{Claim}
 use Rattle.image_findings.specs.declared.finding.Finding.{Finding}
 use Rattle.image_dump.specs.Skips.{is_left}
@@ -18,13 +18,16 @@ use Rattle.image_dump.specs.declared.line.DumpLine.{DumpLine}
 use Rattle.image_dump.specs.declared.line.DumpLine.TheVariants as line
 use Rattle.image_dump.specs.declared.skip.Skip.{Skip}
 
--- a root, and the result of its walk: runs and tables, or why it wasn't walked
+-- a root, the result of its walk: runs and tables, or why it wasn't walked; and which of its frames
+-- records deny
 pub record Found : Type 0 where
   pub root : Root
   pub walked : Result (List (Run Said) × List Reached) Unwalked
+  pub denied : List Finding
 
-abbrev pub found_of : Root → Tree → Found
-found_of root tree = record { root = root; walked = Ok (tree.runs.items, tree.tables.items) }
+abbrev pub found_of : Root → Tree → List Finding → Found
+found_of root tree denied =
+    record { root = root; walked = Ok (tree.runs.items, tree.tables.items); denied = denied }
 
 -- the runs of the report
 abbrev pub runs_of : List Skip → Found → List (Run Said)
@@ -45,9 +48,9 @@ lines_by skips root (Err why) = line.Unwalked root.tree why ∷ []
 abbrev pub lines_of : List Skip → Found → List DumpLine
 lines_of skips f = lines_by skips f.root f.walked
 
--- its words that say nothing, or name tables that aren't there
+-- its words that say nothing, or name tables that aren't there, and its leaves that records deny
 abbrev pub words_of : List Skip → Found → List Finding
-words_of skips f = filter_map (bad_word f.root.tree) (runs_of skips f)
+words_of skips f = filter_map (bad_word f.root.tree) (runs_of skips f) ++ f.denied
 
 abbrev pub claims_of : List Skip → Found → List Claim
 claims_of skips f = filter_map (claim_of f.root.tree) (runs_of skips f)
@@ -59,10 +62,15 @@ pub record Grows (skips : List Skip) (f : Found) (before after : Collected) : Ty
   pub claims_are : after.claims.items ≡ before.claims.items ++ claims_of skips f
   pub tables_are : after.tables.items ≡ before.tables.items ++ tables_of f
 
--- what isn't sound by claims and tables; shared frames need borrowers if all words say states
+-- shares of which one side is missing
+abbrev pub halves_of : List Claim → List Finding
+halves_of claims =
+    filter_map (unborrowed_of claims) claims ++ filter_map (unshared_of claims) claims
+
+-- what isn't sound by claims and tables; shares need both sides if all words say states
 abbrev pub findings_by : Bool → List Claim → List Reached → List Finding
 findings_by states claims tables =
     ((clashes_of claims (length claims)
-    ++ (if states then filter_map (unborrowed_of claims) claims else []))
+    ++ (if states then halves_of claims else []))
     ++ mapped_in claims tables (length tables))
     ++ met_in tables (length tables)

@@ -1,20 +1,21 @@
 -- The dump of an image.
-use Rattle.std.specs.Prelude.{◌≡◌, ℕ, ◌+◌, ◌^◌, ◌≤◌, ◌<◌, ◌==◌, Bool, List, [], ◌∷◌, ◌++◌, All, length, map, Option, Result, Ok, Err, if◌then◌else◌}
+use Rattle.std.specs.Prelude.{◌≡◌, ℕ, ◌+◌, ◌^◌, ◌≤◌, ◌<◌, ◌==◌, Bool, List, [], ◌∷◌, ◌++◌, length, map, Option, Result, Ok, Err, if◌then◌else◌}
 use Rattle.std.specs.List.{list_all, flat_map}
 use Rattle.std.specs.Option.{is_some}
 use Rattle.std.specs.Io.KnownBytes.{Appends}
 use Rattle.memory_image.specs.declared.segment.Segment.{Segment}
 use Rattle.run_list.specs.declared.run.Run.{Run}
+use Rattle.walked_tables.specs.ByFrames.{most_pages}
 use Rattle.walked_tables.specs.declared.reached.Reached.{Reached}
 use Rattle.walked_tables.specs.declared.said.Said.{Said}
 use Rattle.image_trees.specs.Trees.{IsTreeOf}
 use Rattle.image_trees.specs.declared.records.Records.{Records}
-use Rattle.image_dump.specs.Stating.{hyp_root, reported_root, AreRecords, AreReported}
+use Rattle.image_dump.specs.Stating.{hyp_root, reported_root, AreDenied, AreRecords, AreReported}
 use Rattle.image_trees.specs.Unwalked.{IsFailed, IsUnwalked}
 use Rattle.image_trees.specs.declared.root.Root.{Root}
 use Rattle.image_trees.specs.declared.root.Unwalked.{Unwalked}
 use Rattle.image_findings.specs.declared.finding.Finding.{Finding}
-use Rattle.image_dump.specs.Collecting.{claims_of, findings_by, lines_of, tables_of, words_of, Found, Grows}
+use Rattle.image_dump.specs.Collecting.{claims_of, findings_by, lines_of, runs_of, tables_of, words_of, Found, Grows}
 use Rattle.image_dump.specs.Pictures.{picture_of}
 use Rattle.image_dump.specs.Texts.{text_of_line}
 use Rattle.image_dump.specs.declared.collect.Collected.{Collected}
@@ -30,8 +31,8 @@ use Rattle.image_dump.specs.declared.skip.Skip.{Skip}
 
 -- a root that can be walked
 pub record IsRoot (root : Root) : Type 0 where
-  pub depth : root.depth ≤ 3
-  pub few : root.count ≤ 16
+  pub depth : root.depth ≤ 4
+  pub few : root.count ≤ most_pages root.depth
   pub frames : root.frame + root.count < 2 ^ 64
 
 -- words of a root's tree say states, or records do
@@ -64,11 +65,14 @@ IsWalkOf known may_fail segments records root (Ok w) =
 IsWalkOf known may_fail segments records root (Err why) =
     IsUnwalked known may_fail segments root why
 
--- the result of a walk from a root, which the report gives as having states if records say them
+-- the result of a walk from a root, which the report gives as having states if records say them,
+-- and what they deny of it
 pub record IsFoundIn (known : Option (List ℕ)) (may_fail : ℕ → ℕ → Type 0)
-    (segments : List Segment) (records : Option Records) (root : Root) (f : Found) : Type 0 where
+    (segments : List Segment) (records : Option Records) (skips : List Skip) (root : Root)
+    (f : Found) : Type 0 where
   pub root_is : f.root ≡ reported_root (is_some records) root
   pub walk : IsWalkOf known may_fail segments records root f.walked
+  pub denied : AreDenied known segments records root (runs_of skips f) f.denied
 
 -- 1 for a tree that isn't walked
 abbrev pub fault_count : {X Y : Type 0} → Result X Y → ℕ
@@ -84,21 +88,22 @@ abbrev pub AreFoundIn : Option (List ℕ)
     → (ℕ → ℕ → Type 0)
     → List Segment
     → Option Records
+    → List Skip
     → List Root
     → List Found
     → Type 0
-AreFoundIn known may_fail segments records [] [] = Unit {0}
-AreFoundIn known may_fail segments records (root ∷ roots) (f ∷ fs) =
-    IsFoundIn known may_fail segments records root f
-    × AreFoundIn known may_fail segments records roots fs
-AreFoundIn known may_fail segments records roots trees = ⊥
+AreFoundIn known may_fail segments records skips [] [] = Unit {0}
+AreFoundIn known may_fail segments records skips (root ∷ roots) (f ∷ fs) =
+    IsFoundIn known may_fail segments records skips root f
+    × AreFoundIn known may_fail segments records skips roots fs
+AreFoundIn known may_fail segments records skips roots trees = ⊥
 
 -- a root was added, with a line of its own if it isn't walked
 pub record IsAdded (known : Option (List ℕ)) (may_fail : ℕ → ℕ → Type 0) (segments : List Segment)
     (records : Option Records) (root : Root) (skips : List Skip) (before after : Collected)
     (faults : ℕ) : Type 0 where
   pub found : Found
-  pub found_in : IsFoundIn known may_fail segments records root found
+  pub found_in : IsFoundIn known may_fail segments records skips root found
   pub grows : Grows skips found before after
   pub faults_are : faults ≡ fault_count found.walked
 
@@ -107,7 +112,7 @@ pub record AreCollected (known : Option (List ℕ)) (may_fail : ℕ → ℕ → 
     (segments : List Segment) (records : Option Records) (roots : List Root) (skips : List Skip)
     (before after : Collected) (faults : ℕ) : Type 0 where
   pub trees : List Found
-  pub each : AreFoundIn known may_fail segments records roots trees
+  pub each : AreFoundIn known may_fail segments records skips roots trees
   pub lines_are : after.lines.items ≡ before.lines.items ++ flat_map (lines_of skips) trees
   pub words_are : after.words.items ≡ before.words.items ++ flat_map (words_of skips) trees
   pub claims_are : after.claims.items ≡ before.claims.items ++ flat_map (claims_of skips) trees
@@ -139,7 +144,7 @@ pub record IsDumped (known : Option (List ℕ)) (may_fail : ℕ → ℕ → Type
   pub records : Option Records
   pub records_are : AreRecords known may_fail segments (hyp_root roots) vmemmap records
   pub trees : List Found
-  pub each : AreFoundIn known may_fail segments records roots trees
+  pub each : AreFoundIn known may_fail segments records skips roots trees
   pub written : Appends before after
       (text_by shape (report_of (is_some records) skips roots trees))
   pub outcome_is : outcome

@@ -6,7 +6,7 @@ use Rattle.run_list.specs.declared.run.Run.{Run}
 use Rattle.walked_tables.specs.declared.said.Said.{Said}
 use Rattle.image_findings.specs.declared.claim.Claim.{Claim}
 use Rattle.image_findings.specs.declared.finding.Finding.{Finding}
-use Rattle.image_findings.specs.declared.finding.Finding.TheVariants.{Malformed, NoTable, TwoOwners, TwoBorrowers, NoBorrower, MappedTable, MetTwice}
+use Rattle.image_findings.specs.declared.finding.Finding.TheVariants.{Malformed, NoTable, TwoOwners, TwoBorrowers, NoBorrower, Unshared, Denied, MappedTable, MetTwice}
 use Rattle.svg_elements.specs.Items.{text_of_filled, text_of_opening, text_of_patterns, text_of_titled, text_of_words}
 use Rattle.svg_elements.specs.declared.colours.Colour.{Colour}
 use Rattle.svg_elements.specs.declared.colours.Colour.TheVariants as colour
@@ -45,6 +45,8 @@ names_run tree page (NoTable other first count frame) = other == tree && first =
 names_run tree page (TwoOwners frame a b) = is_claim tree page a || is_claim tree page b
 names_run tree page (TwoBorrowers frame a b) = is_claim tree page a || is_claim tree page b
 names_run tree page (NoBorrower frame c) = is_claim tree page c
+names_run tree page (Unshared frame c) = is_claim tree page c
+names_run tree page (Denied frame c) = is_claim tree page c
 names_run tree page (MappedTable table c) = is_claim tree page c
 names_run tree page (MetTwice a b) = false
 
@@ -175,9 +177,10 @@ owners =
 -- the states of pages
 unfoldable pub states : List ℕ
 states =
-    entry 440 34 (look colour.Ice (paint.Lines colour.Black)) (codes "shared")
-    ++ entry 550 34 (look colour.Pale (paint.Lines colour.Orange)) (codes "borrowed")
-    ++ entry 670 34 (look colour.Pale (paint.Dots colour.Orange)) (codes "no known state")
+    entry 440 34 (look colour.Ice (paint.Lines colour.Black)) (codes "shared, in black")
+    ++ entry 590 34 (look colour.Pale (paint.Lines colour.Orange))
+    (codes "borrowed, in its tree's colour")
+    ++ entry 820 34 (look colour.Pale (paint.Dots colour.Orange)) (codes "no known state")
     ++ entry 12 54 (look colour.Pale (paint.Bars colour.Black)) (codes "a guest's, by its handle")
 
 -- all else

@@ -3,7 +3,7 @@ use Rattle.std.specs.Prelude.{◌≡◌, ℕ, List, [], ◌∷◌, map}
 use Rattle.std.specs.List.{flat_map}
 use Rattle.image_findings.specs.declared.finding.Finding.{Finding}
 use Rattle.image_dump.specs.Pictures.{shown, Shown}
-use Rattle.image_dump.specs.Pictures.Shown.{Filled, Block, Above, Words}
+use Rattle.image_dump.specs.Pictures.Shown.{Block, Words}
 use Rattle.image_dump.specs.Texts.{text_of_line}
 use Rattle.image_dump.specs.declared.line.DumpLine.{DumpLine}
 use Rattle.image_dump.specs.declared.line.DumpLine.TheVariants as line

@@ -1,10 +1,14 @@
 -- States that records of frames say, for trees whose words say none.
-use Rattle.std.specs.Prelude.{◌≡◌, ◌⊎◌, ℕ, ◌^◌, ◌≤◌, ◌==◌, ◌&&◌, nat_lt, not, Bool, true, false, find, Option, Some, None, if◌then◌else◌, List}
+use Rattle.std.specs.Prelude.{◌≡◌, ◌⊎◌, ℕ, ◌^◌, ◌≤◌, ◌==◌, ◌&&◌, nat_lt, not, Bool, true, false, find, Option, Some, None, if◌then◌else◌, List, []}
+use Rattle.std.specs.List.{filter_map}
+use Rattle.std.specs.Option.{ForSome}
+use Rattle.image_findings.specs.Findings.{denial_of}
+use Rattle.image_findings.specs.declared.finding.Finding.{Finding}
 use Rattle.memory_image.specs.declared.segment.Segment.{Segment}
 use Rattle.run_list.specs.declared.run.Run.{Run}
 use Rattle.walked_tables.specs.declared.reached.Reached.{Reached}
 use Rattle.walked_tables.specs.declared.said.Said.{Said}
-use Rattle.image_trees.specs.Records.{IsStated}
+use Rattle.image_trees.specs.Records.{denied_in, records_in, IsStated}
 use Rattle.image_trees.specs.Trees.{IsTreeOf}
 use Rattle.image_trees.specs.Unwalked.{IsUnwalked}
 use Rattle.image_trees.specs.declared.records.Records.{Records}
@@ -34,6 +38,25 @@ AreReported known segments None root walked runs = runs ≡ walked
 AreReported known segments (Some records) root walked runs =
     (is_stated true root ≡ true → IsStated known segments records root.tree walked runs)
     × (is_stated true root ≡ false → runs ≡ walked)
+
+-- the finding that a frame of a run is denied by its record
+abbrev pub denial_by : (ℕ → Option ℕ) → ℕ → Run Said → Option Finding
+denial_by record_of tree run = denial_of tree run (denied_in record_of tree run)
+
+-- those of the runs of the report
+abbrev pub AreDenied : Option (List ℕ)
+    → List Segment
+    → Option Records
+    → Root
+    → List (Run Said)
+    → List Finding
+    → Type 0
+AreDenied known segments None root runs found = found ≡ []
+AreDenied known segments (Some records) root runs found =
+    (is_stated true root ≡ true
+    → ForSome known
+    (λ all. found ≡ filter_map (denial_by (records_in all segments records) root.tree) runs))
+    × (is_stated true root ≡ false → found ≡ [])
 
 -- the hypervisor's root
 abbrev pub hyp_root : List Root → Option Root

@@ -1,5 +1,5 @@
 -- How lines are written: pages, frames and counts of pages in hexadecimal, all else in decimal.
-use Rattle.std.specs.Prelude.{ℕ, ◌-◌, ◌==◌, Bool, true, false, List, ◌++◌, codes, Option, Some, None, if◌then◌else◌}
+use Rattle.std.specs.Prelude.{ℕ, ◌-◌, ◌==◌, nat_lt, Bool, true, false, List, ◌++◌, codes, Option, Some, None, if◌then◌else◌}
 use Rattle.std.specs.Fmt.{decimal}
 use Rattle.descriptor.specs.declared.State.{State}
 use Rattle.descriptor.specs.declared.State.TheVariants.{Owned, SharedOwned, SharedBorrowed}
@@ -21,7 +21,7 @@ use Rattle.image_trees.specs.declared.root.Unwalked.{Unwalked}
 use Rattle.image_trees.specs.declared.root.Unwalked.TheVariants.{Rootless, Again, TooManyTables, Failed}
 use Rattle.image_findings.specs.declared.claim.Claim.{Claim}
 use Rattle.image_findings.specs.declared.finding.Finding.{Finding}
-use Rattle.image_findings.specs.declared.finding.Finding.TheVariants.{Malformed, NoTable, TwoOwners, TwoBorrowers, NoBorrower, MappedTable, MetTwice}
+use Rattle.image_findings.specs.declared.finding.Finding.TheVariants.{Malformed, NoTable, TwoOwners, TwoBorrowers, NoBorrower, Unshared, Denied, MappedTable, MetTwice}
 use Rattle.image_dump.specs.declared.line.DumpLine.{DumpLine}
 use Rattle.image_dump.specs.declared.line.DumpLine.TheVariants as line
 
@@ -97,14 +97,18 @@ text_of_claim c =
     if c.named then text_of_tree c.tree ++ codes " by host " ++ text_of_page c.page
     else text_of_tree c.tree ++ codes " " ++ text_of_page c.page
 
+-- the level of a table with as many levels below it
+abbrev pub text_of_level : ℕ → List ℕ
+text_of_level depth = if nat_lt depth 4 then decimal (3 - depth) else codes "-1"
+
 abbrev pub text_of_root : Root → List ℕ
 text_of_root r =
     text_of_tree r.tree ++ codes " root " ++ text_of_page r.frame ++ codes " level "
-    ++ decimal (3 - r.depth) ++ codes " pages " ++ decimal r.count
+    ++ text_of_level r.depth ++ codes " pages " ++ decimal r.count
 
 -- the level of a table, and its number among those of its level
 abbrev pub text_of_place : Reached → List ℕ
-text_of_place r = decimal (3 - r.depth) ++ codes ":" ++ text_of_page r.number
+text_of_place r = text_of_level r.depth ++ codes ":" ++ text_of_page r.number
 
 abbrev pub text_of_states : Bool → List ℕ
 text_of_states true = codes ""
@@ -133,6 +137,10 @@ text_of_finding (TwoBorrowers frame first second) =
     ++ codes " and " ++ text_of_claim second
 text_of_finding (NoBorrower frame claim) =
     codes "no-borrower " ++ text_of_page frame ++ codes " " ++ text_of_claim claim
+text_of_finding (Unshared frame claim) =
+    codes "unshared " ++ text_of_page frame ++ codes " " ++ text_of_claim claim
+text_of_finding (Denied frame claim) =
+    codes "denied " ++ text_of_page frame ++ codes " " ++ text_of_claim claim
 text_of_finding (MappedTable table claim) =
     codes "mapped-table " ++ text_of_page table.frame ++ codes " of " ++ text_of_tree table.tree
     ++ codes " " ++ text_of_claim claim

@@ -12,8 +12,8 @@ ghost use Rattle.image_dump.specs.Pictures.{picture_of};
 use crate::collect::{Collected, add_findings, add_line, add_tree, add_unsound};
 use crate::line::DumpLine;
 use crate::picture::picture;
-use crate::records::{records_of, reported_root, reported_runs};
-use crate::skip::Skip;
+use crate::records::{denied_findings, records_of, reported_root, reported_runs};
+use crate::skip::{Skip, left_runs};
 use image_trees::{Records, Root, Tree, Unwalked, walk_tree};
 use memory_image::{ImageBytes, Refused, Segment};
 use std::alloc::{AllocError, Global};
@@ -95,8 +95,17 @@ fn add_root<I: ImageBytes>(
     match walk_tree(alloc, image, segments, &root) {
         Ok(Tree { runs, tables }) => {
             let runs = reported_runs(alloc, image, segments, records, &root, runs)?;
-            let root = reported_root(records.is_some(), root);
-            add_tree(alloc, root, &Tree { runs, tables }, skips, all)?;
+            let told = reported_root(records.is_some(), root);
+            let left = left_runs(alloc, skips, told.tree, runs.as_slice())?;
+            let denied = denied_findings(alloc, image, segments, records, &root, left.as_slice())?;
+            add_tree(
+                alloc,
+                told,
+                &Tree { runs, tables },
+                skips,
+                denied.as_slice(),
+                all,
+            )?;
             Ok(0)
         }
         Err(Unwalked::Failed(refused)) => Err(NotDumped::Refused(refused)),

@@ -24,6 +24,25 @@ pub enum DumpLine {
     End { trees: u64, findings: u64 },
 }
 
+/// The level of a table with as many levels below it.
+#[derive(Clone, Copy)]
+struct Level(u64);
+
+impl fmt::Display for Level {
+    ghost use Rattle.image_dump.specs.Texts.{text_of_level};
+
+    ghost output = { λ level. Some (text_of_level level.0) };
+
+    fn fmt<W: fmt::Write>(&self, f: &mut fmt::Formatter<W>) -> fmt::Result {
+        if self.0 < 4 {
+            let level = 3 - self.0;
+            write!(f, "{level}")
+        } else {
+            f.write_str("-1")
+        }
+    }
+}
+
 /// A root: its tree, its place, and whether its words say states.
 #[derive(Clone, Copy)]
 struct RootText(Root);
@@ -36,7 +55,7 @@ impl fmt::Display for RootText {
     fn fmt<W: fmt::Write>(&self, f: &mut fmt::Formatter<W>) -> fmt::Result {
         let tree = TreeName(self.0.tree);
         let frame = self.0.frame;
-        let level = 3u32.saturating_sub(self.0.depth);
+        let level = Level(self.0.depth as u64);
         let pages = self.0.count;
         write!(f, "{tree} root 0x{frame:x} level {level} pages {pages}")
     }
@@ -52,7 +71,7 @@ impl fmt::Display for PlaceText {
     ghost output = { λ reached. Some (text_of_place reached.0) };
 
     fn fmt<W: fmt::Write>(&self, f: &mut fmt::Formatter<W>) -> fmt::Result {
-        let level = 3u64.saturating_sub(self.0.depth);
+        let level = Level(self.0.depth);
         let number = self.0.number;
         write!(f, "{level}:0x{number:x}")
     }
@@ -133,6 +152,14 @@ impl fmt::Display for FindingText {
             Finding::NoBorrower { frame, claim } => {
                 let claim = ClaimText(claim);
                 write!(f, "no-borrower 0x{frame:x} {claim}")
+            }
+            Finding::Unshared { frame, claim } => {
+                let claim = ClaimText(claim);
+                write!(f, "unshared 0x{frame:x} {claim}")
+            }
+            Finding::Denied { frame, claim } => {
+                let claim = ClaimText(claim);
+                write!(f, "denied 0x{frame:x} {claim}")
             }
             Finding::MappedTable { table, claim } => {
                 let (tree, claim) = (TreeName(table.tree), ClaimText(claim));

@@ -1,5 +1,5 @@
 //! The report as a picture.
-ghost use Rattle.std.specs.Prelude.{◌≡◌, ◌++◌, ◌∷◌, [], IfOk, OnOk, Some, option_to_list, string_bytes};
+ghost use Rattle.std.specs.Prelude.{◌≡◌, ◌++◌, ◌∷◌, [], IfOk, OnOk, Some, string_bytes};
 ghost use Rattle.std.specs.List.{filter_map, flat_map, list_any};
 ghost use Rattle.image_dump.specs.Pictures.{
   area as area_by,
@@ -33,6 +33,7 @@ ghost use Rattle.image_dump.specs.Looks.{look as look_by};
 ghost use Rattle.page_state.specs.Texts.{text_of_page};
 ghost use Rattle.image_dump.specs.declared.line.DumpLine.TheVariants.{Run as RunOf};
 
+use crate::collect::add;
 use crate::line::DumpLine;
 use crate::looks::{Look, look_of, owned};
 use crate::places::{Pen, behind, first, last, placed, width_of};
@@ -72,9 +73,10 @@ fn names(tree: u64, page: u64, finding: &Finding) -> bool
         Finding::TwoOwners { first, second, .. } | Finding::TwoBorrowers { first, second, .. } => {
             is_claim_of(tree, page, first) || is_claim_of(tree, page, second)
         }
-        Finding::NoBorrower { claim, .. } | Finding::MappedTable { claim, .. } => {
-            is_claim_of(tree, page, claim)
-        }
+        Finding::NoBorrower { claim, .. }
+        | Finding::Unshared { claim, .. }
+        | Finding::Denied { claim, .. }
+        | Finding::MappedTable { claim, .. } => is_claim_of(tree, page, claim),
         Finding::MetTwice { .. } => false,
     }
 }
@@ -97,16 +99,6 @@ fn finding_in(line: DumpLine) -> Option<Finding>
         | DumpLine::Unwalked { .. }
         | DumpLine::End { .. } => None,
     }
-}
-
-/// Adds what there is.
-fn add(found: &mut Vec<Finding>, next: Option<Finding>) -> Result<(), AllocError>
-    ensures { OnOk result (found.new.items ≡ found.old.items ++ option_to_list next) }
-{
-    if let Some(next) = next {
-        found.push(next)?;
-    }
-    Ok(())
 }
 
 /// The findings of a report.
@@ -342,11 +334,11 @@ fn write_states(svg: &mut String) -> Result<(), AllocError>
     ensures { OnOk result (string_bytes svg.new ≡ string_bytes svg.old ++ states) }
 {
     let shared = over(Colour::Ice, Paint::Lines(Colour::Black));
-    write_entry(svg, 440, 34, shared, b"shared")?;
+    write_entry(svg, 440, 34, shared, b"shared, in black")?;
     let borrowed = over(Colour::Pale, Paint::Lines(Colour::Orange));
-    write_entry(svg, 550, 34, borrowed, b"borrowed")?;
+    write_entry(svg, 590, 34, borrowed, b"borrowed, in its tree's colour")?;
     let unknown = over(Colour::Pale, Paint::Dots(Colour::Orange));
-    write_entry(svg, 670, 34, unknown, b"no known state")?;
+    write_entry(svg, 820, 34, unknown, b"no known state")?;
     let guest = over(Colour::Pale, Paint::Bars(Colour::Black));
     write_entry(svg, 12, 54, guest, b"a guest's, by its handle")
 }

@@ -1,17 +1,20 @@
 //! States that records of frames say, for trees whose words say none.
 ghost use Rattle.std.specs.Prelude.{◌≡◌, All, IfErr, IfOk, IfSome};
+ghost use Rattle.std.specs.List.{filter_map};
 ghost use Rattle.std.specs.Option.{ForSome};
 ghost use Rattle.memory_image.specs.CoreFile.{IsPlaced};
 ghost use Rattle.run_list.specs.View.{IsKept};
 ghost use Rattle.walked_tables.specs.Values.{advance_said, CanGoOn};
-ghost use Rattle.image_trees.specs.Records.{CanRead};
+ghost use Rattle.image_trees.specs.Records.{records_in, CanRead};
 ghost use Rattle.image_trees.specs.Unwalked.{IsFailed};
 ghost use Rattle.image_dump.specs.Dumped.{IsFault, IsRoot};
-ghost use Rattle.image_dump.specs.Stating.{hyp_root as root_of_hyp, is_stated, reported_root as root_as_told, AreRecords, AreReported};
+ghost use Rattle.image_dump.specs.Stating.{denial_by, hyp_root as root_of_hyp, is_stated, reported_root as root_as_told, AreDenied, AreRecords, AreReported};
 
+use crate::collect::add;
 use crate::dump::NotDumped;
-use image_trees::{Records, Root, Unwalked, walk_tree, with_states};
-use memory_image::{ImageBytes, Refused, Segment};
+use image_findings::{Finding, denied};
+use image_trees::{Records, Root, Unwalked, denied_frame, walk_tree, with_states};
+use memory_image::{ImageBytes, Refused, Segment, page_buffer};
 use run_list::Run;
 use std::alloc::Global;
 use table_words::Profile;
@@ -66,6 +69,57 @@ pub(crate) fn reported_runs<I: ImageBytes>(
         }
     }
     Ok(runs)
+}
+
+/// The runs of a tree that have a frame that its record denies, each with the first such frame.
+fn denied_runs<I: ImageBytes>(
+    alloc: Global,
+    image: &I,
+    segments: &[Segment],
+    records: &Records,
+    tree: u64,
+    runs: &[Run<Said>],
+) -> Result<Vec<Finding>, Refused>
+    requires placed { All IsPlaced segments.now }
+    requires records { CanRead records.now }
+    ensures denied { IfOk result
+        (λ found. ForSome (I.bytes image.now)
+        (λ all. found.items
+        ≡ filter_map (denial_by (records_in all segments.now records.now) tree) runs.now)) }
+    ensures failed { IfErr result (IsFailed (I.may_fail image.now)) }
+{
+    let mut buffer = page_buffer(alloc)?;
+    let bytes = buffer.as_mut_slice();
+    let mut found = Vec::new(alloc);
+    for i in 0..runs.len() {
+        let frame = denied_frame(alloc, image, segments, records, tree, &runs[i], bytes)?;
+        add(&mut found, denied(tree, &runs[i], frame))?;
+    }
+    Ok(found)
+}
+
+/// The runs of a tree in the report that records deny, if its words say no states.
+pub(crate) fn denied_findings<I: ImageBytes>(
+    alloc: Global,
+    image: &I,
+    segments: &[Segment],
+    records: &Option<Records>,
+    root: &Root,
+    runs: &[Run<Said>],
+) -> Result<Vec<Finding>, Refused>
+    requires placed { All IsPlaced segments.now }
+    requires records { ForSome records.now CanRead }
+    ensures denied { IfOk result
+        (λ found. AreDenied
+        (I.bytes image.now) segments.now records.now root.now runs.now found.items) }
+    ensures failed { IfErr result (IsFailed (I.may_fail image.now)) }
+{
+    if let Some(records) = records {
+        if is_told(true, root) {
+            return denied_runs(alloc, image, segments, records, root.tree, runs);
+        }
+    }
+    Ok(Vec::new(alloc))
 }
 
 /// The hypervisor's root.

@@ -6,7 +6,7 @@ use image_trees::Root;
 use memory_image::raw_segments;
 use std::alloc::{AllocError, Global};
 use std::test::Fail;
-use table_words::model;
+use table_words::{Profile, Release, linux_host, linux_hypervisor, model};
 
 /// Adds a page whose first words are the given ones, and the others zeros.
 fn add_table(bytes: &mut Vec<u8>, first: &[u64]) -> Result<(), AllocError> {
@@ -34,7 +34,7 @@ fn small_image(alloc: Global, poked: u64) -> Result<Vec<u8>, AllocError> {
     Ok(bytes)
 }
 
-fn root(tree: u64, frame: u64) -> Root
+fn root(tree: u64, frame: u64, profile: Profile) -> Root
     requires { frame ≤ 2 }
     ensures depth { result.depth ≡ 0 }
     ensures count { result.count ≡ 1 }
@@ -45,7 +45,7 @@ fn root(tree: u64, frame: u64) -> Root
         frame,
         depth: 0,
         count: 1,
-        profile: model(),
+        profile,
     }
 }
 
@@ -61,7 +61,11 @@ fn report(
     let Ok(segments) = raw_segments(alloc, &image, 0) else {
         return Ok(None);
     };
-    let roots = [root(0, 0), root(1, 1), root(2, 2)];
+    let roots = [
+        root(0, 0, model()),
+        root(1, 1, model()),
+        root(2, 2, model()),
+    ];
     let mut text = Vec::new(alloc);
     match dump_trees(
         alloc,
@@ -137,6 +141,63 @@ fn tells_what_is_found(rt: HostRuntime) -> Result<(), Fail> {
         let (dumped, text) = report(alloc, poked, skips, Shape::Lines)?.expect(&rt, "a report");
         let all = format!(in alloc; "{TREES}{line}{HYP}{lent}{GUEST}{end}")?;
         assert!(&rt; (dumped == Dumped::Sound) == sound, "an outcome");
+        assert!(&rt; text.as_slice() == all.as_bytes(), "a report");
+    }
+    Ok(())
+}
+
+/// The report for tables in 7.3's words: page 0 is the host's, whose page 3 has the given word, page 1 the hypervisor's, and page 2 has
+/// the records of the first frames, of which the third is the given one.
+fn recorded(
+    alloc: Global,
+    word: u64,
+    record: u64,
+) -> Result<Option<(Dumped, Vec<u8>)>, AllocError> {
+    let mut bytes = Vec::new(alloc);
+    add_table(&mut bytes, &[0, 0, 0, word])?;
+    add_table(&mut bytes, &[0x0040_0000_0000_2743])?;
+    add_table(&mut bytes, &[0, 0, 0x3300_0000, record])?;
+    let image = bytes.as_slice();
+    let Ok(segments) = raw_segments(alloc, &image, 0) else {
+        return Ok(None);
+    };
+    let host = linux_host(Release::V7, false, false);
+    let hypervisor = linux_hypervisor(Release::V7, false, false);
+    let roots = [root(0, 0, host), root(1, 1, hypervisor)];
+    let mut text = Vec::new(alloc);
+    match dump_trees(
+        alloc,
+        &image,
+        segments.as_slice(),
+        roots.as_slice(),
+        Some(0),
+        &[],
+        Shape::Lines,
+        &mut text,
+    ) {
+        Ok(dumped) => Ok(Some((dumped, text))),
+        Err(_) => Ok(None),
+    }
+}
+
+#[test]
+fn names_what_records_deny(rt: HostRuntime) -> Result<(), Fail> {
+    let alloc = rt.alloc();
+    let hyp = "tree hyp root 0x1 level 3 pages 1 tables 1\n0x0 0x1 frame 0x2 rw- normal owned\n";
+    let denied = "finding denied 0x3 host 0x3\nend trees 2 findings 1\n";
+    let none = "end trees 2 findings 0\n";
+    let rows = [
+        (0x37ff, 0x3300_0000, "rwx as-stage-1", denied),
+        (0x377f, 0x3300_0000, "r-x as-stage-1", denied),
+        (0x0040_0000_0000_377f, 0x3300_0000, "r-- as-stage-1", none),
+        (0x37ff, 0x7300_0000, "rwx as-stage-1", denied),
+        (0x37ff, 0x7700_0000, "rwx as-stage-1", none),
+        (0x37ff, 0, "rwx as-stage-1 owned", none),
+    ];
+    for (word, record, rights, end) in rows {
+        let (_, text) = recorded(alloc, word, record)?.expect(&rt, "a report");
+        let host = "tree host root 0x0 level 3 pages 1 tables 1\n0x3 0x1 frame 0x3";
+        let all = format!(in alloc; "{host} {rights}\n{hyp}{end}")?;
         assert!(&rt; text.as_slice() == all.as_bytes(), "a report");
     }
     Ok(())

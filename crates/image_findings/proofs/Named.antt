@@ -8,10 +8,12 @@ use Rattle.std.proofs.lemmas.Option.{slice_get_within}
 use Rattle.page_state.proofs.Cases.{by_lt}
 use Rattle.image_findings.specs.Claims.{borrows, owns, shares}
 use Rattle.image_findings.specs.Findings.{are_apart, clash_at, clash_of, clashes_of, common_frame, given_by, has_frame}
-use Rattle.image_findings.specs.Laws.{AreBorrowed, HaveFrame, HaveOneBorrower, HaveOneOwner}
-use Rattle.image_findings.specs.Unborrowed.{borrows_frame, first_from, unborrowed_of}
+use Rattle.image_findings.specs.Laws.{AreBorrowed, AreShared, HaveFrame, HaveOneBorrower, HaveOneOwner}
+use Rattle.image_findings.specs.Unborrowed.{first_from, is_of, unborrowed_of, unshared_of}
 use Rattle.image_findings.specs.declared.claim.Claim.{Claim}
-use Rattle.image_findings.specs.declared.finding.Finding.TheVariants.{NoBorrower, TwoBorrowers, TwoOwners}
+use Rattle.image_findings.specs.declared.unborrowed.Side.{Side}
+use Rattle.image_findings.specs.declared.unborrowed.Side.TheVariants.{Sharer, Borrower}
+use Rattle.image_findings.specs.declared.finding.Finding.TheVariants.{NoBorrower, Unshared, TwoBorrowers, TwoOwners}
 
 -- both parts of a list without elements have none
 left_none : {X : Type 0} (xs ys : List X) → xs ++ ys ≡ [] → xs ≡ []
@@ -126,38 +128,44 @@ all_of true some f rest e p = absurd (cc)
 all_of false true f rest e p = (refl, e)
 all_of false false f rest e p = absurd (cc)
 
-first_none : (claims : List Claim) (frame n k : ℕ)
-    → first_from claims frame n ≡ None
+first_none : (side : Side) (claims : List Claim) (frame n k : ℕ)
+    → first_from side claims frame n ≡ None
     → k < n
     → frame + n < 2 ^ 64
-    → list_any (borrows_frame (frame + k)) claims ≡ true
+    → list_any (is_of side (frame + k)) claims ≡ true
 unfolding first_from
-first_none claims frame zero k e h l = absurd (omega arith)
-first_none claims frame (suc n) zero e h l =
+first_none side claims frame zero k e h l = absurd (omega arith)
+first_none side claims frame (suc n) zero e h l =
     let t : nat_le (2 ^ 64) frame ≡ false = grind (arith, nat_tests) in
     let same : frame ≡ frame + 0 = omega arith in
-    subst (λ f. list_any (borrows_frame f) claims ≡ true) same
-    (all_of (nat_le (2 ^ 64) frame) (list_any (borrows_frame frame) claims) frame
-    (first_from claims (frame + 1) n) e t).0
-first_none claims frame (suc n) (suc k) e h l =
+    subst (λ f. list_any (is_of side f) claims ≡ true) same
+    (all_of (nat_le (2 ^ 64) frame) (list_any (is_of side frame) claims) frame
+    (first_from side claims (frame + 1) n) e t).0
+first_none side claims frame (suc n) (suc k) e h l =
     let t : nat_le (2 ^ 64) frame ≡ false = grind (arith, nat_tests) in
     let same : frame + 1 + k ≡ frame + suc k = omega arith in
     let rest =
-    (all_of (nat_le (2 ^ 64) frame) (list_any (borrows_frame frame) claims) frame
-    (first_from claims (frame + 1) n) e t).1 in
-    subst (λ f. list_any (borrows_frame f) claims ≡ true) same
-    (first_none claims (frame + 1) n k rest (omega arith) (omega arith))
+    (all_of (nat_le (2 ^ 64) frame) (list_any (is_of side frame) claims) frame
+    (first_from side claims (frame + 1) n) e t).1 in
+    subst (λ f. list_any (is_of side f) claims ≡ true) same
+    (first_none side claims (frame + 1) n k rest (omega arith) (omega arith))
 
-found_none : (claim : Claim) (shared : Bool) (o : Option ℕ)
-    → (if not shared then None else option_map (λ frame. NoBorrower frame claim) o) ≡ None
-    → shared ≡ true
+found_none : {X : Type 0} (f : ℕ → X) (part : Bool) (o : Option ℕ)
+    → (if not part then None else option_map f o) ≡ None
+    → part ≡ true
     → o ≡ None
-found_none claim true None e p = refl
-found_none claim true (Some f) e p = absurd (cc)
-found_none claim false o e p = absurd (cc)
+found_none f true None e p = refl
+found_none f true (Some x) e p = absurd (cc)
+found_none f false o e p = absurd (cc)
 
 pub are_borrowed : AreBorrowed
 are_borrowed claims i k a e g p below small =
-    first_none claims a.frame a.count k
-    (found_none a (shares a) (first_from claims a.frame a.count)
+    first_none Borrower claims a.frame a.count k
+    (found_none (λ frame. NoBorrower frame a) (shares a) (first_from Borrower claims a.frame a.count)
     (none_given (unborrowed_of claims) claims i a e g) p) below small
+
+pub are_shared : AreShared
+are_shared claims i k a e g p below small =
+    first_none Sharer claims a.frame a.count k
+    (found_none (λ frame. Unshared frame a) (borrows a) (first_from Sharer claims a.frame a.count)
+    (none_given (unshared_of claims) claims i a e g) p) below small

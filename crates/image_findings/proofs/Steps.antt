@@ -9,7 +9,8 @@ use Rattle.std.proofs.lemmas.List.Elements.{filter_map-append}
 use Rattle.std.proofs.lemmas.Option.{slice_get-get_or}
 use Rattle.walked_tables.specs.declared.reached.Reached.{Reached}
 use Rattle.image_findings.specs.Findings.{clash_of, clashes_of, given_by, mapped_in, mapped_of, met_in, met_of}
-use Rattle.image_findings.specs.Unborrowed.{borrows_frame, first_from}
+use Rattle.image_findings.specs.Unborrowed.{first_from, is_of}
+use Rattle.image_findings.specs.declared.unborrowed.Side.{Side}
 use Rattle.image_findings.specs.declared.claim.Claim.{Claim}
 use Rattle.image_findings.specs.declared.finding.Finding.{Finding}
 
@@ -115,71 +116,71 @@ unfolding met_in
 no_met tables start = sym (append_nil start)
 
 -- frames of a range one by one
-first_step : (claims : List Claim) (frame n : ℕ)
-    → first_from claims frame (suc n)
+first_step : (side : Side) (claims : List Claim) (frame n : ℕ)
+    → first_from side claims frame (suc n)
     ≡ (if nat_le (2 ^ 64) frame then None
-    else (if not (list_any (borrows_frame frame) claims) then Some frame else first_from claims (frame + 1) n))
+    else (if not (list_any (is_of side frame) claims) then Some frame else first_from side claims (frame + 1) n))
 unfolding first_from
-first_step claims frame n = refl
+first_step side claims frame n = refl
 
-no_frame : (claims : List Claim) (frame : ℕ) → first_from claims frame 0 ≡ None
+no_frame : (side : Side) (claims : List Claim) (frame : ℕ) → first_from side claims frame 0 ≡ None
 unfolding first_from
-no_frame claims frame = refl
+no_frame side claims frame = refl
 
-at_step : (claims : List Claim) (frame count i : ℕ)
+at_step : (side : Side) (claims : List Claim) (frame count i : ℕ)
     → i < count
-    → first_from claims (frame + i) (count - i)
+    → first_from side claims (frame + i) (count - i)
     ≡ (if nat_le (2 ^ 64) (frame + i) then None
-    else (if not (list_any (borrows_frame (frame + i)) claims) then Some (frame + i)
-    else first_from claims (frame + i + 1) (count - (i + 1))))
-at_step claims frame count i h =
+    else (if not (list_any (is_of side (frame + i)) claims) then Some (frame + i)
+    else first_from side claims (frame + i + 1) (count - (i + 1))))
+at_step side claims frame count i h =
     let e : count - i ≡ suc (count - (i + 1)) = omega arith in
-    ap (first_from claims (frame + i)) e ∙ first_step claims (frame + i) (count - (i + 1))
+    ap (first_from side claims (frame + i)) e ∙ first_step side claims (frame + i) (count - (i + 1))
 
-pub past_frames : (claims : List Claim) (frame count i : ℕ) (goal : Option ℕ)
+pub past_frames : (side : Side) (claims : List Claim) (frame count i : ℕ) (goal : Option ℕ)
     → i < count
     → 2 ^ 64 ≤ frame + i
-    → first_from claims (frame + i) (count - i) ≡ goal
+    → first_from side claims (frame + i) (count - i) ≡ goal
     → None ≡ goal
-past_frames claims frame count i goal h past e =
+past_frames side claims frame count i goal h past e =
     let t : nat_le (2 ^ 64) (frame + i) ≡ true = grind (arith, nat_tests) in
-    let here = at_step claims frame count i h in
+    let here = at_step side claims frame count i h in
     sym (rw t at here) ∙ e
 
-pub found_frame : (claims : List Claim) (frame count i : ℕ) (goal : Option ℕ)
+pub found_frame : (side : Side) (claims : List Claim) (frame count i : ℕ) (goal : Option ℕ)
     → i < count
     → frame + i < 2 ^ 64
-    → list_any (borrows_frame (frame + i)) claims ≡ false
-    → first_from claims (frame + i) (count - i) ≡ goal
+    → list_any (is_of side (frame + i)) claims ≡ false
+    → first_from side claims (frame + i) (count - i) ≡ goal
     → Some (frame + i) ≡ goal
-found_frame claims frame count i goal h small none e =
+found_frame side claims frame count i goal h small none e =
     let t : nat_le (2 ^ 64) (frame + i) ≡ false = grind (arith, nat_tests) in
-    let here = at_step claims frame count i h in
+    let here = at_step side claims frame count i h in
     sym (rw (t, none) at here) ∙ e
 
-pub next_frame : (claims : List Claim) (frame count i : ℕ) (goal : Option ℕ)
+pub next_frame : (side : Side) (claims : List Claim) (frame count i : ℕ) (goal : Option ℕ)
     → i < count
     → frame + i < 2 ^ 64
-    → list_any (borrows_frame (frame + i)) claims ≡ true
-    → first_from claims (frame + i) (count - i) ≡ goal
-    → first_from claims (frame + (i + 1)) (count - (i + 1)) ≡ goal
-next_frame claims frame count i goal h small some e =
+    → list_any (is_of side (frame + i)) claims ≡ true
+    → first_from side claims (frame + i) (count - i) ≡ goal
+    → first_from side claims (frame + (i + 1)) (count - (i + 1)) ≡ goal
+next_frame side claims frame count i goal h small some e =
     let t : nat_le (2 ^ 64) (frame + i) ≡ false = grind (arith, nat_tests) in
-    let here = at_step claims frame count i h in
+    let here = at_step side claims frame count i h in
     let same : frame + (i + 1) ≡ frame + i + 1 = omega arith in
-    ap (λ f. first_from claims f (count - (i + 1))) same ∙ (sym (rw (t, some) at here) ∙ e)
+    ap (λ f. first_from side claims f (count - (i + 1))) same ∙ (sym (rw (t, some) at here) ∙ e)
 
-pub first_frame : (claims : List Claim) (frame count : ℕ)
-    → first_from claims (frame + 0) (count - 0) ≡ first_from claims frame count
-first_frame claims frame count =
+pub first_frame : (side : Side) (claims : List Claim) (frame count : ℕ)
+    → first_from side claims (frame + 0) (count - 0) ≡ first_from side claims frame count
+first_frame side claims frame count =
     let f : frame + 0 ≡ frame = omega arith in
     let n : count - 0 ≡ count = omega arith in
-    ap (λ k. first_from claims k (count - 0)) f ∙ ap (first_from claims frame) n
+    ap (λ k. first_from side claims k (count - 0)) f ∙ ap (first_from side claims frame) n
 
-pub no_more_frames : (claims : List Claim) (frame count i : ℕ) (goal : Option ℕ)
+pub no_more_frames : (side : Side) (claims : List Claim) (frame count i : ℕ) (goal : Option ℕ)
     → count ≤ i
-    → first_from claims (frame + i) (count - i) ≡ goal
+    → first_from side claims (frame + i) (count - i) ≡ goal
     → None ≡ goal
-no_more_frames claims frame count i goal h e =
+no_more_frames side claims frame count i goal h e =
     let n : count - i ≡ 0 = omega arith in
-    sym (no_frame claims (frame + i)) ∙ (ap (first_from claims (frame + i)) (sym n) ∙ e)
+    sym (no_frame side claims (frame + i)) ∙ (ap (first_from side claims (frame + i)) (sym n) ∙ e)

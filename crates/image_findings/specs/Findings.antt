@@ -6,10 +6,10 @@ use Rattle.table_words.specs.declared.word.Decoded.{Decoded}
 use Rattle.table_words.specs.declared.word.Decoded.TheVariants as word
 use Rattle.walked_tables.specs.declared.reached.Reached.{Reached}
 use Rattle.walked_tables.specs.declared.said.Said.{Said}
-use Rattle.image_findings.specs.Claims.{borrows, owns}
+use Rattle.image_findings.specs.Claims.{borrows, claim_of, owns}
 use Rattle.image_findings.specs.declared.claim.Claim.{Claim}
 use Rattle.image_findings.specs.declared.finding.Finding.{Finding}
-use Rattle.image_findings.specs.declared.finding.Finding.TheVariants.{Malformed, NoTable, TwoOwners, TwoBorrowers, MappedTable, MetTwice}
+use Rattle.image_findings.specs.declared.finding.Finding.TheVariants.{Malformed, NoTable, Denied, TwoOwners, TwoBorrowers, MappedTable, MetTwice}
 
 -- a word that says nothing, or names a table that isn't there
 abbrev pub bad_by : ℕ → (page count : ℕ) → Decoded → Option Finding
@@ -19,6 +19,14 @@ bad_by tree page count other = None
 
 abbrev pub bad_word : ℕ → Run Said → Option Finding
 bad_word tree run = bad_by tree run.pages.first.0 run.pages.count run.value.0
+
+-- a frame of a run is denied
+abbrev pub denied_by : Option ℕ → Option Claim → Option Finding
+denied_by (Some frame) (Some claim) = Some (Denied frame claim)
+denied_by frame claim = None
+
+abbrev pub denial_of : ℕ → Run Said → Option ℕ → Option Finding
+denial_of tree run frame = denied_by frame (claim_of tree run)
 
 -- the first frame of both
 abbrev pub common_frame : Claim → Claim → Option ℕ

@@ -3,8 +3,9 @@ use Rattle.std.specs.Prelude.{◌≡◌, ℕ, ◌+◌, ◌^◌, ◌<◌, true, L
 use Rattle.std.specs.List.{filter_map, list_any}
 use Rattle.image_findings.specs.Claims.{borrows, owns, shares}
 use Rattle.image_findings.specs.Findings.{are_apart, clashes_of, has_frame}
-use Rattle.image_findings.specs.Unborrowed.{borrows_frame, unborrowed_of}
+use Rattle.image_findings.specs.Unborrowed.{is_of, unborrowed_of, unshared_of}
 use Rattle.image_findings.specs.declared.claim.Claim.{Claim}
+use Rattle.image_findings.specs.declared.unborrowed.Side.TheVariants.{Sharer, Borrower}
 
 -- two claims have a frame
 pub record HaveFrame (claims : List Claim) (i j : ℕ) (a b : Claim) (frame : ℕ) : Type 0 where
@@ -44,4 +45,15 @@ AreBorrowed =
     → shares a ≡ true
     → k < a.count
     → a.frame + a.count < 2 ^ 64
-    → list_any (borrows_frame (a.frame + k)) claims ≡ true
+    → list_any (is_of Borrower (a.frame + k)) claims ≡ true
+
+-- if no borrower is named, each frame that a claim borrows has one who shares it
+abbrev pub AreShared : Type 0
+AreShared =
+    (claims : List Claim) (i k : ℕ) (a : Claim)
+    → filter_map (unshared_of claims) claims ≡ []
+    → slice_get claims i ≡ Some a
+    → borrows a ≡ true
+    → k < a.count
+    → a.frame + a.count < 2 ^ 64
+    → list_any (is_of Sharer (a.frame + k)) claims ≡ true

@@ -51,7 +51,7 @@ impl Claim {
 
 /// The claim of a run: a leaf claims for its tree, an annotation of the host for the owner that it names. The
 /// annotation of a guest by its handle claims nothing, since which tree has the handle isn't known.
-fn claimed(tree: u64, run: &Run<Said>) -> Option<Claim>
+pub(crate) fn claimed(tree: u64, run: &Run<Said>) -> Option<Claim>
     ensures { result ≡ claim_of tree run.now }
 {
     let page = run.pages.first.0;

@@ -38,6 +38,16 @@ pub enum Finding {
         frame: u64,
         claim: Claim,
     },
+    /// A frame that is borrowed and that nobody shares.
+    Unshared {
+        frame: u64,
+        claim: Claim,
+    },
+    /// A frame that a leaf maps although the frame's record says that the tree doesn't have it.
+    Denied {
+        frame: u64,
+        claim: Claim,
+    },
     /// A table that the host or a guest maps.
     MappedTable {
         table: Reached,

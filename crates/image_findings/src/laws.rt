@@ -1,5 +1,5 @@
 //! Laws of findings. Each function does nothing, and its contract is the law.
-ghost use Rattle.image_findings.specs.Laws.{AreBorrowed, HaveOneBorrower, HaveOneOwner};
+ghost use Rattle.image_findings.specs.Laws.{AreBorrowed, AreShared, HaveOneBorrower, HaveOneOwner};
 
 /// If no clash is named, a frame has one owner and one borrower at most.
 pub fn one_each()
@@ -10,4 +10,9 @@ pub fn one_each()
 /// If no share is named, each frame that is shared has a borrower.
 pub fn all_borrowed()
     ensures { AreBorrowed }
+{}
+
+/// If no borrower is named, each frame that is borrowed is shared.
+pub fn all_shared()
+    ensures { AreShared }
 {}

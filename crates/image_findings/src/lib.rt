@@ -3,6 +3,7 @@
 
 mod claim;
 mod clashes;
+mod denial;
 mod finding;
 pub mod laws;
 mod tables;
@@ -11,9 +12,10 @@ mod words;
 
 pub use claim::{Claim, add_claims};
 pub use clashes::add_clashes;
+pub use denial::denied;
 pub use finding::Finding;
 pub use tables::{add_mapped, add_met_twice};
-pub use unborrowed::add_unborrowed;
+pub use unborrowed::{add_unborrowed, add_unshared};
 pub use words::add_words;
 
 #[cfg(test)]

@@ -1,5 +1,5 @@
 //! Two runs of a tree, and the findings from their claims and another tree's.
-use crate::{Claim, Finding, add_clashes, add_mapped, add_met_twice, add_unborrowed};
+use crate::{Claim, Finding, add_clashes, add_mapped, add_met_twice, add_unborrowed, add_unshared};
 use descriptor::State;
 use std::test::Fail;
 use walked_tables::Reached;
@@ -28,6 +28,7 @@ fn finds_each(rt: HostRuntime) -> Result<(), Fail> {
     let mut found = Vec::new(alloc);
     add_clashes(claims.as_slice(), &mut found)?;
     add_unborrowed(claims.as_slice(), &mut found)?;
+    add_unshared(claims.as_slice(), &mut found)?;
     let table = Reached {
         tree: 1,
         depth: 0,
@@ -51,6 +52,10 @@ fn finds_each(rt: HostRuntime) -> Result<(), Fail> {
         Finding::NoBorrower {
             frame: 0x300,
             claim: alone,
+        },
+        Finding::Unshared {
+            frame: 0x204,
+            claim: other,
         },
         Finding::MappedTable { table, claim: host },
         Finding::MetTwice {

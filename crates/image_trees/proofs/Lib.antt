@@ -1,3 +1,4 @@
 pub mod Reading
 pub mod SameTrees
 pub mod Stated
+pub mod Denied

@@ -16,7 +16,7 @@ use Rattle.table_words.specs.Decoding.{decoded_of}
 use Rattle.table_words.specs.declared.profile.Profile.{Profile}
 use Rattle.table_words.specs.declared.word.Decoded.{Decoded}
 use Rattle.table_words.specs.declared.word.Decoded.TheVariants.{Malformed, Unmapped, Annotated, Poisoned, Locked, Cleared, Leaf, Table}
-use Rattle.walked_tables.specs.ByFrames.{led, led_case, level_at, map_by_frames, page_of, said_by, word_on, words_of}
+use Rattle.walked_tables.specs.ByFrames.{led, led_case, level_at, map_by_frames, page_of, said_by, table_pages, word_on, words_of}
 use Rattle.walked_tables.specs.Values.{advance_decoded, advance_said, value_of}
 use Rattle.walked_tables.specs.declared.follow.TablePage.{TablePage}
 use Rattle.walked_tables.specs.declared.said.Said.{Said}
@@ -185,7 +185,7 @@ module _ (read : ℕ → Option (List ℕ)) (root : Root) (pages : List TablePag
       → IsClosed read (map_by_frames root.profile pages root.depth (take root.count pages) page)
       → map_by_frames root.profile pages root.depth (take root.count pages) page ≡ image_map read root page
   unfolding map_by_frames image_map
-  map_same page closed = at_root page (page / block_pages (root.depth + 1)) closed
+  map_same page closed = at_root page (page / table_pages root.depth) closed
 
 -- the tree by the pages that were read is the tree in the image, where no page was to be added
 pub tree_in : (read : ℕ → Option (List ℕ)) (root : Root) (kept after : List (ℕ × List ℕ)) (tables : List Reached)

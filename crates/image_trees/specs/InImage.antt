@@ -1,12 +1,11 @@
 -- The map of a tree whose tables lie in memory: a table word leads on to the page of its frame, if
 -- there is one. Depths count the levels below.
 use Rattle.std.specs.Prelude.{ℕ, zero, suc, ◌+◌, ◌/◌, nat_lt, List, get_or, Option, Some, None, if◌then◌else◌}
-use Rattle.page_state.specs.Geometries.{block_pages}
 use Rattle.table_words.specs.declared.profile.Profile.{Profile}
 use Rattle.table_words.specs.declared.word.Decoded.{Decoded}
 use Rattle.table_words.specs.declared.word.Decoded.TheVariants.{Table}
 use Rattle.table_words.specs.Decoding.{decoded_of}
-use Rattle.walked_tables.specs.ByFrames.{index_at, level_at, word_gives}
+use Rattle.walked_tables.specs.ByFrames.{index_at, level_at, table_pages, word_gives}
 use Rattle.walked_tables.specs.declared.said.Said.{Said}
 use Rattle.image_trees.specs.declared.root.Root.{Root}
 
@@ -39,4 +38,4 @@ root_words read root k = if nat_lt k root.count then read (root.frame + k) else 
 unfoldable pub image_map : (ℕ → Option (List ℕ)) → Root → ℕ → Option Said
 image_map read root page =
     below_case None (λ words. image_said root.profile read root.depth words page)
-    (root_words read root (page / block_pages (root.depth + 1)))
+    (root_words read root (page / table_pages root.depth))

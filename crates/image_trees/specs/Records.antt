@@ -1,6 +1,6 @@
 -- Records that a hypervisor keeps of frames, eight bytes each, and the states that they say: those
 -- of Linux 7.3 (struct hyp_page).
-use Rattle.std.specs.Prelude.{◌≡◌, ℕ, ◌+◌, ◌-◌, ◌/◌, ◌%◌, ◌^◌, ◌<◌, ◌==◌, nat_le, Option, Some, None, if◌then◌else◌, List, option_map, get_or}
+use Rattle.std.specs.Prelude.{◌≡◌, ℕ, zero, suc, ◌+◌, ◌-◌, ◌/◌, ◌%◌, ◌^◌, ◌<◌, ◌==◌, ◌&&◌, not, nat_le, is_none, Bool, true, false, Option, Some, None, if◌then◌else◌, List, option_map, get_or}
 use Rattle.std.specs.Option.{ForSome}
 use Rattle.descriptor.specs.declared.State.{State}
 use Rattle.descriptor.specs.declared.State.TheVariants.{Owned, SharedOwned, SharedBorrowed}
@@ -9,6 +9,11 @@ use Rattle.memory_image.specs.Pages.{page_words}
 use Rattle.run_list.specs.Runs.{AreInReach, IsCoarsest, run_map, value_on}
 use Rattle.run_list.specs.declared.run.Run.{Run}
 use Rattle.page_state.specs.Regions.{is_in_range}
+use Rattle.table_words.specs.declared.word.Access.{Access}
+use Rattle.table_words.specs.declared.word.Access.TheVariants.{ReadOnly}
+use Rattle.table_words.specs.declared.word.Execute.{Execute}
+use Rattle.table_words.specs.declared.word.Execute.TheVariants.{Nobody}
+use Rattle.table_words.specs.declared.word.Mapping.{Mapping}
 use Rattle.table_words.specs.declared.word.Decoded.{Decoded}
 use Rattle.table_words.specs.declared.word.Decoded.TheVariants.{Leaf}
 use Rattle.walked_tables.specs.declared.said.Said.{Said}
@@ -27,6 +32,39 @@ abbrev pub recorded_state : ℕ → ℕ → Option State
 recorded_state tree word =
     if tree == 0 then state_numbered (word / 2 ^ 24 % 16)
     else (if nat_le (word / 2 ^ 28 % 16) 3 then state_numbered (3 - word / 2 ^ 28 % 16) else None)
+
+-- a record says that the tree doesn't have the frame (PKVM_NOPAGE, 3)
+abbrev pub is_denied : ℕ → Option ℕ → Bool
+is_denied tree None = false
+is_denied tree (Some word) =
+    if tree == 0 then word / 2 ^ 24 % 16 == 3 else word / 2 ^ 28 % 16 == 0
+
+-- the first of `count` frames from one on whose record says so; frames are below 2^63
+unfoldable pub denied_from : (ℕ → Option ℕ) → ℕ → (frame count : ℕ) → Option ℕ
+denied_from record_of tree frame zero = None
+denied_from record_of tree frame (suc n) =
+    if nat_le (2 ^ 63) frame then None
+    else (if is_denied tree (record_of frame) then Some frame
+    else denied_from record_of tree (frame + 1) n)
+
+-- it lets data be read, and nothing else
+abbrev pub reads_alone : Access → Execute → Bool
+reads_alone ReadOnly Nobody = true
+reads_alone access execute = false
+
+-- a leaf without a state that is one too many if a record denies it: the host may read the
+-- hypervisor's text, which it hasn't (Linux 7.3)
+abbrev pub is_asked : ℕ → Mapping → Bool
+is_asked tree m = is_none m.state && not (tree == 0 && reads_alone m.access m.execute)
+
+abbrev pub denied_decoded : (ℕ → Option ℕ) → ℕ → ℕ → Decoded → Option ℕ
+denied_decoded record_of tree count (Leaf m) =
+    if is_asked tree m then denied_from record_of tree m.frame.0 count else None
+denied_decoded record_of tree count other = None
+
+-- the first frame of a run that its record denies to the tree
+abbrev pub denied_in : (ℕ → Option ℕ) → ℕ → Run Said → Option ℕ
+denied_in record_of tree run = denied_decoded record_of tree run.pages.count run.value.0
 
 -- the frame of a leaf
 abbrev pub frame_of : Decoded → Option ℕ

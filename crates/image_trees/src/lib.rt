@@ -6,7 +6,7 @@ mod records;
 mod root;
 mod walk;
 
-pub use records::{Records, with_states};
+pub use records::{Records, denied_frame, with_states};
 pub use root::{Root, Tree, Unwalked};
 pub use walk::walk_tree;
 

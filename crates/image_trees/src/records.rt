@@ -7,8 +7,13 @@ ghost use Rattle.run_list.specs.Runs.{map_updated, run_end, run_map, AreInReach,
 ghost use Rattle.run_list.specs.View.{IsKept};
 ghost use Rattle.walked_tables.specs.Values.{advance_said, CanGoOn};
 ghost use Rattle.image_trees.specs.Records.{
+  denied_from,
+  denied_in,
   frame_of,
+  is_asked,
+  is_denied,
   mapped_frame,
+  reads_alone,
   records_in,
   recorded_state,
   state_numbered,
@@ -24,7 +29,7 @@ use memory_image::{ImageBytes, Refused, Segment, page_buffer, read_page};
 use page_state::{Page, PageRange};
 use run_list::{Advance, Run, push_run};
 use std::alloc::{AllocError, Global};
-use table_words::{Decoded, Mapping};
+use table_words::{Access, Decoded, Execute, Mapping};
 use walked_tables::Said;
 
 /// The place of the records of frames: the runs of the hypervisor's own tree, and its page from which on it maps the
@@ -127,6 +132,109 @@ fn record_of<I: ImageBytes>(
     match read_page(alloc, image, segments, at, buffer)? {
         Some(words) => Ok(Some(words[(frame % 512) as usize])),
         None => Ok(None),
+    }
+}
+
+/// Frames are below this one.
+const FRAMES: u64 = 1 << 63;
+
+/// Whether a record says that a tree doesn't have the frame.
+fn denies(tree: u64, word: Option<u64>) -> bool
+    ensures { result ≡ is_denied tree word }
+{
+    match word {
+        Some(word) => if tree == 0 {
+            word / (1 << 24) % 16 == 3
+        } else {
+            word / (1 << 28) % 16 == 0
+        },
+        None => false,
+    }
+}
+
+/// The first of a range's frames that its record denies to a tree.
+fn first_denied<I: ImageBytes>(
+    alloc: Global,
+    image: &I,
+    segments: &[Segment],
+    records: &Records,
+    tree: u64,
+    frame: u64,
+    count: u64,
+    buffer: &mut [u8],
+) -> Result<Option<u64>, Refused>
+    requires placed { All IsPlaced segments.now }
+    requires room { length buffer.old ≡ 4096 }
+    requires records { CanRead records.now }
+    ensures first { IfOk result
+        (λ found. ForSome (I.bytes image.now)
+        (λ all. found ≡ denied_from (records_in all segments.now records.now) tree frame count)) }
+    ensures failed { IfErr result (IsFailed (I.may_fail image.now)) }
+{
+    for k in 0..count {
+        let at = frame.saturating_add(k);
+        if at >= FRAMES {
+            return Ok(None);
+        }
+        let word = record_of(alloc, image, segments, records, at, buffer)?;
+        if denies(tree, word) {
+            return Ok(Some(at));
+        }
+    }
+    Ok(None)
+}
+
+/// Whether a leaf lets data be read, and nothing else.
+fn is_read_alone(mapping: &Mapping) -> bool
+    ensures { result ≡ reads_alone mapping.now.access mapping.now.execute }
+{
+    match (mapping.access, mapping.execute) {
+        (Access::ReadOnly, Execute::Nobody) => true,
+        _ => false,
+    }
+}
+
+/// Whether a leaf is one too many if its record denies it.
+fn is_at_issue(tree: u64, mapping: &Mapping) -> bool
+    ensures { result ≡ is_asked tree mapping.now }
+{
+    mapping.state.is_none() && !(tree == 0 && is_read_alone(mapping))
+}
+
+/// The first frame of a tree's run that the frame's record denies: of a leaf without a state, and of the host's (0) none that
+/// lets it read alone. The buffer is used for pages of records.
+pub fn denied_frame<I: ImageBytes>(
+    alloc: Global,
+    image: &I,
+    segments: &[Segment],
+    records: &Records,
+    tree: u64,
+    run: &Run<Said>,
+    buffer: &mut [u8],
+) -> Result<Option<u64>, Refused>
+    requires placed { All IsPlaced segments.now }
+    requires room { length buffer.old ≡ 4096 }
+    requires records { CanRead records.now }
+    ensures first { IfOk result
+        (λ found. ForSome (I.bytes image.now)
+        (λ all. found ≡ denied_in (records_in all segments.now records.now) tree run.now)) }
+    ensures failed { IfErr result (IsFailed (I.may_fail image.now)) }
+{
+    match run.value.0 {
+        Decoded::Leaf(mapping) => {
+            if !is_at_issue(tree, &mapping) {
+                return Ok(None);
+            }
+            let (frame, count) = (mapping.frame.0, run.pages.count);
+            first_denied(alloc, image, segments, records, tree, frame, count, buffer)
+        }
+        Decoded::Malformed
+        | Decoded::Unmapped
+        | Decoded::Annotated { .. }
+        | Decoded::Poisoned
+        | Decoded::Locked
+        | Decoded::Cleared(_)
+        | Decoded::Table(_) => Ok(None),
     }
 }
 

@@ -1,5 +1,6 @@
 //! A raw image of five pages with a tree of the host under Linux 7.3.
 ghost use Rattle.std.specs.Prelude.{◌≤◌, ◌<◌, ◌+◌, ◌^◌};
+ghost use Rattle.walked_tables.specs.ByFrames.{most_pages};
 
 use crate::{Root, Unwalked, walk_tree};
 use descriptor::{Frame, Owner};
@@ -67,8 +68,8 @@ fn run(first: u64, count: u64, decoded: Decoded) -> Run<Said> {
 
 fn root(count: u64) -> Root
     requires { count ≤ 16 }
-    ensures depth { result.depth ≤ 3 }
-    ensures few { result.count ≤ 16 }
+    ensures depth { result.depth ≤ 4 }
+    ensures few { result.count ≤ most_pages result.depth }
     ensures frames { result.frame + result.count < 2 ^ 64 }
 {
     Root {

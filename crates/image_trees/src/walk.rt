@@ -3,6 +3,7 @@ ghost use Rattle.std.specs.Prelude.{◌≡◌, ◌≤◌, ◌<◌, ◌^◌, ◌+
 ghost use Rattle.memory_image.specs.CoreFile.{IsPlaced};
 ghost use Rattle.run_list.specs.View.{IsKept};
 ghost use Rattle.walked_tables.specs.Values.{advance_said, CanGoOn};
+ghost use Rattle.walked_tables.specs.ByFrames.{most_pages};
 ghost use Rattle.image_trees.specs.KeptPages.{kept_told, HasWords, IsWalkedBy};
 ghost use Rattle.image_trees.specs.Trees.{IsTreeOf};
 ghost use Rattle.image_trees.specs.Unwalked.{IsStoppedBy, IsUnwalked};
@@ -18,8 +19,8 @@ const TABLES: usize = 1 << 20;
 
 /// Walks the tree by the pages that were read.
 fn walk_kept(alloc: Global, root: &Root, kept: &[KeptPage]) -> Result<Tree, Unwalked>
-    requires depth { root.now.depth ≤ 3 }
-    requires few { root.now.count ≤ 16 }
+    requires depth { root.now.depth ≤ 4 }
+    requires few { root.now.count ≤ most_pages root.now.depth }
     requires roots { root.now.count ≤ length kept.now }
     requires whole { All HasWords kept.now }
     ensures walked { IfOk result
@@ -49,8 +50,8 @@ pub fn walk_tree<I: ImageBytes>(
     root: &Root,
 ) -> Result<Tree, Unwalked>
     requires placed { All IsPlaced segments.now }
-    requires depth { root.now.depth ≤ 3 }
-    requires few { root.now.count ≤ 16 }
+    requires depth { root.now.depth ≤ 4 }
+    requires few { root.now.count ≤ most_pages root.now.depth }
     requires frames { root.now.frame + root.now.count < 2 ^ 64 }
     ensures tree { IfOk result
         (λ tree. IsTreeOf

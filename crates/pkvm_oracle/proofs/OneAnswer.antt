@@ -4,8 +4,9 @@ use Rattle.c_states.specs.Layouts.{layout_from_c}
 use Rattle.c_states.specs.States.{contents_from_c}
 use Rattle.c_states.proofs.NoRefusal.{made_else}
 use Rattle.c_states.proofs.OneReason.{either, next, unmade_once}
-use Rattle.c_tables.specs.Given.{tree_of}
-use Rattle.c_tables.proofs.OneAnswer.{fault_once, trees_else}
+use Rattle.c_trees.specs.Entries.{kept_map}
+use Rattle.c_trees.specs.Given.{tree_of}
+use Rattle.c_trees.proofs.OneAnswer.{fault_once, trees_else}
 use Rattle.table_audit.proofs.OneAnswer.{finding_once, well_else}
 use Rattle.pkvm_oracle.specs.declared.audited.Unchecked.TheVariants.{Kept, Trees, NoMemory}
 use Rattle.pkvm_oracle.specs.Audited.{found_from_c, geometry_from_c}
@@ -14,7 +15,8 @@ use Rattle.pkvm_oracle.specs.Laws.{CheckedElse, CheckedOnce, UncheckedOnce}
 pub checked_else : CheckedElse
 checked_else l regions kept pages roots told (Kept why) c h = made_else l regions kept why c.layout c.taken h
 checked_else l regions kept pages roots told (Trees fault) c h =
-    trees_else (geometry_from_c l) pages roots (tree_of (geometry_from_c l) pages roots) fault
+    trees_else (geometry_from_c l) pages roots (kept_map (contents_from_c kept))
+    (tree_of (geometry_from_c l) pages roots (kept_map (contents_from_c kept))) fault
     (record { given = c.checked.given; once = c.checked.once; trees_are = λ tree less. refl }) h.2
 checked_else l regions kept pages roots told NoMemory c h = tt
 

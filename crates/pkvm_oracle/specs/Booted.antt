@@ -1,7 +1,7 @@
 -- What the boot of a layout answers C.
 use Rattle.std.specs.Prelude.{◌≡◌, ◌⊎◌, ℤ, List, false, pos, negsuc}
-use Rattle.c_calls.specs.declared.boot.Unbooted.{Unbooted}
-use Rattle.c_calls.specs.declared.boot.Unbooted.TheVariants as unbooted
+use Rattle.c_calls.specs.declared.boot_state.Unbooted.{Unbooted}
+use Rattle.c_calls.specs.declared.boot_state.Unbooted.TheVariants as unbooted
 use Rattle.c_calls.specs.Boots.{IsBootState, IsUnbooted}
 use Rattle.c_states.specs.declared.judge.Unmade.TheVariants as unmade
 use Rattle.c_states.specs.declared.layout.PlainLayout.{PlainLayout}

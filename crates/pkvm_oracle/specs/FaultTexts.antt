@@ -1,6 +1,15 @@
 -- The texts of the faults of layouts, states and tables, by their numbers.
 use Rattle.std.specs.Prelude.{◌≡◌, ◌⊎◌, ◌<◌, ◌==◌, ℕ, ℤ, pos, negsuc, List, [], codes, drop, length, take, if◌then◌else◌}
 
+-- faults of the fields of roots
+abbrev pub text_of_root_fault : ℕ → List ℕ
+text_of_root_fault n =
+    if n == 27 then codes "a root's tree has no such profile"
+    else if n == 28 then codes "a root has over 4 levels"
+    else if n == 29 then codes "a root's pages aren't 1, 2, 4, 8 or 16, or end over frame 2^64"
+    else if n == 30 then codes "a range that is left out has no page, or ends over page 2^52"
+    else []
+
 -- faults of pages of tables and of roots, and of walks
 abbrev pub text_of_table_fault : ℕ → List ℕ
 text_of_table_fault n =
@@ -8,7 +17,7 @@ text_of_table_fault n =
     else if n == 16 then codes "two pages have one frame"
     else if n == 17 then codes "a root is of a tree that can't be"
     else if n == 18 then codes "a tree has two roots"
-    else if n == 19 then codes "no page has the root's frame"
+    else if n == 19 then codes "a frame of a root has no page"
     else if n == 20 then codes "a table is below itself"
     else if n == 21 then codes "a table is reached at two levels"
     else if n == 22 then codes "a table is reached twice"
@@ -16,7 +25,7 @@ text_of_table_fault n =
     else if n == 24 then codes "freedoms without that of own tables"
     else if n == 25 then codes "CPUs that aren't 1 to 64"
     else if n == 26 then codes "the carve-out has fewer frames than boot needs tables"
-    else []
+    else text_of_root_fault n
 
 -- faults of the lists of a state, and then those of tables
 abbrev pub text_of_list_fault : ℕ → List ℕ

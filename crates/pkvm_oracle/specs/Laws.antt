@@ -4,9 +4,9 @@ use Rattle.c_states.specs.declared.layout.PlainLayout.{PlainLayout}
 use Rattle.c_states.specs.declared.layout.PlainRegion.{PlainRegion}
 use Rattle.c_states.specs.Laws.{MadeLacksMemory}
 use Rattle.c_states.specs.States.{Lists}
-use Rattle.c_tables.specs.declared.follow.PlainPage.{PlainPage}
-use Rattle.c_tables.specs.declared.follow.PlainRoot.{PlainRoot}
-use Rattle.c_tables.specs.declared.trees.TreeFault.TheVariants as trees
+use Rattle.walked_tables.specs.declared.follow.TablePage.{TablePage}
+use Rattle.c_trees.specs.declared.root.PlainRoot.{PlainRoot}
+use Rattle.c_trees.specs.declared.trees.TreeFault.TheVariants as trees
 use Rattle.table_audit.specs.declared.finding.Finding.{Finding}
 use Rattle.table_audit.specs.Laws.{AreAlike}
 use Rattle.pkvm_oracle.specs.declared.audited.Unchecked.{Unchecked}
@@ -22,7 +22,7 @@ LacksMemory NoMemory = Unit {0}
 -- an audit that is made is refused only if memory runs out
 abbrev pub CheckedElse : Type 0
 CheckedElse =
-    (l : PlainLayout) (regions : List PlainRegion) (kept : Lists) (pages : List PlainPage)
+    (l : PlainLayout) (regions : List PlainRegion) (kept : Lists) (pages : List TablePage)
     (roots : List PlainRoot) (told : Option Finding) (why : Unchecked)
     → IsChecked l regions kept pages roots told
     → IsUnchecked l regions kept pages roots why
@@ -37,7 +37,7 @@ AreAlikeIn found other = ⊥
 -- an audit has one answer, but for which block of a tree or which places it names
 abbrev pub CheckedOnce : Type 0
 CheckedOnce =
-    (l : PlainLayout) (regions : List PlainRegion) (kept : Lists) (pages : List PlainPage)
+    (l : PlainLayout) (regions : List PlainRegion) (kept : Lists) (pages : List TablePage)
     (roots : List PlainRoot) (f g : Option Finding)
     → IsChecked l regions kept pages roots f
     → IsChecked l regions kept pages roots g
@@ -46,7 +46,7 @@ CheckedOnce =
 -- and one that isn't made has one reason
 abbrev pub UncheckedOnce : Type 0
 UncheckedOnce =
-    (l : PlainLayout) (regions : List PlainRegion) (kept : Lists) (pages : List PlainPage)
+    (l : PlainLayout) (regions : List PlainRegion) (kept : Lists) (pages : List TablePage)
     (roots : List PlainRoot) (f g : Unchecked)
     → IsUnchecked l regions kept pages roots f
     → IsUnchecked l regions kept pages roots g

@@ -1,6 +1,6 @@
 -- What the recording of a run as a trace answers C.
 use Rattle.std.specs.Prelude.{◌≡◌, ◌⊎◌, ℕ, ℤ, List, length, nat_le, pos, negsuc, if◌then◌else◌}
-use Rattle.c_calls.specs.declared.boot.Unbooted.{Unbooted}
+use Rattle.c_calls.specs.declared.boot_state.Unbooted.{Unbooted}
 use Rattle.c_calls.specs.declared.lines.Unwritten.{Unwritten}
 use Rattle.c_calls.specs.declared.lines.Unwritten.TheVariants as unwritten
 use Rattle.c_calls.specs.Boots.{CanBootPlain, IsUnbooted}

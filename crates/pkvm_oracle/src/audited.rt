@@ -2,16 +2,16 @@
 ghost use Rattle.std.specs.Prelude.{◌≡◌, IfErr, IfOk};
 ghost use Rattle.c_states.specs.Views.{lists_from_c};
 ghost use Rattle.ghost_spec.specs.Filled.{HasTablesApart};
-ghost use Rattle.pkvm_oracle.specs.Audited.{fault_again, is_in_block as is_in_block_of, parent as parent_of, refused_by_audit, refused_by_trees, status_by_audit, status_by_trees, IsAudited, IsChecked, IsCheckedFrom, IsUnchecked, IsUncheckedFrom};
+ghost use Rattle.pkvm_oracle.specs.Audited.{fault_again, fault_of_root, is_in_block as is_in_block_of, parent as parent_of, refused_by_audit, refused_by_trees, status_by_audit, status_by_trees, IsAudited, IsChecked, IsCheckedFrom, IsUnchecked, IsUncheckedFrom};
 
 use crate::judged::{NOTHING, PlainRefused, unmade_refused, unmade_status};
 use crate::statuses::{BAD_BEFORE, BAD_TABLES, NO_MEMORY, NO_ROOM};
 use c_states::{PlainLayout, PlainState, Unmade, made};
-use c_tables::{PlainPage, PlainRoot, Reached, TreeFault, trees_of};
+use c_trees::{PlainRoot, RootFault, TreeFault, trees_of};
 use ghost_spec::state::Ghost;
-use ghost_trees::blocks::Block;
 use std::alloc::Global;
 use table_audit::{Finding, audited, write_finding};
+use walked_tables::{Reached, TablePage};
 
 /// Why there is no audit. The first that is true is answered, in the order of the variants.
 #[derive(Clone, Copy, PartialEq)]
@@ -30,8 +30,8 @@ fn checked(
     alloc: Global,
     layout: &PlainLayout<'_>,
     kept: &PlainState<'_>,
-    pages: &[PlainPage<'_>],
-    roots: &[PlainRoot],
+    pages: &[TablePage<'_>],
+    roots: &[PlainRoot<'_>],
 ) -> Result<Option<Finding>, Unchecked>
     ensures checked { IfOk result
         (IsChecked layout.now layout.now.regions.now (lists_from_c kept.now) pages.now roots.now) }
@@ -53,14 +53,20 @@ fn checked(
 fn checked_with(
     alloc: Global,
     kept: &Ghost,
-    pages: &[PlainPage<'_>],
-    roots: &[PlainRoot],
+    pages: &[TablePage<'_>],
+    roots: &[PlainRoot<'_>],
 ) -> Result<Option<Finding>, Unchecked>
     requires { HasTablesApart kept.now }
     ensures checked { IfOk result (IsCheckedFrom kept.now pages.now roots.now) }
     ensures unchecked { IfErr result (IsUncheckedFrom kept.now.layout.geometry pages.now roots.now) }
 {
-    let trees = match trees_of(alloc, kept.lists().layout.geometry, pages, roots) {
+    let trees = match trees_of(
+        alloc,
+        kept.lists().layout.geometry,
+        pages,
+        roots,
+        kept.lists(),
+    ) {
         Ok(trees) => trees,
         Err(fault) => return Err(Unchecked::Trees(fault)),
     };
@@ -72,7 +78,7 @@ fn checked_with(
     }
 }
 
-/// The index of the block that is this number of heights up and has the block in it.
+/// The number of the block that is so many levels up and has the block in it.
 fn parent(levels: u64, index: u64) -> u64
     ensures { result ≡ parent_of levels index }
 {
@@ -83,20 +89,20 @@ fn parent(levels: u64, index: u64) -> u64
     found
 }
 
-/// Whether a block lies in another, which is larger.
-fn is_in_block(upper: Block, lower: Block) -> bool
+/// Whether a table's block lies in another's, which is larger.
+fn is_in_block(upper: Reached, lower: Reached) -> bool
     ensures { result ≡ is_in_block_of upper lower }
 {
-    lower.0 < upper.0 && parent(upper.0 - lower.0, lower.1) == upper.1
+    lower.depth < upper.depth && parent(upper.depth - lower.depth, lower.number) == upper.number
 }
 
 /// The number of the fault of a walk that comes to a table again.
 fn again_number(first: Reached, second: Reached) -> u64
     ensures { result ≡ fault_again first second }
 {
-    if first.tree == second.tree && is_in_block(first.table.block, second.table.block) {
+    if first.tree == second.tree && is_in_block(first, second) {
         20
-    } else if first.table.block.0 != second.table.block.0 {
+    } else if first.depth != second.depth {
         21
     } else {
         22
@@ -125,6 +131,18 @@ fn of_root(fault: u64, at: usize) -> PlainRefused
     }
 }
 
+/// The number of the fault of a root.
+fn root_number(fault: RootFault) -> u64
+    ensures { result ≡ fault_of_root fault }
+{
+    match fault {
+        RootFault::Profile => 27,
+        RootFault::Levels => 28,
+        RootFault::Pages => 29,
+        RootFault::Skips => 30,
+    }
+}
+
 /// Why pages and roots make no trees, in numbers. Of a walk, with the tree and the frame.
 fn trees_refused(fault: TreeFault) -> PlainRefused
     ensures { result ≡ refused_by_trees fault }
@@ -134,11 +152,12 @@ fn trees_refused(fault: TreeFault) -> PlainRefused
         TreeFault::PageTwice(at) => of_page(16, at),
         TreeFault::NoTree(at) => of_root(17, at),
         TreeFault::RootTwice(at) => of_root(18, at),
+        TreeFault::BadRoot(at, fault) => of_root(root_number(fault), at),
         TreeFault::NoPage(at) => of_root(19, at),
         TreeFault::Again { first, second } => PlainRefused {
             fault: again_number(first, second),
             list: second.tree,
-            index: second.table.frame,
+            index: second.frame,
         },
         TreeFault::NoMemory => NOTHING,
     }
@@ -186,8 +205,8 @@ pub extern "C" fn pkvm_audit(
     alloc: Global,
     layout: &PlainLayout<'_>,
     kept: &PlainState<'_>,
-    pages: &[PlainPage<'_>],
-    roots: &[PlainRoot],
+    pages: &[TablePage<'_>],
+    roots: &[PlainRoot<'_>],
     text: &mut [u8],
     text_len: &mut usize,
     refused: &mut PlainRefused,

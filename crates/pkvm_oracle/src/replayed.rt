@@ -4,8 +4,8 @@ ghost use Rattle.pkvm_oracle.specs.Replayed.{IsAnswered, status_of};
 
 use crate::statuses::{NO_MEMORY, NO_ROOM};
 use std::alloc::Global;
-use trace_bytes::{Replayed, replay_bytes};
 use trace_reader::Outcome;
+use trace_text::{Replayed, replay_bytes};
 
 /// Writes as many bytes as there is room for, and returns how many.
 fn put(bytes: &[u8], room: &mut [u8]) -> usize

@@ -1,8 +1,21 @@
 //! What faults are called.
 ghost use Rattle.std.specs.Prelude.{◌≡◌};
-ghost use Rattle.pkvm_oracle.specs.FaultTexts.{text_of_fault, text_of_list_fault, text_of_table_fault, IsFaultReported};
+ghost use Rattle.pkvm_oracle.specs.FaultTexts.{text_of_fault, text_of_list_fault, text_of_root_fault, text_of_table_fault, IsFaultReported};
 
 use crate::statuses::{BAD_NUMBER, NO_ROOM};
+
+/// From the faults of profiles and sizes of roots on.
+fn root_fault_text(fault: u64) -> &'static str
+    ensures { result.now ≡ text_of_root_fault fault }
+{
+    match fault {
+        27 => "a root's tree has no such profile",
+        28 => "a root has over 4 levels",
+        29 => "a root's pages aren't 1, 2, 4, 8 or 16, or end over frame 2^64",
+        30 => "a range that is left out has no page, or ends over page 2^52",
+        _ => "",
+    }
+}
 
 /// From the faults of tables on.
 fn table_fault_text(fault: u64) -> &'static str
@@ -13,7 +26,7 @@ fn table_fault_text(fault: u64) -> &'static str
         16 => "two pages have one frame",
         17 => "a root is of a tree that can't be",
         18 => "a tree has two roots",
-        19 => "no page has the root's frame",
+        19 => "a frame of a root has no page",
         20 => "a table is below itself",
         21 => "a table is reached at two levels",
         22 => "a table is reached twice",
@@ -21,7 +34,7 @@ fn table_fault_text(fault: u64) -> &'static str
         24 => "freedoms without that of own tables",
         25 => "CPUs that aren't 1 to 64",
         26 => "the carve-out has fewer frames than boot needs tables",
-        _ => "",
+        _ => root_fault_text(fault),
     }
 }
 

@@ -1,5 +1,5 @@
 //! The plain program of the model along calls.
-use crate::ending::booted_world;
+use crate::machine_end::booted_world;
 use call_table::{Refusal, Reply, Step};
 use ghost_spec::state::{Ghost, has_next_generation, predict};
 use std::alloc::{AllocError, Global};

@@ -8,16 +8,16 @@
 ghost use Rattle.std.specs.Prelude.{◌≡◌};
 ghost use Rattle.trace_race.specs.Courses.{IsSound, course_in};
 
-mod ending;
 mod following;
+mod machine_end;
 mod reading;
 mod refusing;
 mod running;
 mod steps;
 mod wholes;
 
-use ending::{Ended, end_in_turn, used};
 use following::follows;
+use machine_end::{Ended, end_in_turn, used};
 use page_state::{Config, MemoryMap};
 use reading::{read_all, told};
 use running::run_in_turn;

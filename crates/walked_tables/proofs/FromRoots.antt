@@ -1,5 +1,5 @@
 -- A walk over the root's pages.
-use Rattle.std.proofs.Common.{◌≡◌, ℕ, zero, suc, ◌+◌, ◌*◌, ◌/◌, ◌^◌, ◌<◌, ◌≤◌, List, [], ◌++◌, length, get_or, drop, Some, None, true, false, refl, sym, ap, inl, inr, ◌∙◌, arith}
+use Rattle.std.proofs.Common.{◌≡◌, ℕ, zero, suc, ◌+◌, ◌*◌, ◌/◌, ◌^◌, ◌<◌, ◌≤◌, List, [], ◌++◌, length, get_or, drop, Some, None, true, false, refl, sym, ap, subst, inl, inr, ◌∙◌, arith}
 use Rattle.std.specs.Prelude.{AllPairs, slice_get}
 use Rattle.std.proofs.lemmas.Bool.Decides.{nat_tests}
 use Rattle.std.proofs.lemmas.List.{append_assoc, append-nil, at_drop_more, at_drop_all}
@@ -10,7 +10,6 @@ use Rattle.page_state.specs.Geometries.{block_pages}
 use Rattle.page_state.specs.Map.{is_within}
 use Rattle.page_state.proofs.Cases.{by_lt}
 use Rattle.page_state.proofs.Common.{if-true, if-false}
-use Rattle.page_state.proofs.Sizes.{size_some}
 use Rattle.run_list.specs.declared.run.Run.{Run}
 use Rattle.run_list.specs.Runs.{EndBefore, run_map}
 use Rattle.run_list.specs.View.{IsKept}
@@ -20,25 +19,19 @@ use Rattle.walked_tables.specs.declared.reached.Reached.{Reached}
 use Rattle.walked_tables.specs.declared.reached.Stopped.{Stopped}
 use Rattle.walked_tables.specs.declared.said.Said.{Said}
 use Rattle.walked_tables.specs.Values.{advance_said, CanGoOn}
-use Rattle.walked_tables.specs.ByFrames.{along, led_case, map_by_frames, said_by, tables_by_frames, tables_under}
+use Rattle.walked_tables.specs.ByFrames.{along, led_case, map_by_frames, most_pages, said_by, table_pages, tables_by_frames, tables_under}
 use Rattle.walked_tables.specs.Laid.{laid}
 use Rattle.walked_tables.specs.Reached.{AreOtherFrames, IsStopped}
 use Rattle.walked_tables.proofs.Laid.{laid_none, laid_on, SaidMap}
 use Rattle.walked_tables.proofs.MetTables.{stopped_on}
+use Rattle.walked_tables.proofs.Reach.{pages_some, root_first}
 use Rattle.walked_tables.proofs.Slots.{part_of}
 
 -- no page has anything
 abbrev pub nothing_said : SaidMap
 nothing_said page = None
 
--- sizes
-pub place_of : (d k n : ℕ) → d ≤ 3 → k < n → n ≤ 16 → (k + 1) * block_pages (d + 1) ≤ 2 ^ 40
-place_of zero k n h l f = omega arith
-place_of (suc zero) k n h l f = omega arith
-place_of (suc (suc zero)) k n h l f = omega arith
-place_of (suc (suc (suc zero))) k n h l f = omega arith
-place_of (suc (suc (suc (suc d)))) k n h l f = absurd (omega arith)
-
+-- places
 pub past_div : (s n p : ℕ) → 1 ≤ s → n * s ≤ p → n ≤ p / s
 past_div s n p h l = by_lt (p / s) n
     (λ k. let m : (p / s + 1) * s ≤ n * s = mul-le-mul_right s (omega (arith, k)) in absurd (omega (arith, h, m, l)))
@@ -61,14 +54,14 @@ module _ (profile : Profile) (pages : List TablePage) (tree depth : ℕ) (roots 
         ≡ met ++ along (tables_under profile pages tree depth) k (drop k roots)
     pub apart : AllPairs AreOtherFrames met
     pub map : run_map advance_said runs
-        ≡ laid 0 (k * block_pages (depth + 1)) (map_by_frames profile pages depth roots) nothing_said
+        ≡ laid 0 (k * table_pages depth) (map_by_frames profile pages depth roots) nothing_said
     pub kept : IsKept advance_said CanGoOn runs
-    pub behind : EndBefore (k * block_pages (depth + 1) + 1) runs
+    pub behind : EndBefore (k * table_pages depth + 1) runs
 
   pub begun : (runs : List (Run Said)) → runs ≡ [] → AllPairs AreOtherFrames met₀ → IsRooted 0 met₀ runs
   unfolding tables_by_frames
   begun runs f apart =
-      let none : 0 * block_pages (depth + 1) ≡ 0 = omega arith in
+      let none : 0 * table_pages depth ≡ 0 = omega arith in
       record {
         met_is = refl;
         apart = apart;
@@ -84,18 +77,18 @@ module _ (profile : Profile) (pages : List TablePage) (tree depth : ℕ) (roots 
   -- what the root's page has that a page is under
   root_gives : (root : TablePage) (p k : ℕ)
       → slice_get roots k ≡ Some root
-      → p / block_pages (depth + 1) ≡ k
+      → p / table_pages depth ≡ k
       → said_by profile pages depth root p ≡ map_by_frames profile pages depth roots p
   unfolding map_by_frames
   root_gives root p k e d =
       sym (ap (λ o. led_case None (λ r. said_by profile pages depth r p) o) (ap (slice_get roots) d ∙ e))
 
-  nothing_past : (p : ℕ) → length roots * block_pages (depth + 1) ≤ p → map_by_frames profile pages depth roots p ≡ None
+  nothing_past : (p : ℕ) → length roots * table_pages depth ≤ p → map_by_frames profile pages depth roots p ≡ None
   unfolding map_by_frames
   nothing_past p h =
       ap (λ o. led_case None (λ r. said_by profile pages depth r p) o)
-      (none_past roots (p / block_pages (depth + 1))
-      (past_div (block_pages (depth + 1)) (length roots) p (size_some (depth + 1)) h))
+      (none_past roots (p / table_pages depth)
+      (past_div (table_pages depth) (length roots) p (pages_some depth) h))
 
   module _ (k : ℕ) (met : List Reached) (runs : List (Run Said)) (x : IsRooted k met runs) (below : k < length roots)
       (root other : TablePage) (root_is : root ≡ get_or roots k other) where
@@ -127,18 +120,20 @@ module _ (profile : Profile) (pages : List TablePage) (tree depth : ℕ) (roots 
         stopped_on (met ++ tables_under profile pages tree depth k root) _ _ s
         (more_met (met ++ tables_under profile pages tree depth k root) refl) h
 
-    pub more : (met' : List Reached) (runs' : List (Run Said))
+    pub more : length roots ≤ most_pages depth
+        → (met' : List Reached) (runs' : List (Run Said))
         → met' ≡ met ++ tables_under profile pages tree depth k root
         → AllPairs AreOtherFrames met'
         → run_map advance_said runs'
-        ≡ laid (k * block_pages (depth + 1)) (block_pages (depth + 1)) (said_by profile pages depth root)
+        ≡ laid (k * block_pages (depth + 1)) (table_pages depth) (said_by profile pages depth root)
         (run_map advance_said runs)
         → IsKept advance_said CanGoOn runs'
-        → EndBefore ((k + 1) * block_pages (depth + 1) + 1) runs'
+        → EndBefore (k * block_pages (depth + 1) + table_pages depth + 1) runs'
         → IsRooted (k + 1) met' runs'
-    more met' runs' e apart m kept behind =
-        let size = block_pages (depth + 1) in
-        let start : k * size ≡ 0 + k * size = omega arith in
+    more few met' runs' e apart m kept behind =
+        let size = table_pages depth in
+        let first = root_first depth k (length roots) below few in
+        let start : k * block_pages (depth + 1) ≡ 0 + k * size = omega (arith, first) in
         let end : k * size + size ≡ (k + 1) * size = omega arith in
         record {
           met_is = more_met met' e;
@@ -149,11 +144,11 @@ module _ (profile : Profile) (pages : List TablePage) (tree depth : ℕ) (roots 
               (m ∙ ap (λ n. laid n size (said_by profile pages depth root) (run_map advance_said runs)) start)
               (λ p low high. root_gives root p k
               (slice_get-get_or roots k other below ∙ ap (λ (r : TablePage). Some r) (sym root_is))
-              (part_of profile pages size k p (size_some (depth + 1)) (omega (arith, low))
+              (part_of profile pages size k p (pages_some depth) (omega (arith, low))
               (omega (arith, high))))
               ∙ ap (λ n. laid 0 n (map_by_frames profile pages depth roots) nothing_said) end;
           kept = kept;
-          behind = behind;
+          behind = subst (λ (j : ℕ). EndBefore (j + 1) runs') (ap (λ j. j + size) first ∙ end) behind;
         }
 
   module _ (k : ℕ) (met : List Reached) (runs : List (Run Said)) (x : IsRooted k met runs) (low : k ≤ length roots)
@@ -170,7 +165,7 @@ module _ (profile : Profile) (pages : List TablePage) (tree depth : ℕ) (roots 
 
     at_page : (p : ℕ) → run_map advance_said runs p ≡ map_by_frames profile pages depth roots p
     at_page p =
-        let size = block_pages (depth + 1) in
+        let size = table_pages depth in
         let said : run_map advance_said runs p ≡ laid 0 (length roots * size) (map_by_frames profile pages depth roots) nothing_said p =
         ap (λ m. m p)
         (x.map ∙ ap (λ n. laid 0 (n * size) (map_by_frames profile pages depth roots) nothing_said) last) in

@@ -1,6 +1,7 @@
 pub mod MetTables
 pub mod Passed
 pub mod Laid
+pub mod Reach
 pub mod Slots
 pub mod Pushed
 pub mod WalkedSlots

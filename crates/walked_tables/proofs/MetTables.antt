@@ -50,18 +50,21 @@ stopped_on xs ys zs (Again first second) e h = record {
   front = h.front;
   back = h.back ++ ys;
   in_order = e ∙ ap (λ us. us ++ ys) h.in_order ∙ append_assoc h.front (second ∷ h.back) ys;
+  apart = h.apart;
   earlier = h.earlier;
   frame = h.frame;
 }
 stopped_on xs ys zs NoMemory e h = tt
 
 pub again : (met : List Reached) (next first : Reached)
+    → AllPairs AreOtherFrames met
     → reached_of met next.frame ≡ Some first
     → IsAgain (met ++ next ∷ []) first next
-again met next first e = let found = some_met met next.frame first e in record {
+again met next first apart e = let found = some_met met next.frame first e in record {
   front = met;
   back = [];
   in_order = refl;
+  apart = apart;
   earlier = found.0;
   frame = found.1;
 }

@@ -12,6 +12,8 @@ use Rattle.descriptor.specs.declared.State.{State}
 use Rattle.descriptor.specs.declared.State.TheVariants.{Owned}
 use Rattle.page_state.specs.declared.entry.Entry.{Entry}
 use Rattle.page_state.specs.declared.entry.Entry.TheVariants as entry
+use Rattle.page_state.specs.declared.layout.Geometry.{Geometry}
+use Rattle.page_state.specs.declared.layout.Geometry.TheVariants.{Bits39, Bits48}
 use Rattle.page_state.specs.Entries.{advance, entry_of_word}
 use Rattle.page_state.specs.Geometries.{block_pages, input_pages, levels_below}
 use Rattle.page_state.proofs.Cases.{by_lt}
@@ -28,7 +30,7 @@ use Rattle.table_words.specs.declared.word.Decoded.{Decoded}
 use Rattle.table_words.specs.declared.word.Decoded.TheVariants.{Malformed, Unmapped, Annotated, Poisoned, Locked, Cleared, Leaf, Table}
 use Rattle.walked_tables.specs.declared.follow.TablePage.{TablePage}
 use Rattle.walked_tables.specs.declared.said.Said.{Said}
-use Rattle.walked_tables.specs.ByFrames.{index_at, led, led_at, led_case, level_at, map_by_frames, page_of, said_by, word_gives, word_on, words_of}
+use Rattle.walked_tables.specs.ByFrames.{index_at, led, led_at, led_case, level_at, map_by_frames, page_of, said_by, table_pages, word_gives, word_on, words_of}
 use Rattle.walked_tables.specs.Values.{advance_decoded, advance_said, value_of}
 use Rattle.walked_tables.proofs.FromRoots.{none_past, past_div}
 use Rattle.walked_tables.proofs.Slots.{found_in, part_of}
@@ -169,17 +171,23 @@ module _ (pages : List TablePage) (words : All HasWords pages) (page : ℕ) wher
       ∙ ap (plain.led_case (plain.word_gives (suc d) w page) (λ next. plain.entry_by (map as_plain pages) d next page))
       (sym (leads_same pages (suc d) w r))
 
+input_are : (g : Geometry) → table_pages (levels_below g) ≡ input_pages g
+input_are Bits39 = refl
+input_are Bits48 = refl
+
 pub plain_walk : IsPlainWalk
 unfolding map_by_frames plain.map_by_frames
 plain_walk g pages root page words own_words =
     let size = input_pages g in
+    let pages_are = input_are g in
     by_lt page size
     (λ l.
     let first : page / size ≡ 0 =
     part_of model_profile pages size 0 page (size_some (levels_below g + 1)) (omega arith) (omega (arith, l)) in
     ap
     (λ k. entry_of_said
-    (led_case None (λ r. said_by model_profile pages (levels_below g) r page) (slice_get (root ∷ []) k))) first
+    (led_case None (λ r. said_by model_profile pages (levels_below g) r page) (slice_get (root ∷ []) k)))
+    (ap (λ n. page / n) pages_are ∙ first)
     ∙ tables_same pages words page (levels_below g) root own_words
     ∙ sym
     (if-true (nat_lt page size)
@@ -189,7 +197,8 @@ plain_walk g pages root page words own_words =
     let past : slice_get (root ∷ []) (page / size) ≡ None =
     none_past (root ∷ []) (page / size)
     (past_div size 1 page (size_some (levels_below g + 1)) (omega (arith, l))) in
-    ap (λ o. entry_of_said (led_case None (λ r. said_by model_profile pages (levels_below g) r page) o)) past
+    ap (λ o. entry_of_said (led_case None (λ r. said_by model_profile pages (levels_below g) r page) o))
+    (ap (λ n. slice_get (root ∷ []) (page / n)) pages_are ∙ past)
     ∙ sym
     (if-false (nat_lt page size)
     (plain.entry_by (map as_plain pages) (levels_below g) (as_plain root) page) entry.Unmapped

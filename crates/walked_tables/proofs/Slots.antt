@@ -15,7 +15,7 @@ use Rattle.walked_tables.specs.declared.follow.TablePage.{TablePage}
 use Rattle.walked_tables.specs.declared.reached.Reached.{Reached}
 use Rattle.walked_tables.specs.declared.said.Said.{Said}
 use Rattle.walked_tables.specs.Values.{advance_said, value_of}
-use Rattle.walked_tables.specs.ByFrames.{along, said_by, index_at, IsWhole, led, led_at, led_case, level_at, reached_at, tables_under, word_gives, word_on, words_of}
+use Rattle.walked_tables.specs.ByFrames.{along, said_by, index_at, IsWhole, led, led_at, led_case, level_at, reached_at, reached_words, tables_under, word_gives, word_on, words_of}
 
 -- a page that is found is one of the list
 pub found_in : {X : Type 0} (P : X → Type 0) (test : X → Bool) (xs : List X) (x : X)
@@ -159,7 +159,7 @@ module _ (profile : Profile) (pages : List TablePage) where
 
     pub tables_step : (d n : ℕ) (page : TablePage)
         → tables_under profile pages tree d n page
-        ≡ reached_at tree d n page ∷ along (slot_tables d) (n * 512) (words_of page)
+        ≡ reached_at tree d n page ∷ along (slot_tables d) (n * 512) (reached_words d (words_of page))
     unfolding tables_under slot_tables
     tables_step zero n page = ap (λ xs. reached_at tree zero n page ∷ xs) (sym (along_none (n * 512) (words_of page)))
     tables_step (suc d) n page = refl

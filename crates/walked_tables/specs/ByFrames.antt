@@ -1,6 +1,6 @@
 -- The map of a tree whose tables lie in pages, by a profile: a table word leads on to the page of
 -- its frame, if there is one. Depths count the levels below.
-use Rattle.std.specs.Prelude.{◌≡◌, ℕ, zero, suc, ◌+◌, ◌*◌, ◌/◌, ◌%◌, ◌==◌, List, [], ◌∷◌, ◌++◌, get_or, length, find, slice_get, Option, Some, None}
+use Rattle.std.specs.Prelude.{◌≡◌, ℕ, zero, suc, ◌+◌, ◌*◌, ◌/◌, ◌%◌, ◌==◌, nat_lt, List, [], ◌∷◌, ◌++◌, take, get_or, length, find, slice_get, Option, Some, None, if◌then◌else◌}
 use Rattle.descriptor.specs.declared.Level.{Level}
 use Rattle.descriptor.specs.declared.Level.TheVariants.{Zero, One, Two, Three}
 use Rattle.page_state.specs.Geometries.{block_pages}
@@ -31,7 +31,24 @@ abbrev pub led : List TablePage → Decoded → Option TablePage
 led pages (Table frame) = page_of pages frame.0
 led pages other = None
 
--- the level of a table
+-- how many words of a table addresses reach (Arm DDI 0487, D8.2): nine bits of an address are the
+-- index, but at level -1, with four levels below, bits 51:48
+abbrev pub slots_at : ℕ → ℕ
+slots_at depth = if nat_lt depth 4 then 512 else 16
+
+-- these words
+abbrev pub reached_words : ℕ → List ℕ → List ℕ
+reached_words depth words = if nat_lt depth 4 then words else take 16 words
+
+-- the pages that they are for
+abbrev pub table_pages : ℕ → ℕ
+table_pages depth = slots_at depth * block_pages depth
+
+-- how many pages a root may have: at level -1 none are concatenated
+abbrev pub most_pages : ℕ → ℕ
+most_pages depth = if nat_lt depth 4 then 16 else 1
+
+-- the level of a table, for what its words say: level -1 has the words of level 0, tables alone
 abbrev pub level_at : ℕ → Level
 level_at zero = Three
 level_at (suc zero) = Two
@@ -87,14 +104,14 @@ tables_under profile pages tree (suc depth) number page =
     ∷ along
     (λ part word. led_case [] (λ next. tables_under profile pages tree depth part next)
     (led_at profile pages (suc depth) word))
-    (number * 512) (words_of page)
+    (number * 512) (reached_words (suc depth) (words_of page))
 
 -- what a page has by the root's pages, which are concatenated in order (Arm DDI 0487, D8.2,
 -- "Concatenated translation tables")
 unfoldable pub map_by_frames : Profile → List TablePage → ℕ → List TablePage → ℕ → Option Said
 map_by_frames profile pages depth roots page =
     led_case None (λ root. said_by profile pages depth root page)
-    (slice_get roots (page / block_pages (depth + 1)))
+    (slice_get roots (page / table_pages depth))
 
 -- the tables of all the root's pages
 unfoldable pub tables_by_frames : Profile → List TablePage → ℕ → ℕ → List TablePage → List Reached

@@ -9,7 +9,7 @@ use Rattle.table_words.specs.declared.profile.Profile.{Profile}
 use Rattle.walked_tables.specs.declared.follow.TablePage.{TablePage}
 use Rattle.walked_tables.specs.declared.reached.Reached.{Reached}
 use Rattle.walked_tables.specs.declared.said.Said.{Said}
-use Rattle.walked_tables.specs.ByFrames.{map_by_frames, said_by, tables_by_frames, tables_under}
+use Rattle.walked_tables.specs.ByFrames.{map_by_frames, said_by, table_pages, tables_by_frames, tables_under}
 use Rattle.walked_tables.specs.Laid.{laid}
 use Rattle.walked_tables.specs.Reached.{AreOtherFrames}
 use Rattle.walked_tables.specs.Values.{CanGoOn, advance_said}
@@ -27,9 +27,9 @@ pub record IsTreeWalked (profile : Profile) (pages : List TablePage) (tree depth
 pub record IsTableWalked (profile : Profile) (pages : List TablePage) (tree depth number : ℕ)
     (page : TablePage) (before after : List Reached) (old new : List (Run Said)) : Type 0 where
   pub map : run_map advance_said new
-      ≡ laid (number * block_pages (depth + 1)) (block_pages (depth + 1))
+      ≡ laid (number * block_pages (depth + 1)) (table_pages depth)
       (said_by profile pages depth page) (run_map advance_said old)
   pub kept : IsKept advance_said CanGoOn new
-  pub behind : EndBefore ((number + 1) * block_pages (depth + 1) + 1) new
+  pub behind : EndBefore (number * block_pages (depth + 1) + table_pages depth + 1) new
   pub met : after ≡ before ++ tables_under profile pages tree depth number page
   pub apart : AllPairs AreOtherFrames after

@@ -1,6 +1,6 @@
 //! The tables that a walk has reached.
-ghost use Rattle.std.specs.Prelude.{◌≡◌, ◌++◌, ◌∷◌, [], ◌==◌, All, IfErr, OnOk, find};
-ghost use Rattle.walked_tables.specs.Reached.{IsStopped, IsOfFrame, reached_of};
+ghost use Rattle.std.specs.Prelude.{◌≡◌, ◌++◌, ◌∷◌, [], ◌==◌, All, AllPairs, IfErr, OnOk, find};
+ghost use Rattle.walked_tables.specs.Reached.{AreOtherFrames, IsStopped, IsOfFrame, reached_of};
 
 use std::alloc::AllocError;
 
@@ -42,6 +42,7 @@ fn of_frame(met: &[Reached], frame: u64) -> Option<Reached>
 
 /// Adds a table that a walk comes to, unless it has been to the table's frame.
 pub(crate) fn reach(met: &mut Vec<Reached>, next: Reached) -> Result<(), Stopped>
+    requires apart { AllPairs AreOtherFrames met.old.items }
     ensures met { OnOk result (met.new.items ≡ met.old.items ++ next ∷ []) }
     ensures fresh { OnOk result (All (λ r. IsOfFrame next.frame r → ⊥) met.old.items) }
     ensures stopped { IfErr result (IsStopped (met.old.items ++ next ∷ [])) }

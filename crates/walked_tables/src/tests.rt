@@ -9,7 +9,9 @@ use run_list::Run;
 use std::alloc::{AllocError, Global};
 use std::process::Abort;
 use std::test::Fail;
-use table_words::{Access, Decoded, Execute, Mapping, Memory, Release, linux_host};
+use table_words::{
+    Access, Decoded, Execute, Mapping, Memory, Release, linux_host, linux_hypervisor,
+};
 
 /// A table whose words are the given ones and zeros.
 fn table(alloc: Global, first: &[u64]) -> Result<Vec<u64>, AllocError> {
@@ -175,5 +177,70 @@ fn stops_at_a_table_of_two_words(rt: HostRuntime) -> Result<(), Fail> {
         },
     };
     assert!(&rt; stopped == Some(again), "again");
+    Ok(())
+}
+
+#[test]
+fn begins_at_level_minus_one(rt: HostRuntime) -> Result<(), Fail> {
+    let alloc = rt.alloc();
+    // a table, a word that says nothing, and another one, which no address reaches
+    let root = table(
+        alloc,
+        &[
+            0,
+            0x0000_0000_5000_1003,
+            1,
+            0,
+            0,
+            0,
+            0,
+            0,
+            0,
+            0,
+            0,
+            0,
+            0,
+            0,
+            0,
+            0,
+            1,
+        ],
+    )?;
+    let below = table(alloc, &[0x0000_0000_6000_0003])?;
+    let pages = [
+        TablePage {
+            frame: 0x50000,
+            words: root.as_slice(),
+        },
+        TablePage {
+            frame: 0x50001,
+            words: below.as_slice(),
+        },
+    ];
+    let profile = linux_hypervisor(Release::V7, true, true);
+    assert!(&rt; are_whole(&pages), "whole pages");
+    assert!(&rt; are_whole(&pages[..1]), "a whole root");
+    let mut met = Vec::new(alloc);
+    let found = walked(alloc, &profile, &pages, 1, 4, &pages[..1], &mut met)
+        .ok()
+        .expect(&rt, "a walk");
+    let runs = [
+        run(1 << 36, 1 << 27, Decoded::Table(Frame(0x60000))),
+        run(2 << 36, 1 << 36, Decoded::Malformed),
+    ];
+    assert!(&rt; found.as_slice() == runs.as_slice(), "runs");
+    let top = Reached {
+        tree: 1,
+        depth: 4,
+        number: 0,
+        frame: 0x50000,
+    };
+    let next = Reached {
+        depth: 3,
+        number: 1,
+        frame: 0x50001,
+        ..top
+    };
+    assert!(&rt; met.as_slice() == [top, next].as_slice(), "tables");
     Ok(())
 }

@@ -4,15 +4,14 @@ ghost use Rattle.page_state.specs.Geometries.{block_pages};
 ghost use Rattle.run_list.specs.Runs.{EndBefore};
 ghost use Rattle.run_list.specs.View.{IsKept};
 ghost use Rattle.walked_tables.specs.Values.{advance_said, CanGoOn};
-ghost use Rattle.walked_tables.specs.ByFrames.{IsWhole, tables_by_frames, tables_under};
+ghost use Rattle.walked_tables.specs.ByFrames.{IsWhole, most_pages, table_pages, tables_by_frames, tables_under};
 ghost use Rattle.walked_tables.specs.Reached.{AreOtherFrames, IsStopped};
 ghost use Rattle.walked_tables.specs.Walks.{IsTableWalked, IsTreeWalked};
 
-use crate::follow::{TablePage, next_page, value_at};
+use crate::follow::{TablePage, next_page, slots_in, value_at, word_pages};
 use crate::reached::{Reached, Stopped, reach};
 use crate::runs::put;
 use crate::said::Said;
-use page_state::pages_under;
 use run_list::Run;
 use std::alloc::Global;
 use table_words::Profile;
@@ -29,10 +28,10 @@ fn walk_table(
     met: &mut Vec<Reached>,
     runs: &mut Vec<Run<Said>>,
 ) -> Result<(), Stopped>
-    requires depth_in { depth ≤ 3 }
+    requires depth_in { depth ≤ 4 }
     requires whole { All IsWhole pages.now }
     requires page { IsWhole page }
-    requires place { (number + 1) * block_pages (depth + 1) ≤ 2 ^ 40 }
+    requires place { number * block_pages (depth + 1) + table_pages depth ≤ 2 ^ 40 }
     requires kept { IsKept advance_said CanGoOn runs.old.items }
     requires behind { EndBefore (number * block_pages (depth + 1) + 1) runs.old.items }
     requires apart { AllPairs AreOtherFrames met.old.items }
@@ -49,8 +48,9 @@ fn walk_table(
         frame: page.frame,
     };
     reach(met, table)?;
-    let each = pages_under(depth);
-    for i in 0..512usize {
+    let each = word_pages(depth);
+    let slots = slots_in(depth);
+    for i in 0..slots {
         let part = number * 512 + i as u64;
         let word = page.words[i];
         match next_page(profile, pages, depth, word) {
@@ -73,10 +73,10 @@ pub fn walked(
     roots: &[TablePage<'_>],
     met: &mut Vec<Reached>,
 ) -> Result<Vec<Run<Said>>, Stopped>
-    requires depth_in { depth ≤ 3 }
+    requires depth_in { depth ≤ 4 }
     requires whole { All IsWhole pages.now }
     requires roots { All IsWhole roots.now }
-    requires few { length roots.now ≤ 16 }
+    requires few { length roots.now ≤ most_pages depth }
     requires apart { AllPairs AreOtherFrames met.old.items }
     ensures walked { IfOk result
         (λ runs. IsTreeWalked profile.now pages.now tree depth roots.now met.old.items met.new.items runs.items) }

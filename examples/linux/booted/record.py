@@ -60,8 +60,15 @@ class Gdb:
     """The stub's protocol: packets, registers and breakpoints."""
 
     def __init__(self, path):
-        self.socket = socket.socket(socket.AF_UNIX)
-        self.socket.connect(path)
+        # The file is there a moment before QEMU listens.
+        for _ in range(PATIENCE):
+            self.socket = socket.socket(socket.AF_UNIX)
+            if os.path.exists(path) and self.socket.connect_ex(path) == 0:
+                break
+            self.socket.close()
+            time.sleep(0.1)
+        else:
+            raise OSError(f"QEMU doesn't listen at {path}")
         self.socket.settimeout(PATIENCE)
         self.buffer = b""
         self.here = None  # a breakpoint where the CPU stands
@@ -248,11 +255,13 @@ class Core:
         is_hvhe, is_fwb = (self.gdb.register("HCR_EL2") >> it & 1 for it in (34, 46))
         lpa2 = "-lpa2" * (self.gdb.register("VTCR_EL2") >> 32 & 1)
         stage_2 = self.release + "-fwb" * is_fwb + lpa2
+        # 6.12 forces attributes in a guest's tables alone, where the processor can.
+        of_guests = stage_2 if self.el2_has_guests else self.release + "-fwb" * (self.gdb.register("ID_AA64MMFR2_EL1") >> 40 & 1) + lpa2
         words = ["--host", self.root_of(self.physical("host_mmu") + self.names["host_mmu.pgt"]), "--profile", f"host={stage_2}"]
         words += ["--hyp", self.root_of(self.physical("pkvm_pgtable")), "--profile", f"hyp={self.release}{'-hvhe' * is_hvhe}{lpa2}"]
         for guest, kind, root in sorted(self.guests()):
             yield f"guest {guest} {kind} root {root}"
-            words += ["--guest", f"{guest}={root}", "--profile", f"{guest}={stage_2}"]
+            words += ["--guest", f"{guest}={root}", "--profile", f"{guest}={of_guests}"]
         for name, first, last in self.ranges():
             yield f"hyp {first:#x}-{last:#x} {name}"
             words += ["--skip", f"hyp={first:#x}-{last:#x}"]
@@ -299,10 +308,6 @@ def main():
         + ["-chardev", f"socket,path={folder}/gdb,server=on,wait=off,id=gdb", "-gdb", "chardev:gdb"]
     ) as qemu:
         try:
-            for _ in range(100):
-                if os.path.exists(f"{folder}/gdb"):
-                    break
-                time.sleep(0.1)
             record = Record(folder, memory)
             made = run(Gdb(f"{folder}/gdb"), names, calls, memory, record, most, folder, core)
             record.close()

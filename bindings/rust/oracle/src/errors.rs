@@ -52,7 +52,7 @@ faults! {
     RootTree = PKVM_FAULT_ROOT_TREE,
     /// A tree has two roots.
     RootTwice = PKVM_FAULT_ROOT_TWICE,
-    /// No page has the root's frame.
+    /// A frame of the root has no page.
     RootPage = PKVM_FAULT_ROOT_PAGE,
     /// A table is below itself.
     Loop = PKVM_FAULT_LOOP,
@@ -68,6 +68,14 @@ faults! {
     Cpus = PKVM_FAULT_CPUS,
     /// The carve-out has fewer frames than boot needs tables.
     CarveSmall = PKVM_FAULT_CARVE_SMALL,
+    /// A root's tree has no such profile.
+    RootProfile = PKVM_FAULT_ROOT_PROFILE,
+    /// A root has over 4 levels.
+    RootLevels = PKVM_FAULT_ROOT_LEVELS,
+    /// A root has a number of pages that isn't 1, 2, 4, 8 or 16, or ends over frame 2^64.
+    RootPages = PKVM_FAULT_ROOT_PAGES,
+    /// A range that is left out has no page, or ends over page 2^52.
+    RootSkips = PKVM_FAULT_ROOT_SKIPS,
 }
 
 impl Fault {
@@ -95,7 +103,7 @@ impl Fault {
             Fault::PageTwice => "two pages have one frame",
             Fault::RootTree => "a root is of a tree that can't be",
             Fault::RootTwice => "a tree has two roots",
-            Fault::RootPage => "no page has the root's frame",
+            Fault::RootPage => "a frame of a root has no page",
             Fault::Loop => "a table is below itself",
             Fault::TwoLevels => "a table is reached at two levels",
             Fault::ReachedTwice => "a table is reached twice",
@@ -103,6 +111,10 @@ impl Fault {
             Fault::NotOwnTables => "freedoms without that of own tables",
             Fault::Cpus => "CPUs that aren't 1 to 64",
             Fault::CarveSmall => "the carve-out has fewer frames than boot needs tables",
+            Fault::RootProfile => "a root's tree has no such profile",
+            Fault::RootLevels => "a root has over 4 levels",
+            Fault::RootPages => "a root's pages aren't 1, 2, 4, 8 or 16, or end over frame 2^64",
+            Fault::RootSkips => "a range that is left out has no page, or ends over page 2^52",
         }
     }
 }
@@ -194,6 +206,8 @@ pub enum Error {
     Level,
     /// No word of this level says it.
     NoWord,
+    /// The tree has no such profile.
+    NoProfile,
     /// The percentage of refused calls is over 100.
     Percentage,
     /// The layout hasn't the CPU.
@@ -240,6 +254,7 @@ impl fmt::Display for Error {
         match self {
             Error::Level => f.write_str("no such level"),
             Error::NoWord => f.write_str("no word of this level says it"),
+            Error::NoProfile => f.write_str("the tree has no such profile"),
             Error::Percentage => f.write_str("over 100 percent"),
             Error::Cpu => f.write_str("no such CPU"),
             Error::Layout(why) => write!(f, "the layout: {why}"),

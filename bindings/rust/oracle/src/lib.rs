@@ -26,12 +26,14 @@ extern crate alloc;
 use alloc::string::String;
 use alloc::vec;
 use alloc::vec::Vec;
+use core::ops::Range;
 use pkvm_oracle_sys as sys;
 
 mod calls;
 mod check;
 mod errors;
 mod numbered;
+mod profiles;
 mod random;
 mod states;
 mod words;
@@ -39,6 +41,7 @@ mod words;
 pub use calls::{Call, Refusal, Reply, Said, Value, Vm, VmKind};
 pub use check::{check, Trees};
 pub use errors::{Error, Fault, List, Place, Refused};
+pub use profiles::{decode_as, Alone, Beyond, Memory, OtherLeaf, Profile, Release};
 pub use random::{boot, suggest, trace_of, trace_start};
 pub use states::{
     Cpu, Frame, Freedoms, Guest, Layout, Load, Owner, Phase, Region, RegionKind, Row, Run, Slot,
@@ -392,16 +395,25 @@ pub struct Page<'a> {
     pub words: &'a [u64],
 }
 
-/// The root table of a tree.
-#[derive(Clone, Copy, Debug, PartialEq, Eq)]
+/// The root of a tree.
+#[derive(Clone, Debug, Default, PartialEq, Eq)]
 pub struct Root {
     /// Whose tree it is.
     pub tree: Party,
-    /// The root's frame.
+    /// The frame of the root, or of the first of its pages.
     pub frame: u64,
+    /// By whose rules its words are written.
+    pub profile: Profile,
+    /// How many levels of tables there are, 1 to 4; 0 for as many as the layout's address bits say.
+    pub levels: u64,
+    /// How many pages are concatenated: 1, 2, 4, 8 or 16; 0 for 1.
+    pub pages: u64,
+    /// Pages that are left out.
+    pub skips: Vec<Range<u64>>,
 }
 
-/// Compares a kept state with the trees that are found by walking pages of tables from their roots, by frame numbers. They agree where
+/// Compares a kept state with the trees that are found by walking pages of tables from their roots, by frame numbers, each by its
+/// root's profile, levels and pages; a leaf whose words say no states takes that of the kept leaf of its page. They agree where
 /// maps, owner rows and tables do, and the state is legal, as [`check`] has it of [`Trees::Coarsest`]. Else the first difference is
 /// told, or without one, two owners or two borrowers of a frame, or a borrower of one that nobody shares, or what [`check`] tells.
 ///
@@ -420,14 +432,14 @@ pub struct Root {
 /// let mut words = [0; 512];
 /// words[3] = 4; // pages 0xc0000 to 0xfffff are kept for owner 1
 /// let page = Page { frame: 0x40600, words: &words };
-/// let root = Root { tree: Party::Hyp, frame: 0x40600 };
-/// let verdict = audit(&layout, &State::default(), &[page], &[root])?;
+/// let root = Root { tree: Party::Hyp, frame: 0x40600, ..Root::default() };
+/// let verdict = audit(&layout, &State::default(), &[page], &[root.clone()])?;
 /// let told = "disagree hyp 0xc0000 kept unmapped walked annot 1";
 /// assert_eq!(verdict, Verdict::Differs(told.into()));
 ///
 /// words[0] = 0x40600003; // a table below itself
 /// let page = Page { frame: 0x40600, words: &words };
-/// let Err(Error::Tables(why)) = audit(&layout, &State::default(), &[page], &[root]) else {
+/// let Err(Error::Tables(why)) = audit(&layout, &State::default(), &[page], &[root.clone()]) else {
 ///     panic!()
 /// };
 /// assert_eq!(why.fault, Fault::Loop);
@@ -450,11 +462,24 @@ pub fn audit(
         words_len: it.words.len(),
     };
     let pages: Vec<sys::pkvm_page> = pages.iter().map(raw).collect();
-    let raw = |it: &Root| sys::pkvm_root {
+    let raw = |it: &Range<u64>| sys::pkvm_range {
+        first: it.start,
+        count: it.end.saturating_sub(it.start),
+    };
+    let skips: Vec<Vec<sys::pkvm_range>> = roots
+        .iter()
+        .map(|it| it.skips.iter().map(raw).collect())
+        .collect();
+    let raw = |(it, skips): (&Root, &Vec<sys::pkvm_range>)| sys::pkvm_root {
         tree: it.tree.number(),
         frame: it.frame,
+        profile: it.profile.number(),
+        levels: it.levels,
+        pages: it.pages,
+        skips: skips.as_ptr(),
+        skips_len: skips.len(),
     };
-    let roots: Vec<sys::pkvm_root> = roots.iter().map(raw).collect();
+    let roots: Vec<sys::pkvm_root> = roots.iter().zip(&skips).map(raw).collect();
     layout.with(|layout| {
         kept.with(|kept| {
             verdict(|text, length, refused| {

@@ -213,10 +213,10 @@ fn each_number_is_of_one_variant() {
     }
     assert_eq!(
         (Fault::ALL.len(), Refusal::ALL.len(), List::ALL.len()),
-        (26, 8, 10)
+        (30, 8, 10)
     );
     assert_eq!(
-        (Fault::of(0), Fault::of(27), Refusal::of(0)),
+        (Fault::of(0), Fault::of(31), Refusal::of(0)),
         (None, None, None)
     );
 }

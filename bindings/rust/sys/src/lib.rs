@@ -103,7 +103,20 @@ numbers! {
     PKVM_FAULT_PAGE_LENGTH = 15, PKVM_FAULT_PAGE_TWICE = 16, PKVM_FAULT_ROOT_TREE = 17, PKVM_FAULT_ROOT_TWICE = 18,
     PKVM_FAULT_ROOT_PAGE = 19, PKVM_FAULT_LOOP = 20, PKVM_FAULT_TWO_LEVELS = 21, PKVM_FAULT_REACHED_TWICE = 22,
     PKVM_FAULT_FREEDOM = 23, PKVM_FAULT_NOT_OWN_TABLES = 24,
-    PKVM_FAULT_CPUS = 25, PKVM_FAULT_CARVE_SMALL = 26
+    PKVM_FAULT_CPUS = 25, PKVM_FAULT_CARVE_SMALL = 26, PKVM_FAULT_ROOT_PROFILE = 27, PKVM_FAULT_ROOT_LEVELS = 28,
+    PKVM_FAULT_ROOT_PAGES = 29, PKVM_FAULT_ROOT_SKIPS = 30
+}
+numbers! {
+    "By whose rules words are written: one of the first three, and what is added to it." u64:
+    PKVM_MODEL = 0, PKVM_LINUX_6_12 = 1, PKVM_LINUX_7_3 = 2, PKVM_FWB = 16, PKVM_HVHE = 32, PKVM_LPA2 = 64
+}
+numbers! {
+    "Who alone may execute." u64:
+    PKVM_EL0_ALONE = 1, PKVM_ABOVE_EL0_ALONE = 2
+}
+numbers! {
+    "Normal memory of another kind." u64:
+    PKVM_UNCACHED = 1, PKVM_AS_STAGE_1 = 2
 }
 numbers! {
     "The lists in which the member at fault is." u64:
@@ -141,6 +154,11 @@ numbers! {
 structs! {
     /// What a word says.
     pkvm_word { says: u64, frame: u64, owner: u64, rights: u64, kind: u64, state: u64 }
+    /// What a word says beyond `pkvm_word`.
+    pkvm_beyond {
+        has_guest: u64, handle: u64, guest_page: u64, is_poisoned: u64, is_locked: u64, is_cleared: u64,
+        is_unreadable: u64, is_guarded: u64, is_aged: u64, is_stateless: u64, alone: u64, memory: u64, leaf: pkvm_word
+    }
     /// A range of frames of one kind.
     pkvm_region { kind: u64, first: u64, count: u64 }
     /// What a hypervisor runs on.
@@ -198,8 +216,12 @@ structs! {
     pkvm_sizes { runs: u64, tables: u64, frames: u64, slots: u64, loads: u64, guests: u64, cpus: u64, rows: u64 }
     /// A page with a table.
     pkvm_page { frame: u64, words: *const u64, words_len: usize }
-    /// The frame of a tree's root table.
-    pkvm_root { tree: u64, frame: u64 }
+    /// A range of pages.
+    pkvm_range { first: u64, count: u64 }
+    /// The root of a tree.
+    pkvm_root {
+        tree: u64, frame: u64, profile: u64, levels: u64, pages: u64, skips: *const pkvm_range, skips_len: usize
+    }
 }
 
 #[allow(missing_docs)]
@@ -207,6 +229,14 @@ unsafe extern "C" {
     pub fn pkvm_version() -> u64;
     pub fn pkvm_is_proved() -> i32;
     pub fn pkvm_decode(level: u64, word: u64, out: *mut pkvm_word) -> i32;
+    pub fn pkvm_decode_as(
+        tree: u64,
+        profile: u64,
+        level: u64,
+        word: u64,
+        out: *mut pkvm_word,
+        beyond: *mut pkvm_beyond,
+    ) -> i32;
     pub fn pkvm_encode(level: u64, says: *const pkvm_word, out: *mut u64) -> i32;
     pub fn pkvm_replay(
         trace: *const u8,

@@ -1,7 +1,7 @@
 use Rattle.std.proofs.Common.{◌++◌, ap}
 use Rattle.std.specs.Prelude.{string_bytes}
 use Rattle.std.specs.List.{flat_map}
-use Rattle.image_dump.specs.Pictures.{shown, start, text_of_shown}
+use Rattle.image_dump.specs.Pictures.{shown, text_of_shown}
 use Rattle.image_dump.proofs.Pictured.{shown_all, shown_further}
 use Rattle.image_dump.proofs.picture.write_shown.Goals as goal
 

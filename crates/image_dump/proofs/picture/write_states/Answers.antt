@@ -11,10 +11,12 @@ returns c =
     (string_bytes c.write_entry.new.svg) (string_bytes c.write_entry-2.new.svg)
     (string_bytes c.write_entry-3.new.svg) (string_bytes c.write_entry-4.new.svg)
     (c.in_ok-write_entry.ensures
-    ∙ ap (λ l. string_bytes c.args.svg.now ++ entry 440 34 l (codes "shared")) c.over-shared.ensures)
+    ∙ ap (λ l. string_bytes c.args.svg.now ++ entry 440 34 l (codes "shared, in black")) c.over-shared.ensures)
     (c.in_ok-write_entry-2.ensures
-    ∙ ap (λ l. string_bytes c.write_entry.new.svg ++ entry 550 34 l (codes "borrowed")) c.over-borrowed.ensures)
+    ∙ ap
+    (λ l. string_bytes c.write_entry.new.svg
+    ++ entry 590 34 l (codes "borrowed, in its tree's colour")) c.over-borrowed.ensures)
     (c.in_ok-write_entry-3.ensures
-    ∙ ap (λ l. string_bytes c.write_entry-2.new.svg ++ entry 670 34 l (codes "no known state"))
+    ∙ ap (λ l. string_bytes c.write_entry-2.new.svg ++ entry 820 34 l (codes "no known state"))
     c.over-unknown.ensures)
     (ap (λ l. entry 12 54 l (codes "a guest's, by its handle")) c.over-guest.ensures) c.write_entry-4.ensures

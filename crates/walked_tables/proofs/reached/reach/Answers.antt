@@ -5,7 +5,7 @@ use Rattle.walked_tables.proofs.reached.reach.Goals as goal
 
 pub returns-in-Some-clause-stopped : goal.returns-in-Some-clause-stopped
 returns-in-Some-clause-stopped c =
-    again c.args.met.now.items c.args.next c.in-Some.first
+    again c.args.met.now.items c.args.next c.in-Some.first c.requires.apart
     (ap (λ m. reached_of m c.args.next.frame) (sym c.as_slice.ensures.value) ∙ sym c.of_frame.ensures
     ∙ c.in-Some.is)
 

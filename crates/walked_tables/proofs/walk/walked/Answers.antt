@@ -1,5 +1,7 @@
-use Rattle.std.proofs.Common.{refl, arith}
-use Rattle.walked_tables.proofs.FromRoots.{all_map, all_met, begun, more, place_of, stopped_at}
+use Rattle.std.proofs.Common.{ℕ, ◌+◌, refl, sym, subst, arith}
+use Rattle.run_list.specs.Runs.{EndBefore}
+use Rattle.walked_tables.proofs.FromRoots.{all_map, all_met, begun, more, stopped_at}
+use Rattle.walked_tables.proofs.Reach.{root_first, root_place}
 use Rattle.walked_tables.proofs.Passed.{passed_on}
 use Rattle.walked_tables.proofs.walk.walked.Goals as goal
 
@@ -10,7 +12,12 @@ loop-k-init c =
 
 pub walk_table-requires-clause-place : goal.walk_table-requires-clause-place
 walk_table-requires-clause-place c =
-    place_of c.args.depth c.loop-k.k _ c.requires.depth_in c.loop-k-test.true c.requires.few
+    root_place c.args.depth c.loop-k.k _ c.requires.depth_in c.loop-k-test.true c.requires.few
+
+pub walk_table-requires-clause-behind : goal.walk_table-requires-clause-behind
+walk_table-requires-clause-behind c =
+    subst (λ (j : ℕ). EndBefore (j + 1) c.loop-k.runs.items)
+    (sym (root_first c.args.depth c.loop-k.k _ c.loop-k-test.true c.requires.few)) c.loop-k.invariant.behind
 
 pub returns-in_err-walk_table-clause-stopped : goal.returns-in_err-walk_table-clause-stopped
 returns-in_err-walk_table-clause-stopped c =
@@ -23,7 +30,7 @@ returns-in_err-walk_table-clause-stopped c =
 pub loop-k-preserved : goal.loop-k-preserved
 loop-k-preserved c =
     more c.args.profile.now c.args.pages.now c.args.tree c.args.depth c.args.roots.now c.args.met.now.items c.loop-k.k
-    c.loop-k.met.items c.loop-k.runs.items c.loop-k.invariant c.loop-k-test.true _ _ refl
+    c.loop-k.met.items c.loop-k.runs.items c.loop-k.invariant c.loop-k-test.true _ _ refl c.requires.few
     c.walk_table.new.met.items c.walk_table.new.runs.items
     c.in_ok-walk_table.ensures.walked.met c.in_ok-walk_table.ensures.walked.apart c.in_ok-walk_table.ensures.walked.map
     c.in_ok-walk_table.ensures.walked.kept c.in_ok-walk_table.ensures.walked.behind

@@ -1,0 +1,5 @@
+pub mod Roots
+pub mod Entries
+pub mod Trees
+pub mod Given
+pub mod Laws
