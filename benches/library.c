@@ -108,7 +108,12 @@ static void make(struct machine *m, size_t shared)
 		 carve = MEMORY + pages - CARVED;
 	memset(m, 0, sizeof *m);
 	m->memory = (struct pkvm_region){PKVM_MEMORY, MEMORY, pages};
-	m->layout = (struct pkvm_layout){39, 1, carve, CARVED, &m->memory, 1};
+	m->layout = (struct pkvm_layout){.address_bits = 39,
+					 .cpus = 1,
+					 .carve_first = carve,
+					 .carve_count = CARVED,
+					 .regions = &m->memory,
+					 .regions_len = 1};
 	m->runs = members(3 * shared + 4, sizeof *m->runs);
 	m->tables = members(CARVED, sizeof *m->tables);
 	m->frames = members(CARVED, sizeof *m->frames);
@@ -117,7 +122,7 @@ static void make(struct machine *m, size_t shared)
 	m->by_frame = members((size_t)CARVED * TABLE, sizeof *m->by_frame);
 	m->next = carve;
 	for (uint64_t tree = PKVM_HOST; tree <= PKVM_HYP; tree++)
-		m->roots[tree] = (struct pkvm_root){tree, table(m, tree, 3, 0)};
+		m->roots[tree] = (struct pkvm_root){.tree = tree, .frame = table(m, tree, 3, 0)};
 	for (size_t i = 0; i < shared; i++) {
 		uint64_t frame = MEMORY + 2 * i;
 		map(m, PKVM_HOST, frame, 1, leaf(frame, PKVM_RWX, PKVM_SHARED_OWNED));

@@ -201,6 +201,13 @@ static int random_words(long count)
 		if (status != (level <= 3 ? 0 : PKVM_NO_LEVEL) ||
 		    (status && memcmp(&out, &was, sizeof out)))
 			return 1;
+		// By the model's own profile a word says the same.
+		struct pkvm_word same = was;
+		struct pkvm_beyond beyond;
+		if (pkvm_decode_as(number() % 3, PKVM_MODEL, level, word, &same, &beyond) !=
+			    status ||
+		    memcmp(&same, &out, sizeof out))
+			return 20;
 		uint64_t again = 7;
 		if (!status && out.says != PKVM_MALFORMED &&
 		    (pkvm_encode(level, &out, &again) || again != word))
@@ -588,7 +595,7 @@ static int shared_tables(void)
 		words[5][i] = word_of(3, (struct pkvm_word){PKVM_LEAF, 0x40600 + (uint64_t)i, 0,
 							    PKVM_RW, PKVM_NORMAL, PKVM_OWNED});
 	}
-	struct pkvm_root roots[] = {{1, 0x40603}, {0, 0x40600}};
+	struct pkvm_root roots[] = {{.tree = 1, .frame = 0x40603}, {.tree = 0, .frame = 0x40600}};
 	char text[256];
 	size_t length;
 	struct pkvm_refused refused;
@@ -648,7 +655,7 @@ static int shared_tables(void)
 	if (AUDIT(8, 2) != PKVM_BAD_TABLES || refused.fault != PKVM_FAULT_ROOT_TWICE ||
 	    refused.index != 1)
 		return 12;
-	roots[0] = (struct pkvm_root){1, 0x50000};
+	roots[0] = (struct pkvm_root){.tree = 1, .frame = 0x50000};
 	if (AUDIT(8, 2) != PKVM_BAD_TABLES || refused.fault != PKVM_FAULT_ROOT_PAGE ||
 	    refused.index != 0)
 		return 13;
@@ -725,9 +732,17 @@ static int random_tables(long count)
 						      words_len};
 		}
 		struct pkvm_root *roots = block(roots_len * sizeof *roots);
+		struct pkvm_range skip = {number(), number()};
 		for (size_t r = 0; r < roots_len; r++)
-			roots[r] = (struct pkvm_root){next() % 16 ? r : number(),
-						      0x40600 + next() % (pages_len + 1)};
+			roots[r] = (struct pkvm_root){
+				.tree = next() % 16 ? r : number(),
+				.frame = 0x40600 + next() % (pages_len + 1),
+				.profile = next() % 4 ? 0 : 1 + next() % 2 + 16 * (next() % 9),
+				.levels = next() % 4 ? 0 : next() % 6,
+				.pages = next() % 4 ? 0 : next() % 6,
+				.skips = &skip,
+				.skips_len = next() % 4 == 0,
+			};
 		size_t room = next() % 120, length = 99999;
 		uint8_t *text = block(room);
 		struct pkvm_refused refused = {99, 99, 99};
@@ -738,7 +753,9 @@ static int random_tables(long count)
 		    (status == 1 && length > room) || (status == PKVM_NO_ROOM && length <= room))
 			return 1;
 		if ((status == PKVM_BAD_TABLES) != (refused.fault != 0) ||
-		    refused.fault > PKVM_FAULT_REACHED_TWICE)
+		    (refused.fault > PKVM_FAULT_REACHED_TWICE &&
+		     refused.fault < PKVM_FAULT_ROOT_PROFILE) ||
+		    refused.fault > PKVM_FAULT_ROOT_SKIPS)
 			return 2;
 		walked += status >= 0 || status == PKVM_NO_ROOM;
 		met[refused.fault]++;
@@ -803,7 +820,7 @@ static int audit(long count)
 	struct pkvm_frame none;
 	struct pkvm_state kept = {&run,	   1, tables,	100, &none,  0, k.slots, 64,
 				  &k.load, 0, k.guests, 64,  &k.cpu, 1, &row,	 1};
-	struct pkvm_root root = {1, 0x40600};
+	struct pkvm_root root = {.tree = 1, .frame = 0x40600};
 	char text[256];
 	size_t length = 0;
 	struct pkvm_refused refused;

@@ -215,6 +215,13 @@ static void words(void)
 	must(!status || says.says == 9);
 	if (!status && says.says != PKVM_MALFORMED)
 		must(pkvm_encode(level, &says, &again) == 0 && again == word);
+	struct pkvm_word as = {9, 9, 9, 9, 9, 9};
+	struct pkvm_beyond beyond = {.has_guest = 9};
+	uint64_t profile = byte() % 2 ? 0 : byte();
+	int32_t status_as = pkvm_decode_as(byte() % 3, profile, level, word, &as, &beyond);
+	must(status_as == status || (!status && profile && status_as == PKVM_BAD_NUMBER));
+	must(status_as ? as.says == 9 && beyond.has_guest == 9 : beyond.has_guest <= 1);
+	must(status || profile || !memcmp(&as, &says, sizeof as));
 	says = (struct pkvm_word){number(), number(), number(), number(), number(), number()};
 	again = 77;
 	status = pkvm_encode(level, &says, &again);
@@ -249,7 +256,7 @@ static void must_fit(int32_t status, size_t length, size_t room, const struct pk
 	must(status == PKVM_DISAGREES || status == PKVM_NO_ROOM || length == 0);
 	must((status == PKVM_BAD_LAYOUT || status == PKVM_BAD_BEFORE || status == PKVM_BAD_AFTER ||
 	      status == PKVM_BAD_TABLES) == (refused->fault != PKVM_FAULT_NONE));
-	must(refused->fault <= PKVM_FAULT_CARVE_SMALL && refused->list <= 65);
+	must(refused->fault <= PKVM_FAULT_ROOT_SKIPS && refused->list <= 65);
 }
 
 static void judge(void)
@@ -357,6 +364,7 @@ static void audit(void)
 	struct pkvm_page *pages = block(pages_len, sizeof *pages);
 	struct pkvm_root *roots = list(&roots_len, 4, sizeof *roots);
 	uint8_t *text = block(room, 1);
+	struct pkvm_range skip = {wide(), wide()};
 	struct pkvm_refused refused;
 
 	for (size_t i = 0; i < pages_len; i++) {
@@ -371,7 +379,15 @@ static void audit(void)
 		pages[i] = (struct pkvm_page){byte() % 8 ? 0x40600 + i : number(), of, words_len};
 	}
 	for (size_t i = 0; i < roots_len && byte() % 4; i++)
-		roots[i] = (struct pkvm_root){i, 0x40600 + byte() % 6};
+		roots[i] = (struct pkvm_root){
+			.tree = i,
+			.frame = 0x40600 + byte() % 6,
+			.profile = byte() % 4 ? 0 : byte(),
+			.levels = byte() % 4 ? 0 : byte() % 6,
+			.pages = byte() % 4 ? 0 : byte() % 20,
+			.skips = &skip,
+			.skips_len = byte() % 4 == 0,
+		};
 	int32_t status = pkvm_audit(&on, &kept, pages, pages_len, roots, roots_len, text, room,
 				    &length, &refused);
 	must_fit(status, length, room, &refused);

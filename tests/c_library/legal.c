@@ -589,7 +589,7 @@ int main(int argc, char **argv)
 	    strcmp(fault(PKVM_FAULT_REACHED_TWICE, 24), "a table is reached twice"))
 		wrong = fprintf(stderr, "a fault's text: %s\n", text);
 	if (strcmp(fault(PKVM_FAULT_NONE, 9), "status -3 length 0") ||
-	    strcmp(fault(PKVM_FAULT_CARVE_SMALL + 1, 9), "status -3 length 0") ||
+	    strcmp(fault(PKVM_FAULT_ROOT_SKIPS + 1, 9), "status -3 length 0") ||
 	    strcmp(fault(PKVM_FAULT_LOOP, 22), "status -2 length 23"))
 		wrong = fprintf(stderr, "no fault's text: %s\n", text);
 	return wrong != 0;

@@ -48,6 +48,10 @@ __attribute__((noinline)) static size_t unpainted(void)
 	}
 
 WRAPPED(pkvm_decode, (uint64_t level, uint64_t word, struct pkvm_word *out), (level, word, out))
+WRAPPED(pkvm_decode_as,
+	(uint64_t tree, uint64_t profile, uint64_t level, uint64_t word, struct pkvm_word *out,
+	 struct pkvm_beyond *beyond),
+	(tree, profile, level, word, out, beyond))
 WRAPPED(pkvm_encode, (uint64_t level, const struct pkvm_word *says, uint64_t *out),
 	(level, says, out))
 WRAPPED(pkvm_replay,

@@ -20,7 +20,8 @@ use Rattle.page_state.proofs.Cases.{by_lt, by_test}
 use Rattle.page_state.proofs.Common.{and-both, eq-same, eq-made, not-holds}
 use Rattle.page_state.proofs.Entries.{advance-more}
 use Rattle.page_state.proofs.Runs.{map_of-behind, map_of-first}
-use Rattle.ghost_trees.proofs.Coarse.{BeginsFrom, begins_next}
+use Rattle.ghost_trees.specs.Parts.{BeginsFrom}
+use Rattle.ghost_trees.proofs.Coarse.{begins_next}
 use Rattle.ghost_trees.proofs.OneWords.{one_entry}
 use Rattle.ghost_trees.proofs.Overlaid.{within_means}
 use Rattle.ghost_coarse.proofs.Placed.{inside-at}

@@ -12,13 +12,15 @@ use Rattle.ghost_trees.specs.declared.tree.Table.{Table}
 use Rattle.ghost_trees.specs.Trees.{table_of}
 use Rattle.page_state.specs.declared.entry.Entry.{Entry}
 use Rattle.ghost_judge.specs.declared.disagreement.Disagreement.{Disagreement}
-use Rattle.ghost_judge.specs.declared.disagreement.Disagreement.TheVariants.{Map as MapDiffers, Owner as OwnerDiffers, Reply as ReplyDiffers, Free, GuestFree, Vm, Cpu}
+use Rattle.ghost_judge.specs.declared.disagreement.Disagreement.TheVariants.{Map as MapDiffers, Owner as OwnerDiffers, Reply as ReplyDiffers, SharedPart, GuestPart, Vm, Cpu}
 use Rattle.ghost_judge.specs.declared.disagreement.TreeOf.{TreeOf}
 use Rattle.ghost_judge.specs.declared.disagreement.TreeOf.TheVariants.{Host, Hyp, Guest as GuestOf}
 use Rattle.ghost_judge.specs.Apart.{IsFirstApart}
-use Rattle.ghost_judge.specs.Audits.{IsFirstMap}
-use Rattle.ghost_judge.specs.Judgements.{without_map, IsSamePool, SlotsAgree, IsFirstOfState}
-use Rattle.ghost_judge.specs.inner.Found.{IsFound}
+use Rattle.ghost_judge.specs.Audits.{AuditAgrees, IsFirstMap}
+use Rattle.ghost_judge.specs.Judgements.{PoolAgrees, SlotsAgree, IsFirstOfState}
+use Rattle.ghost_judge.specs.PartDifferences.{without_map, IsSamePool}
+use Rattle.ghost_judge.proofs.OnePart.{guest_else, shared_else}
+use Rattle.ghost_judge.specs.inner.Found.{IsFound, IsGuestPart, IsSharedPart}
 use Rattle.ghost_judge.specs.inner.Same.{unloaded, HasSameFrame}
 
 -- two functions, place by place
@@ -152,14 +154,15 @@ module _ (a b : Contents) where
   pub refutes : (d : Disagreement) → IsFirstOfState a b d → a ≡ b → ⊥
   refutes (MapDiffers tree page x y) h e = refutes_map tree page x y h e
   refutes (OwnerDiffers frame x y) h e = h.1.first.differ (ap (λ (c : Contents). c.shared.row frame) e)
-  refutes Free h e =
-      h.1
+  refutes (SharedPart part) h e =
+      shared_else a.shared b.shared part
       (record {
         free = ap (λ (c : Contents). c.shared.free) e;
         host = ap (λ (c : Contents). c.shared.host.table) e;
         hyp = ap (λ (c : Contents). c.shared.hyp.table) e;
-      })
-  refutes (GuestFree v) h e = h.1.differ (ap (λ (c : Contents). without_map (c.guest v)) e)
+      }) h.1
+  refutes (GuestPart v part) h e =
+      guest_else v (a.guest v) (b.guest v) part (ap (λ (c : Contents). without_map (c.guest v)) e) h.2
   refutes (Vm v) h e = h.1.differ (ap (λ (c : Contents). c.vms.slot v) e)
   refutes (Cpu k) h e = h.1.differ (ap (λ (c : Contents). c.cpu k) e)
   refutes (ReplyDiffers said spec) h e = h
@@ -167,3 +170,21 @@ module _ (a b : Contents) where
   pub answered : (o : Option Disagreement) → IsFound (a ≡ b) (IsFirstOfState a b) o → (o ≡ None) ↔ (a ≡ b)
   answered None x = (λ f. x, λ f. refl)
   answered (Some d) x = (λ f. cc, λ e. absurd (refutes d x e))
+
+  -- the Shared parts or two guests differ
+
+  pub shared_part : (o : Option Disagreement)
+      → AuditAgrees a b
+      → (IsSamePool a.shared b.shared → ⊥)
+      → IsFound (IsSamePool a.shared b.shared) (IsSharedPart a.shared b.shared) o
+      → IsFound (a ≡ b) (IsFirstOfState a b) o
+  shared_part None g d x = absurd (d x)
+  shared_part (Some d) g n x = subst (IsFirstOfState a b) (sym x.1) (g, x.2)
+
+  pub guest_part : (v : ℕ) (o : Option Disagreement)
+      → PoolAgrees a b
+      → IsFirstApart (λ u. without_map (a.guest u)) (λ u. without_map (b.guest u)) v
+      → IsFound (without_map (a.guest v) ≡ without_map (b.guest v)) (IsGuestPart v (a.guest v) (b.guest v)) o
+      → IsFound (a ≡ b) (IsFirstOfState a b) o
+  guest_part v None g n x = absurd (n.differ x)
+  guest_part v (Some d) g n x = subst (IsFirstOfState a b) (sym x.1) (g, n.before, x.2)

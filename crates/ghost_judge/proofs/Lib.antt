@@ -5,3 +5,5 @@ pub mod Judged
 pub mod JudgedSteps
 pub mod Marked
 pub mod OneAnswer
+pub mod OnePart
+pub mod PoolLists

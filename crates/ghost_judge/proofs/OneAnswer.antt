@@ -8,20 +8,18 @@ use Rattle.page_state.specs.declared.row.Row.{Row}
 use Rattle.page_state.proofs.Cases.{by_lt}
 use Rattle.reference_model.specs.model.State.{Contents, Reference}
 use Rattle.ghost_judge.specs.declared.disagreement.Disagreement.{Disagreement}
-use Rattle.ghost_judge.specs.declared.disagreement.Disagreement.TheVariants.{Map as MapDiffers, Owner as OwnerDiffers, Reply as ReplyDiffers, Free, GuestFree, Vm, Cpu}
+use Rattle.ghost_judge.specs.declared.disagreement.Disagreement.TheVariants.{Map as MapDiffers, Owner as OwnerDiffers, Reply as ReplyDiffers, SharedPart, GuestPart, Vm, Cpu}
+use Rattle.ghost_judge.specs.declared.disagreement.PartDifference.{PartDifference}
 use Rattle.ghost_judge.specs.declared.disagreement.TreeOf.{TreeOf}
 use Rattle.ghost_judge.specs.declared.disagreement.TreeOf.TheVariants.{Host, Hyp, Guest}
 use Rattle.ghost_judge.specs.Apart.{IsFirstApart}
 use Rattle.ghost_judge.specs.Audits.{IsFirstMap, DiffersFirstAt, MapsAgree}
 use Rattle.ghost_judge.specs.Judgements.{IsFirstChange, IsFirstJudged, IsFirstOfState, IsFirstUntold, IsOtherReply, JudgeAgrees, WantsMemory, is_done}
+use Rattle.ghost_judge.specs.PartDifferences.{IsFirstOfGuest}
 use Rattle.ghost_judge.specs.OneAnswer.{AuditElse, AuditOnce, JudgedElse, JudgedOnce, StateElse, StateOnce}
+use Rattle.ghost_judge.proofs.OnePart.{apart_once, guest_else, guest_once, shared_else, shared_once}
 
 -- functions of numbers
-
-apart_once : {X : Type 0} (f g : ℕ → X) (n m : ℕ) → IsFirstApart f g n → IsFirstApart f g m → n ≡ m
-apart_once f g n m a b =
-    by_lt n m (λ l. absurd (a.differ (b.before n l)))
-    (λ l. by_lt m n (λ k. absurd (b.differ (a.before m k))) (λ k. omega arith))
 
 apart_else : {X : Type 0} (f g : ℕ → X) (n : ℕ) → f ≡ g → IsFirstApart f g n → ⊥
 apart_else f g n e a = a.differ (ap (λ h. h n) e)
@@ -80,21 +78,21 @@ audit_once kept walked (MapDiffers at an ax ay) (MapDiffers bt bn bx by) h k =
 audit_once kept walked (MapDiffers at an ax ay) (OwnerDiffers bn bx by) h k =
     absurd (maps_else kept walked at an ax ay k.0 h)
 audit_once kept walked (MapDiffers at an ax ay) (ReplyDiffers br bq) h k = absurd k
-audit_once kept walked (MapDiffers at an ax ay) Free h k = absurd k
-audit_once kept walked (MapDiffers at an ax ay) (GuestFree bv) h k = absurd k
+audit_once kept walked (MapDiffers at an ax ay) (SharedPart bp) h k = absurd k
+audit_once kept walked (MapDiffers at an ax ay) (GuestPart bv bp) h k = absurd k
 audit_once kept walked (MapDiffers at an ax ay) (Vm bv) h k = absurd k
 audit_once kept walked (MapDiffers at an ax ay) (Cpu bv) h k = absurd k
 audit_once kept walked (OwnerDiffers an ax ay) (MapDiffers bt bn bx by) h k =
     absurd (maps_else kept walked bt bn bx by h.0 k)
 audit_once kept walked (OwnerDiffers an ax ay) (OwnerDiffers bn bx by) h k = row_once _ _ an bn ax ay bx by h.1 k.1
 audit_once kept walked (OwnerDiffers an ax ay) (ReplyDiffers br bq) h k = absurd k
-audit_once kept walked (OwnerDiffers an ax ay) Free h k = absurd k
-audit_once kept walked (OwnerDiffers an ax ay) (GuestFree bv) h k = absurd k
+audit_once kept walked (OwnerDiffers an ax ay) (SharedPart bp) h k = absurd k
+audit_once kept walked (OwnerDiffers an ax ay) (GuestPart bv bp) h k = absurd k
 audit_once kept walked (OwnerDiffers an ax ay) (Vm bv) h k = absurd k
 audit_once kept walked (OwnerDiffers an ax ay) (Cpu bv) h k = absurd k
 audit_once kept walked (ReplyDiffers ar aq) e h k = absurd h
-audit_once kept walked Free e h k = absurd h
-audit_once kept walked (GuestFree av) e h k = absurd h
+audit_once kept walked (SharedPart aq) e h k = absurd h
+audit_once kept walked (GuestPart av aq) e h k = absurd h
 audit_once kept walked (Vm av) e h k = absurd h
 audit_once kept walked (Cpu av) e h k = absurd h
 
@@ -102,12 +100,25 @@ pub audit_else : AuditElse
 audit_else kept walked (MapDiffers at an ax ay) a h = maps_else kept walked at an ax ay a.maps h
 audit_else kept walked (OwnerDiffers an ax ay) a h = apart_else _ _ an a.rows h.1.first
 audit_else kept walked (ReplyDiffers ar aq) a h = absurd h
-audit_else kept walked Free a h = absurd h
-audit_else kept walked (GuestFree av) a h = absurd h
+audit_else kept walked (SharedPart aq) a h = absurd h
+audit_else kept walked (GuestPart av aq) a h = absurd h
 audit_else kept walked (Vm av) a h = absurd h
 audit_else kept walked (Cpu av) a h = absurd h
 
 -- states
+
+guests_once : (post spec : Contents) (v u : ℕ) (d e : PartDifference)
+    → IsFirstOfState post spec (GuestPart v d)
+    → IsFirstOfState post spec (GuestPart u e)
+    → GuestPart v d ≡ GuestPart u e
+guests_once post spec v u d e h k =
+    by_lt v u (λ l. absurd (guest_else v (post.guest v) (spec.guest v) d (k.1 v l) h.2)) (λ l. by_lt u v
+    (λ r. absurd (guest_else u (post.guest u) (spec.guest u) e (h.1 u r) k.2))
+    (λ r. let f : u ≡ v = omega arith in
+    ap (GuestPart v)
+    (guest_once v (post.guest v) (spec.guest v) d e h.2
+    (subst (λ i. IsFirstOfGuest i (post.guest i) (spec.guest i) e) f k.2))
+    ∙ ap (λ i. GuestPart i e) (sym f)))
 
 pub state_once : StateOnce
 state_once post spec (MapDiffers at an ax ay) (MapDiffers bt bn bx by) h k =
@@ -115,8 +126,8 @@ state_once post spec (MapDiffers at an ax ay) (MapDiffers bt bn bx by) h k =
 state_once post spec (MapDiffers at an ax ay) (OwnerDiffers bn bx by) h k =
     audit_once post spec (MapDiffers at an ax ay) (OwnerDiffers bn bx by) h k
 state_once post spec (MapDiffers at an ax ay) (ReplyDiffers br bq) h k = absurd k
-state_once post spec (MapDiffers at an ax ay) Free h k = absurd (audit_else post spec (MapDiffers at an ax ay) k.0 h)
-state_once post spec (MapDiffers at an ax ay) (GuestFree bv) h k =
+state_once post spec (MapDiffers at an ax ay) (SharedPart bp) h k = absurd (audit_else post spec (MapDiffers at an ax ay) k.0 h)
+state_once post spec (MapDiffers at an ax ay) (GuestPart bv bp) h k =
     absurd (audit_else post spec (MapDiffers at an ax ay) k.0.audit h)
 state_once post spec (MapDiffers at an ax ay) (Vm bv) h k =
     absurd (audit_else post spec (MapDiffers at an ax ay) k.0.pool.audit h)
@@ -127,37 +138,46 @@ state_once post spec (OwnerDiffers an ax ay) (MapDiffers bt bn bx by) h k =
 state_once post spec (OwnerDiffers an ax ay) (OwnerDiffers bn bx by) h k =
     audit_once post spec (OwnerDiffers an ax ay) (OwnerDiffers bn bx by) h k
 state_once post spec (OwnerDiffers an ax ay) (ReplyDiffers br bq) h k = absurd k
-state_once post spec (OwnerDiffers an ax ay) Free h k = absurd (audit_else post spec (OwnerDiffers an ax ay) k.0 h)
-state_once post spec (OwnerDiffers an ax ay) (GuestFree bv) h k =
+state_once post spec (OwnerDiffers an ax ay) (SharedPart bp) h k = absurd (audit_else post spec (OwnerDiffers an ax ay) k.0 h)
+state_once post spec (OwnerDiffers an ax ay) (GuestPart bv bp) h k =
     absurd (audit_else post spec (OwnerDiffers an ax ay) k.0.audit h)
 state_once post spec (OwnerDiffers an ax ay) (Vm bv) h k =
     absurd (audit_else post spec (OwnerDiffers an ax ay) k.0.pool.audit h)
 state_once post spec (OwnerDiffers an ax ay) (Cpu bv) h k =
     absurd (audit_else post spec (OwnerDiffers an ax ay) k.0.guests.pool.audit h)
 state_once post spec (ReplyDiffers ar aq) e h k = absurd h
-state_once post spec Free (MapDiffers bt bn bx by) h k = absurd (audit_else post spec (MapDiffers bt bn bx by) h.0 k)
-state_once post spec Free (OwnerDiffers bn bx by) h k = absurd (audit_else post spec (OwnerDiffers bn bx by) h.0 k)
-state_once post spec Free (ReplyDiffers br bq) h k = absurd k
-state_once post spec Free Free h k = refl
-state_once post spec Free (GuestFree bv) h k = absurd (h.1 k.0.pool)
-state_once post spec Free (Vm bv) h k = absurd (h.1 k.0.pool.pool)
-state_once post spec Free (Cpu bv) h k = absurd (h.1 k.0.guests.pool.pool)
-state_once post spec (GuestFree av) (MapDiffers bt bn bx by) h k =
+state_once post spec (SharedPart aq) (MapDiffers bt bn bx by) h k = absurd (audit_else post spec (MapDiffers bt bn bx by) h.0 k)
+state_once post spec (SharedPart aq) (OwnerDiffers bn bx by) h k = absurd (audit_else post spec (OwnerDiffers bn bx by) h.0 k)
+state_once post spec (SharedPart aq) (ReplyDiffers br bq) h k = absurd k
+state_once post spec (SharedPart aq) (SharedPart bp) h k =
+    ap SharedPart (shared_once post.shared spec.shared aq bp h.1 k.1)
+state_once post spec (SharedPart aq) (GuestPart bv bp) h k =
+    absurd (shared_else post.shared spec.shared aq k.0.pool h.1)
+state_once post spec (SharedPart aq) (Vm bv) h k =
+    absurd (shared_else post.shared spec.shared aq k.0.pool.pool h.1)
+state_once post spec (SharedPart aq) (Cpu bv) h k =
+    absurd (shared_else post.shared spec.shared aq k.0.guests.pool.pool h.1)
+state_once post spec (GuestPart av aq) (MapDiffers bt bn bx by) h k =
     absurd (audit_else post spec (MapDiffers bt bn bx by) h.0.audit k)
-state_once post spec (GuestFree av) (OwnerDiffers bn bx by) h k =
+state_once post spec (GuestPart av aq) (OwnerDiffers bn bx by) h k =
     absurd (audit_else post spec (OwnerDiffers bn bx by) h.0.audit k)
-state_once post spec (GuestFree av) (ReplyDiffers br bq) h k = absurd k
-state_once post spec (GuestFree av) Free h k = absurd (k.1 h.0.pool)
-state_once post spec (GuestFree av) (GuestFree bv) h k = ap GuestFree (apart_once _ _ av bv h.1 k.1)
-state_once post spec (GuestFree av) (Vm bv) h k = absurd (h.1.differ (k.0.guests av))
-state_once post spec (GuestFree av) (Cpu bv) h k = absurd (h.1.differ (k.0.guests.guests av))
+state_once post spec (GuestPart av aq) (ReplyDiffers br bq) h k = absurd k
+state_once post spec (GuestPart av aq) (SharedPart bp) h k =
+    absurd (shared_else post.shared spec.shared bp h.0.pool k.1)
+state_once post spec (GuestPart av aq) (GuestPart bv bp) h k = guests_once post spec av bv aq bp h k
+state_once post spec (GuestPart av aq) (Vm bv) h k =
+    absurd (guest_else av (post.guest av) (spec.guest av) aq (k.0.guests av) h.2)
+state_once post spec (GuestPart av aq) (Cpu bv) h k =
+    absurd (guest_else av (post.guest av) (spec.guest av) aq (k.0.guests.guests av) h.2)
 state_once post spec (Vm av) (MapDiffers bt bn bx by) h k =
     absurd (audit_else post spec (MapDiffers bt bn bx by) h.0.pool.audit k)
 state_once post spec (Vm av) (OwnerDiffers bn bx by) h k =
     absurd (audit_else post spec (OwnerDiffers bn bx by) h.0.pool.audit k)
 state_once post spec (Vm av) (ReplyDiffers br bq) h k = absurd k
-state_once post spec (Vm av) Free h k = absurd (k.1 h.0.pool.pool)
-state_once post spec (Vm av) (GuestFree bv) h k = absurd (k.1.differ (h.0.guests bv))
+state_once post spec (Vm av) (SharedPart bp) h k =
+    absurd (shared_else post.shared spec.shared bp h.0.pool.pool k.1)
+state_once post spec (Vm av) (GuestPart bv bp) h k =
+    absurd (guest_else bv (post.guest bv) (spec.guest bv) bp (h.0.guests bv) k.2)
 state_once post spec (Vm av) (Vm bv) h k = ap Vm (apart_once _ _ av bv h.1 k.1)
 state_once post spec (Vm av) (Cpu bv) h k = absurd (h.1.differ (k.0.slots av))
 state_once post spec (Cpu av) (MapDiffers bt bn bx by) h k =
@@ -165,8 +185,10 @@ state_once post spec (Cpu av) (MapDiffers bt bn bx by) h k =
 state_once post spec (Cpu av) (OwnerDiffers bn bx by) h k =
     absurd (audit_else post spec (OwnerDiffers bn bx by) h.0.guests.pool.audit k)
 state_once post spec (Cpu av) (ReplyDiffers br bq) h k = absurd k
-state_once post spec (Cpu av) Free h k = absurd (k.1 h.0.guests.pool.pool)
-state_once post spec (Cpu av) (GuestFree bv) h k = absurd (k.1.differ (h.0.guests.guests bv))
+state_once post spec (Cpu av) (SharedPart bp) h k =
+    absurd (shared_else post.shared spec.shared bp h.0.guests.pool.pool k.1)
+state_once post spec (Cpu av) (GuestPart bv bp) h k =
+    absurd (guest_else bv (post.guest bv) (spec.guest bv) bp (h.0.guests.guests bv) k.2)
 state_once post spec (Cpu av) (Vm bv) h k = absurd (k.1.differ (h.0.slots bv))
 state_once post spec (Cpu av) (Cpu bv) h k = ap Cpu (apart_once _ _ av bv h.1 k.1)
 
@@ -176,8 +198,8 @@ same_else s (MapDiffers at an ax ay) h =
     (record { maps = record { host = refl; hyp = refl; guests = λ v. refl }; rows = refl }) h
 same_else s (OwnerDiffers an ax ay) h = h.1.first.differ refl
 same_else s (ReplyDiffers ar aq) h = h
-same_else s Free h = h.1 (record { free = refl; host = refl; hyp = refl })
-same_else s (GuestFree av) h = h.1.differ refl
+same_else s (SharedPart aq) h = shared_else s.shared s.shared aq (record { free = refl; host = refl; hyp = refl }) h.1
+same_else s (GuestPart av aq) h = guest_else av (s.guest av) (s.guest av) aq refl h.2
 same_else s (Vm av) h = h.1.differ refl
 same_else s (Cpu av) h = h.1.differ refl
 
@@ -202,8 +224,8 @@ module _ (pre : Contents) (step : Step) (reply : Reply) (post : Contents) (told 
   view (MapDiffers at an ax ay) h = inr h
   view (OwnerDiffers an ax ay) h = inr h
   view (ReplyDiffers ar aq) h = inl (ar, aq, refl, h)
-  view Free h = inr h
-  view (GuestFree av) h = inr h
+  view (SharedPart aq) h = inr h
+  view (GuestPart av aq) h = inr h
   view (Vm av) h = inr h
   view (Cpu av) h = inr h
 

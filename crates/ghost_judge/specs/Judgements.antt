@@ -2,7 +2,7 @@
 -- The order: the reply, the host's map, the hypervisor's, those of the guests by slot, the owner
 -- rows, the shared pool and the tables of its trees, all of each guest but its map, the slots, and
 -- the CPUs.
-use Rattle.std.specs.Prelude.{◌≡◌, ◌⊎◌, ℕ, Bool, true, false}
+use Rattle.std.specs.Prelude.{◌≡◌, ◌⊎◌, ℕ, ◌<◌, Bool, true, false}
 use Rattle.call_table.specs.declared.reply.Call.{Call}
 use Rattle.call_table.specs.declared.reply.Refusal.TheVariants.{NoMemory}
 use Rattle.call_table.specs.declared.reply.Reply.{Reply}
@@ -10,29 +10,18 @@ use Rattle.call_table.specs.declared.reply.Reply.TheVariants.{Done, Refused}
 use Rattle.call_table.specs.declared.step.Step.{Step}
 use Rattle.page_state.specs.Layouts.{Layout}
 use Rattle.page_state.specs.LayoutView.{layout_of}
-use Rattle.page_state.specs.Trees.{no_tree}
 use Rattle.reference_model.specs.model.Rules.{may_grow}
-use Rattle.reference_model.specs.model.State.{Contents, Guest, Reference, Shared}
+use Rattle.reference_model.specs.model.State.{Contents, Reference}
 use Rattle.reference_model.specs.model.Step.{predict_step, Steps}
 use Rattle.ghost_spec.specs.declared.state.Ghost.{Ghost}
 use Rattle.ghost_spec.specs.States.{ghost_state}
 use Rattle.ghost_judge.specs.declared.disagreement.Disagreement.{Disagreement}
-use Rattle.ghost_judge.specs.declared.disagreement.Disagreement.TheVariants.{Map as MapDiffers, Owner as OwnerDiffers, Reply as ReplyDiffers, Free, GuestFree, Vm, Cpu}
+use Rattle.ghost_judge.specs.declared.disagreement.Disagreement.TheVariants.{Map as MapDiffers, Owner as OwnerDiffers, Reply as ReplyDiffers, SharedPart, GuestPart, Vm, Cpu}
 use Rattle.ghost_judge.specs.Apart.{IsFirstApart}
 use Rattle.ghost_judge.specs.Audits.{AuditAgrees, IsFirstDifference}
+use Rattle.ghost_judge.specs.PartDifferences.{without_map, IsFirstOfGuest, IsFirstOfShared, IsSamePool}
 
--- a guest with nothing mapped, and else the same: its phase, generation, kind, tables and free
--- frames
-abbrev pub without_map : Guest → Guest
-without_map g = record g { tree = record g.tree { map = no_tree.map } }
-
--- the shared pool's free frames and the tables of the host and of the hypervisor are equal
-pub record IsSamePool (post spec : Shared) : Type 0 where
-  pub free : post.free ≡ spec.free
-  pub host : post.host.table ≡ spec.host.table
-  pub hyp : post.hyp.table ≡ spec.hyp.table
-
--- all maps, all rows and that are equal
+-- all maps, all rows, the shared pool and the tables of its trees are equal
 pub record PoolAgrees (post spec : Contents) : Type 0 where
   pub audit : AuditAgrees post spec
   pub pool : IsSamePool post.shared spec.shared
@@ -47,16 +36,23 @@ pub record SlotsAgree (post spec : Contents) : Type 0 where
   pub guests : GuestsAgree post spec
   pub slots : (v : ℕ) → post.vms.slot v ≡ spec.vms.slot v
 
+-- all of each guest of a slot below one is equal
+abbrev pub GuestsAgreeBelow : Contents → Contents → ℕ → Type 0
+GuestsAgreeBelow post spec slot =
+    (v : ℕ) → v < slot → without_map (post.guest v) ≡ without_map (spec.guest v)
+
 -- the first difference of two states: all that comes before it is equal
 abbrev pub IsFirstOfState : Contents → Contents → Disagreement → Type 0
 IsFirstOfState post spec (MapDiffers tree page x y) =
     IsFirstDifference post spec (MapDiffers tree page x y)
 IsFirstOfState post spec (OwnerDiffers frame x y) =
     IsFirstDifference post spec (OwnerDiffers frame x y)
-IsFirstOfState post spec Free = AuditAgrees post spec × (IsSamePool post.shared spec.shared → ⊥)
-IsFirstOfState post spec (GuestFree slot) =
+IsFirstOfState post spec (SharedPart part) =
+    AuditAgrees post spec × IsFirstOfShared post.shared spec.shared part
+IsFirstOfState post spec (GuestPart slot part) =
     PoolAgrees post spec
-    × IsFirstApart (λ v. without_map (post.guest v)) (λ v. without_map (spec.guest v)) slot
+    × GuestsAgreeBelow post spec slot
+    × IsFirstOfGuest slot (post.guest slot) (spec.guest slot) part
 IsFirstOfState post spec (Vm slot) =
     GuestsAgree post spec × IsFirstApart post.vms.slot spec.vms.slot slot
 IsFirstOfState post spec (Cpu cpu) = SlotsAgree post spec × IsFirstApart post.cpu spec.cpu cpu

@@ -5,32 +5,36 @@ ghost use Rattle.reference_model.specs.model.State.{no_cpu};
 ghost use Rattle.ghost_spec.specs.Kept.{HasNextGeneration};
 ghost use Rattle.ghost_spec.specs.States.{contents_in, IsKept};
 ghost use Rattle.ghost_spec.specs.Used.{guests_in, vms_in};
-ghost use Rattle.ghost_spec.specs.Views.{cpu_in};
+ghost use Rattle.ghost_spec.specs.Views.{cpu_in, shared_in_lists};
 ghost use Rattle.ghost_judge.specs.Audits.{AuditAgrees, MapsAgree};
-ghost use Rattle.ghost_judge.specs.Judgements.{without_map, told_of, GuestsAgree, IsFirstJudged, IsFirstOfState, JudgeAgrees, PoolAgrees, SlotsAgree, WantsMemory};
-ghost use Rattle.ghost_judge.specs.inner.Found.{IsFound};
+ghost use Rattle.ghost_judge.specs.Judgements.{told_of, GuestsAgree, IsFirstJudged, IsFirstOfState, JudgeAgrees, PoolAgrees, SlotsAgree, WantsMemory};
+ghost use Rattle.ghost_judge.specs.PartDifferences.{without_map, IsSamePool};
+ghost use Rattle.ghost_judge.specs.inner.Found.{IsFound, IsGuestPart, IsSharedPart};
 ghost use Rattle.ghost_judge.specs.inner.Parted.{IsFoundApart};
 
 use crate::audit::{in_guests, in_rows, in_trees};
 use crate::disagreement::{Disagreement, TreeOf};
+use crate::pools::{in_guest, in_shared};
 use crate::same::{is_same_guest, is_same_pool, is_same_slot};
 use call_table::{Refusal, Reply, Step};
 use ghost_spec::cpu::GhostCpu;
 use ghost_spec::lists::GhostLists;
 use ghost_spec::parts::{GhostGuest, GhostSlot};
+use ghost_spec::shared::Shared;
 use ghost_spec::state::{Ghost, predict_last};
 use std::alloc::{AllocError, Global};
 
 /// The first slot whose guests differ in more than their maps.
-fn guest_apart(post: &[GhostGuest], spec: &[GhostGuest]) -> Option<u64>
+fn guest_apart(post: &[GhostGuest], spec: &[GhostGuest]) -> Option<usize>
     requires post { length post.now ≡ 64 }
     requires spec { length spec.now ≡ 64 }
-    ensures { IsFoundApart (λ v. without_map (guests_in post.now v))
+    ensures apart { IsFoundApart (λ v. without_map (guests_in post.now v))
         (λ v. without_map (guests_in spec.now v)) result }
+    ensures slot { IfSome result (λ v. v < 64) }
 {
     for v in 0..64usize {
         if !is_same_guest(&post[v], &spec[v]) {
-            return Some(v as u64);
+            return Some(v);
         }
     }
     None
@@ -100,6 +104,31 @@ fn in_slots(post: &GhostLists, spec: &GhostLists) -> Option<Disagreement>
     }
 }
 
+/// The first difference of the guests of a slot.
+fn in_guest_of(slot: usize, post: &[GhostGuest], spec: &[GhostGuest]) -> Option<Disagreement>
+    requires slot { slot < 64 }
+    requires post { length post.now ≡ 64 }
+    requires spec { length spec.now ≡ 64 }
+    ensures { IsFound (without_map (guests_in post.now slot) ≡ without_map (guests_in spec.now slot))
+        (IsGuestPart slot (guests_in post.now slot) (guests_in spec.now slot)) result }
+{
+    match in_guest(slot as u64, &post[slot], &spec[slot]) {
+        Some(part) => Some(Disagreement::GuestPart(slot as u64, part)),
+        None => None,
+    }
+}
+
+/// The first difference of two Shared parts, maps and rows apart.
+fn in_pool(post: &Shared, spec: &Shared) -> Option<Disagreement>
+    ensures { IsFound (IsSamePool (shared_in_lists post.now) (shared_in_lists spec.now))
+        (IsSharedPart (shared_in_lists post.now) (shared_in_lists spec.now)) result }
+{
+    match in_shared(post, spec) {
+        Some(part) => Some(Disagreement::SharedPart(part)),
+        None => None,
+    }
+}
+
 /// The first guest, slot or CPU that differs, if all before is equal.
 fn in_parts(post: &GhostLists, spec: &GhostLists) -> Option<Disagreement>
     requires post { IsKept post.now }
@@ -109,7 +138,7 @@ fn in_parts(post: &GhostLists, spec: &GhostLists) -> Option<Disagreement>
         (IsFirstOfState (contents_in post.now) (contents_in spec.now)) result }
 {
     match guest_apart(post.guests.as_slice(), spec.guests.as_slice()) {
-        Some(slot) => Some(Disagreement::GuestFree(slot)),
+        Some(slot) => in_guest_of(slot, post.guests.as_slice(), spec.guests.as_slice()),
         None => in_slots(post, spec),
     }
 }
@@ -123,7 +152,7 @@ fn in_rest(post: &GhostLists, spec: &GhostLists) -> Option<Disagreement>
         (IsFirstOfState (contents_in post.now) (contents_in spec.now)) result }
 {
     if !is_same_pool(&post.shared, &spec.shared) {
-        return Some(Disagreement::Free);
+        return in_pool(&post.shared, &spec.shared);
     }
     in_parts(post, spec)
 }

@@ -7,6 +7,7 @@ mod difference;
 pub mod disagreement;
 pub mod judge;
 pub mod laws;
+mod pools;
 mod rows;
 mod same;
 pub mod text;

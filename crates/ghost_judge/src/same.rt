@@ -3,7 +3,7 @@ ghost use Rattle.std.specs.Prelude.{◌≡◌, ◌↔◌, ℕ, None, IsTrue, All
 ghost use Rattle.ghost_trees.specs.Trees.{table_of};
 ghost use Rattle.ghost_spec.specs.States.{guest_in, slot_in};
 ghost use Rattle.ghost_spec.specs.Views.{shared_in_lists};
-ghost use Rattle.ghost_judge.specs.Judgements.{without_map, IsSamePool};
+ghost use Rattle.ghost_judge.specs.PartDifferences.{without_map, IsSamePool};
 ghost use Rattle.ghost_judge.specs.inner.Same.{loads, unloaded, HasSameFrame};
 
 use ghost_spec::parts::{GhostGuest, GhostSlot};

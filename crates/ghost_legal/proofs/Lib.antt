@@ -15,4 +15,5 @@ pub mod Pointwise
 pub mod Steady
 pub mod Twice
 pub mod Whole
+pub mod WhyIllegal
 pub mod WholeGuests

@@ -15,7 +15,8 @@ use Rattle.page_state.specs.Map.{is_within}
 use Rattle.page_state.proofs.BlockTests.{block_eq-same}
 use Rattle.page_state.proofs.Runs.{StartsFrom}
 use Rattle.freedoms.specs.AnyTrees.{AreFramesLegal}
-use Rattle.ghost_trees.proofs.Coarse.{BeginsFrom, begins_next}
+use Rattle.ghost_trees.specs.Parts.{BeginsFrom}
+use Rattle.ghost_trees.proofs.Coarse.{begins_next}
 use Rattle.std.proofs.lemmas.List.{get_or_default}
 use Rattle.page_state.specs.declared.entry.PageRange.{PageRange}
 use Rattle.page_state.specs.declared.entry.Run.{Run}

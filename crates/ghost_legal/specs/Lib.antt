@@ -11,3 +11,4 @@ pub mod Ranges
 pub mod Texts
 pub mod Told
 pub mod TreeNames
+pub mod Unlawful

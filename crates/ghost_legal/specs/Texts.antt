@@ -5,6 +5,8 @@ use Rattle.page_state.specs.Texts.{text_of_page, text_of_entry, text_of_row, tex
 use Rattle.ghost_judge.specs.Texts.{text_of_tree}
 use Rattle.ghost_coarse.specs.declared.misfit.Misfit.{Misfit}
 use Rattle.ghost_coarse.specs.declared.misfit.Misfit.TheVariants.{Needless, Lacking}
+use Rattle.ghost_spec.specs.declared.filled.GhostFault.{GhostFault}
+use Rattle.ghost_spec.specs.declared.filled.GhostFault.TheVariants.{WrongCount, TooLarge, Overlap, TableTwice, FrameTwice, NoMemory}
 use Rattle.ghost_slots.specs.declared.fault.SlotFault.{SlotFault}
 use Rattle.ghost_slots.specs.declared.fault.SlotFault.TheVariants.{Load, Hand as HandFault, Ticket, Vcpu, Guest as GuestOfSlot, Tickets}
 use Rattle.ghost_legal.specs.declared.finding.Facts.{Facts}
@@ -13,6 +15,8 @@ use Rattle.ghost_legal.specs.declared.finding.Holder.TheVariants.{SharedPool, Vm
 use Rattle.ghost_legal.specs.declared.finding.Illegal.{Illegal}
 use Rattle.ghost_legal.specs.declared.finding.Illegal.TheVariants.{Slots, Guest as GuestFault, Outside, GuestPage, HypPage, FarFrame, HeldTwice, Frame, Tree}
 use Rattle.ghost_legal.specs.declared.finding.TreeBlock.{TreeBlock}
+use Rattle.ghost_legal.specs.declared.finding.Unlawful.{Unlawful}
+use Rattle.ghost_legal.specs.declared.finding.Unlawful.TheVariants.{NoState, Illegal as IllegalState}
 use Rattle.ghost_legal.specs.TreeNames.{tree_named}
 
 -- a table: whose tree, the block's depth, and its index there
@@ -85,3 +89,17 @@ text_of_illegal (HeldTwice frame one other) =
 text_of_illegal (Frame frame facts) =
     codes "no condition " ++ text_of_page frame ++ codes ": " ++ text_of_facts facts
 text_of_illegal (Tree tree misfit) = text_of_misfit tree misfit
+
+-- why lists make no state
+abbrev pub text_of_ghost_fault : GhostFault → List ℕ
+text_of_ghost_fault WrongCount = codes "a list has not its length"
+text_of_ghost_fault TooLarge = codes "a page, a frame or a slot is too large"
+text_of_ghost_fault Overlap = codes "two runs share a page"
+text_of_ghost_fault TableTwice = codes "two tables of a tree have one block or one frame"
+text_of_ghost_fault FrameTwice = codes "a pool has a frame twice"
+text_of_ghost_fault NoMemory = codes "out of memory"
+
+-- and why they make no legal one
+abbrev pub text_of_unlawful : Unlawful → List ℕ
+text_of_unlawful (NoState fault) = codes "no state: " ++ text_of_ghost_fault fault
+text_of_unlawful (IllegalState why) = text_of_illegal why

@@ -1,6 +1,7 @@
 //! The finding for a state that isn't legal.
 use ghost_coarse::Misfit;
 use ghost_slots::SlotFault;
+use ghost_spec::filled::GhostFault;
 use ghost_trees::blocks::Block;
 use page_state::{Entry, Row, State};
 
@@ -83,4 +84,13 @@ pub enum Illegal {
         tree: u64,
         misfit: Misfit,
     },
+}
+
+/// Why lists make no legal state.
+#[derive(Clone, Copy, PartialEq)]
+pub enum Unlawful {
+    /// They make no state.
+    NoState(GhostFault),
+    /// The state that they make isn't legal.
+    Illegal(Illegal),
 }

@@ -1,12 +1,13 @@
 //! How it is written.
 ghost use Rattle.std.specs.Prelude.{◌≡◌, Some};
-ghost use Rattle.ghost_legal.specs.Texts.{text_of_block, text_of_facts, text_of_guest_page, text_of_had, text_of_holder, text_of_illegal, text_of_memory, text_of_misfit, text_of_slot_fault, text_of_vcpu};
+ghost use Rattle.ghost_legal.specs.Texts.{text_of_block, text_of_facts, text_of_ghost_fault, text_of_guest_page, text_of_had, text_of_holder, text_of_illegal, text_of_memory, text_of_misfit, text_of_slot_fault, text_of_unlawful, text_of_vcpu};
 ghost use Rattle.ghost_legal.specs.TreeNames.{tree_named};
 
-use crate::finding::{Facts, Holder, Illegal, TreeBlock};
+use crate::finding::{Facts, Holder, Illegal, TreeBlock, Unlawful};
 use ghost_coarse::Misfit;
 use ghost_judge::disagreement::TreeOf;
 use ghost_slots::SlotFault;
+use ghost_spec::filled::GhostFault;
 use page_state::state_word;
 use std::fmt;
 
@@ -185,6 +186,34 @@ impl fmt::Display for Illegal {
             }
             Illegal::Frame { frame, facts } => write!(f, "no condition 0x{frame:x}: {facts}"),
             Illegal::Tree { tree, misfit } => fmt::Display::fmt(&MisfitText(tree, misfit), f),
+        }
+    }
+}
+
+/// Why lists make no state.
+fn ghost_fault_words(fault: GhostFault) -> &'static str
+    ensures { result.now ≡ text_of_ghost_fault fault }
+{
+    match fault {
+        GhostFault::WrongCount => "a list has not its length",
+        GhostFault::TooLarge => "a page, a frame or a slot is too large",
+        GhostFault::Overlap => "two runs share a page",
+        GhostFault::TableTwice => "two tables of a tree have one block or one frame",
+        GhostFault::FrameTwice => "a pool has a frame twice",
+        GhostFault::NoMemory => "out of memory",
+    }
+}
+
+impl fmt::Display for Unlawful {
+    ghost output = { λ why. Some (text_of_unlawful why) };
+
+    fn fmt<W: fmt::Write>(&self, f: &mut fmt::Formatter<W>) -> fmt::Result {
+        match *self {
+            Unlawful::NoState(fault) => {
+                let words = ghost_fault_words(fault);
+                write!(f, "no state: {words}")
+            }
+            Unlawful::Illegal(why) => fmt::Display::fmt(&why, f),
         }
     }
 }

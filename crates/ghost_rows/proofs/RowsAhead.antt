@@ -15,7 +15,8 @@ use Rattle.page_state.specs.Regions.{end_of, is_in_range}
 use Rattle.page_state.specs.Runs.{map_of, run_end, entry_on, IsCoarsest}
 use Rattle.page_state.proofs.Cases.{by_test}
 use Rattle.ghost_spec.specs.Found.{run_page}
-use Rattle.ghost_trees.proofs.Coarse.{BeginsFrom, begins_before, begins_next}
+use Rattle.ghost_trees.specs.Parts.{BeginsFrom}
+use Rattle.ghost_trees.proofs.Coarse.{begins_before, begins_next}
 use Rattle.ghost_trees.proofs.Overlaid.{within_means}
 use Rattle.ghost_rows.specs.RowsLaid.{annotated_row, annotation_on, loan_at, low_page, run_below, run_frames, next_above, last_above}
 use Rattle.ghost_rows.proofs.RowsLaid.{page_in, page-among}

@@ -1,9 +1,9 @@
 //! The owner rows of a state, found from its runs, pools, tables and hands.
+mod frame_uses;
 mod kept;
 mod loans;
 mod overlay;
 mod pieces;
-mod uses;
 
 ghost use Rattle.std.specs.Prelude.{◌≡◌, ℕ, ◌≤◌, ◌<◌, ◌^◌, ◌↔◌, true, IfOk, IsTrue, OnOk, Some, None, is_some, length, if◌then◌else◌};
 ghost use Rattle.page_state.specs.Layouts.{is_memory};
@@ -17,6 +17,7 @@ ghost use Rattle.ghost_spec.specs.States.{contents_in};
 ghost use Rattle.ghost_rows.specs.RowsLaid.{HaveKeptTrees, HasRows, rows_of};
 ghost use Rattle.ghost_rows.specs.ListedRows.{told, AreReached, IsRegionAdded};
 
+use frame_uses::all_uses;
 use ghost_spec::lists::GhostLists;
 use kept::are_listed;
 use loans::{all_loans, annotated, guest_loans};
@@ -25,7 +26,6 @@ use page_state::{Layout, Page, PageRange, Region, RegionKind, Row, State};
 use pieces::{Lists, Stands};
 use run_list::{Run, RunList};
 use std::alloc::{AllocError, Global};
-use uses::all_uses;
 
 /// The facts of all parts of the state about each frame.
 fn lists_of(alloc: Global, state: &GhostLists) -> Result<Lists, AllocError>

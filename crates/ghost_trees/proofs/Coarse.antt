@@ -15,6 +15,7 @@ use Rattle.page_state.proofs.Entries.{advance-more, entry_advanced, entry_eq-sam
 use Rattle.page_state.proofs.Equality.{targets_test}
 use Rattle.ghost_trees.specs.Small.{HasLowFrames, IsSmall, AreSmall}
 use Rattle.ghost_trees.specs.Joins.{continues, longer, joined}
+use Rattle.ghost_trees.specs.Parts.{BeginsFrom}
 use Rattle.ghost_trees.proofs.Entries.{low_before}
 use Rattle.ghost_trees.proofs.Overlaid.{within_means}
 
@@ -109,11 +110,6 @@ small_joined r (n ∷ rs) h s =
     (omega (arith, next.0), low_before (entry_of_target r.target) r.pages.count n.pages.count frames) in
     rw k (All-cons IsSmall (longer r n) rs long (rest_of IsSmall n rs s)))
     (λ k. rw k (All-cons IsSmall r (n ∷ rs) h s))
-
--- the first run begins at the page or later
-abbrev pub BeginsFrom : ℕ → List Run → Type 0
-BeginsFrom low [] = Unit {0}
-BeginsFrom low (r ∷ rs) = low ≤ r.pages.first.0
 
 pub begins_joined : (low : ℕ) (r : Run) (rs : List Run) → low ≤ r.pages.first.0 → BeginsFrom low (joined r rs)
 begins_joined low r [] h = h

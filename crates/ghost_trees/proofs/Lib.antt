@@ -1,6 +1,8 @@
 pub mod BlockLists
 pub mod Coarse
 pub mod Entries
+pub mod Firsts
+pub mod Following
 pub mod Later
 pub mod OneWords
 pub mod Overlaid

@@ -1,4 +1,5 @@
 pub mod Apart
+pub mod InOrder
 pub mod Joins
 pub mod KeptTrees
 pub mod Parts

@@ -41,3 +41,8 @@ EndBefore page (r ∷ rs) = (run_end r < page) × EndBefore page rs
 abbrev pub EndsFrom : ℕ → List Run → Type 0
 EndsFrom page [] = Unit {0}
 EndsFrom page (r ∷ rs) = page ≤ run_end r
+
+-- the first run begins at the page or after it
+abbrev pub BeginsFrom : ℕ → List Run → Type 0
+BeginsFrom page [] = Unit {0}
+BeginsFrom page (r ∷ rs) = page ≤ r.pages.first.0

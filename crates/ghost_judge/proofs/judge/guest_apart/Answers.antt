@@ -2,7 +2,7 @@ use Rattle.std.proofs.Common.{arith}
 use Rattle.reference_model.specs.model.State.{no_guest}
 use Rattle.ghost_spec.specs.States.{guest_in}
 use Rattle.ghost_spec.specs.Used.{guests_in}
-use Rattle.ghost_judge.specs.Judgements.{without_map}
+use Rattle.ghost_judge.specs.PartDifferences.{without_map}
 use Rattle.ghost_judge.proofs.Judged.{below_next, place_told}
 use Rattle.ghost_judge.proofs.judge.guest_apart.Goals as goal
 

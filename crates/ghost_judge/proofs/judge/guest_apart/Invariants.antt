@@ -1,6 +1,6 @@
 use Rattle.std.proofs.Common.{◌≡◌, ℕ, ◌<◌}
 use Rattle.ghost_spec.specs.Used.{guests_in}
-use Rattle.ghost_judge.specs.Judgements.{without_map}
+use Rattle.ghost_judge.specs.PartDifferences.{without_map}
 use Rattle.ghost_judge.proofs.judge.guest_apart.Given as goal
 
 abbrev pub invariant-loop-v : goal.invariant-loop-v

@@ -1,4 +1,4 @@
-use Rattle.std.proofs.Common.{◌≡◌, List, Option, Some, None, get_or, refl, sym, subst}
+use Rattle.std.proofs.Common.{List, Some, None, get_or, refl, sym, subst}
 use Rattle.page_state.specs.declared.row.Row.{Row}
 use Rattle.page_state.specs.Rows.{plain_row}
 use Rattle.run_list.specs.declared.run.Run.{Run}

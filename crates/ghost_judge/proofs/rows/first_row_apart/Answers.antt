@@ -1,4 +1,4 @@
-use Rattle.std.proofs.Common.{◌+◌, None, drop, get_or, sym, ◌∙◌}
+use Rattle.std.proofs.Common.{◌+◌, drop, get_or, sym, ◌∙◌}
 use Rattle.page_state.specs.declared.row.Row.{Row}
 use Rattle.page_state.specs.Rows.{advance_row, plain_row, HasPageBelow}
 use Rattle.run_list.specs.declared.run.Run.{Run}
