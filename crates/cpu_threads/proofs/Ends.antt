@@ -173,7 +173,7 @@ end_given {t = t} {found = found} {cpus = cpus} passes given back e = record {
   goes_on = e.goes_on;
   own = of_given_back passes given (KeepsOwn cpus) back e.own;
   seen = of_given_back passes given (KeepsSeen found) back e.seen;
-  tried = of_given_back passes given (KeepsTried t.layout found) back e.tried;
+  tried = of_given_back passes given (KeepsTried t.layout e.end.left.log) back e.tried;
 }
 
 -- and a CPU whose pass was never handed out is as the table began

@@ -15,8 +15,8 @@ use Rattle.hypercalls.specs.Uses.{or_vms, parts_of}
 use Rattle.hypercalls.specs.declared.used_parts.UsedParts.TheVariants.{Nothing}
 use Rattle.part_table.specs.Answered.{used_by}
 use Rattle.part_table.specs.Parts.{in_order, part_of, uses}
-use Rattle.part_table.specs.Known.{Known, StartsWith, seen_at}
-use Rattle.part_table.specs.Tried.{AllTaken, FoundRoom, Try}
+use Rattle.part_table.specs.Known.{Known, StartsWith, seen_at, Try}
+use Rattle.part_table.specs.Tried.{AllTaken, FoundRoom}
 use Rattle.cpu_threads.specs.Laws.{SeenGrows, TakesEach}
 
 abbrev IsIn : ℕ → List ℕ → Type 0

@@ -232,7 +232,7 @@ module _ {A : Type 0} (l : Layout) where
       subst (λ (k : CpuState). IsOfSize l.config.log k.log) (sym first.own_is) (own_left cpu own left).size in
       let mine : IsOwn l s c.cpu own =
       subst (λ (k : CpuState). IsOwn l s c.cpu k) first.own_is (own_stands x c.cpu x_by sized) in
-      let t = does.goes s (λ k z e. stands x left.state k z (first.all k ∙ e) (part_left left k z e)) mine in
+      let t = does.goes s (λ k z e. stands x left.history.end k z (first.all k ∙ e) (part_left left k z e)) mine in
       let same : t.0.contents ≡ (recorded y l).contents =
       left_same c x y t.0 (step_changes l s t.0 c t.1) x_by (λ k z e. t.2 k z (sym (last.all k) ∙ e))
       (subst (λ (k : CpuState). IsOwn l t.0 c.cpu k) (sym last.own_is) t.3)

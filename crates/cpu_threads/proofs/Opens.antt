@@ -90,6 +90,7 @@ open_answers v u w h =
     let c : Call = h.stores.call in
     let e = h.stores.added.history in
     let l : Layout = layout_of w.layout in
-    let leads = subst (λ (cs : List Call). Runs (Steps l) (boot l) cs e.left.state) e.ends.1 e.left.run.leads in
-    let last = runs_last (Steps l) e.ends.0 (boot l) e.left.state c leads in
-    step_opens l last.0 e.left.state c v h.stores.called.asked h.stores.reply_is last.1
+    let leads =
+    subst (λ (cs : List Call). Runs (Steps l) (boot l) cs e.left.history.end) e.ends.1 e.left.history.run.leads in
+    let last = runs_last (Steps l) e.ends.0 (boot l) e.left.history.end c leads in
+    step_opens l last.0 e.left.history.end c v h.stores.called.asked h.stores.reply_is last.1

@@ -84,7 +84,7 @@ module _ {A : Type 0} where
     can_before =
         untold_run before own
         (∥∥₁_map left
-        (λ h. can_record l h.ready h.state (run_legal l h.log h.state h.ready h.run) before cpu own
+        (λ h. can_record l h.ready h.history.end (run_legal l h.log h.history.end h.ready h.history.run) before cpu own
         (part_left h) (own_left cpu own h)))
 
     pub can_after : (c : Call) (after : ℕ → Option (Slot A)) (owned : CpuState)
@@ -93,10 +93,12 @@ module _ {A : Type 0} where
         → Does l c before own after owned
         → CanRecord after owned
     can_after c after owned known by does = untold_run after owned (∥∥₁_map left (λ h.
-        let t = does.goes h.state (part_left h) (subst (λ n. IsOwn l h.state n own) (sym by) (own_left cpu own h)) in
+        let t =
+        does.goes h.history.end (part_left h)
+        (subst (λ n. IsOwn l h.history.end n own) (sym by) (own_left cpu own h)) in
         can_record l h.ready t.0
-        (legal_keeps l h.state t.0 c (ready-usable l h.ready) (subst (λ n. n < l.config.cpus) (sym by) known)
-        (run_legal l h.log h.state h.ready h.run) t.1) after c.cpu owned t.2 t.3))
+        (legal_keeps l h.history.end t.0 c (ready-usable l h.ready) (subst (λ n. n < l.config.cpus) (sym by) known)
+        (run_legal l h.log h.history.end h.ready h.history.run) t.1) after c.cpu owned t.2 t.3))
 
     -- its CPU's number stays
     pub id_after : (c : Call) (after : ℕ → Option (Slot A)) (owned : CpuState)
@@ -106,7 +108,8 @@ module _ {A : Type 0} where
     id_after c after owned by does =
         ∥∥₁_elim left (nat_prop owned.id c.cpu)
         (λ h. let t =
-        does.goes h.state (part_left h) (subst (λ n. IsOwn l h.state n own) (sym by) (own_left cpu own h)) in
+        does.goes h.history.end (part_left h)
+        (subst (λ n. IsOwn l h.history.end n own) (sym by) (own_left cpu own h)) in
         t.3.id)
 
     -- and its next generation is a number of 64 bits
@@ -115,4 +118,4 @@ module _ {A : Type 0} where
         untold_next (cpu_of own).ticket step
         (∥∥₁_map left
         (λ h. subst (λ (k : Cpu). HasNextGeneration k.ticket step) (sym (own_left cpu own h).content)
-        (run_has_next l h.log h.state h.ready h.run cpu step)))
+        (run_has_next l h.log h.history.end h.ready h.history.run cpu step)))

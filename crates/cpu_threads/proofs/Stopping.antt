@@ -1,11 +1,12 @@
 -- Where a try stops that stores no call.
-use Rattle.std.proofs.Common.{◌≡◌, ◌≢◌, ℕ, List, [], ◌∷◌, ◌++◌, refl, sym, ap, ◌∙◌, subst, ⊎_elim, inl, inr}
+use Rattle.std.proofs.Common.{◌≡◌, ◌≢◌, ℕ, List, [], ◌∷◌, ◌++◌, length, refl, sym, ap, ◌∙◌, subst, ⊎_elim, inl, inr}
 use Rattle.std.specs.Prelude.{Option}
 use Rattle.std.proofs.lemmas.List.Elements.{All-cons, All-nil}
 use Rattle.part_types.specs.Logs.{StoredCalls}
 use Rattle.part_table.specs.Answered.{MeetsAnother, used_by}
-use Rattle.part_table.specs.Known.{Known}
-use Rattle.part_table.specs.Tried.{EndsIn, FoundAway, FoundFull, FoundRoom, Try}
+use Rattle.part_table.specs.Known.{AddsTries, Known, Try}
+use Rattle.part_table.specs.Tried.{EndsIn, FoundAway, FoundFull, FoundRoom}
+use Rattle.part_table.proofs.Added.{timed}
 use Rattle.cpu_threads.specs.Laws.{StopAt, StopsAtAnother, StopsAtFullLog}
 
 module _ (Last : Option StoredCalls → Type 0) where
@@ -38,7 +39,7 @@ module _ (Last : Option StoredCalls → Type 0) where
       e.3)
 
 met_at : (v w : Known) (ts : List Try)
-    → w.tries ≡ v.tries ++ ts
+    → AddsTries ts v w
     → (ks : List ℕ)
     → StopAt FoundAway ks ts
     → MeetsAnother v w
@@ -48,7 +49,7 @@ met_at v w ts tried ks s = record {
   after = [];
   tried =
       tried
-      ∙ ap (λ (l : List Try). v.tries ++ l)
+      ∙ ap (λ (l : List Try). v.tries ++ timed (length v.own.log.calls) l)
       (s.all ∙ ap (λ (o : Option StoredCalls). s.before ++ (s.last.0, o) ∷ []) s.found);
 }
 

@@ -1,7 +1,7 @@
 -- Tries, one after another, and passes that are handed out.
 use Rattle.std.proofs.Common.{◌≡◌, ◌≢◌, ℕ, ◌<◌, List, [], ◌∷◌, ◌++◌, append-nil, length, length-set, refl, sym, ap, ◌∙◌, subst, arith}
 use Rattle.std.specs.Prelude.{Option, Some, None, IfSome, flat_map, slice_get, slice_set}
-use Rattle.std.proofs.lemmas.List.{append_assoc}
+use Rattle.std.proofs.lemmas.List.{append_assoc, map-append}
 use Rattle.std.proofs.lemmas.List.Elements.{All-nil, All-push}
 use Rattle.std.proofs.lemmas.List.Concat.{flat_map-append}
 use mathlib.Core.Logic.{dite}
@@ -13,8 +13,9 @@ use Rattle.hypercalls.specs.Uses.{uses_of}
 use Rattle.part_table.specs.Answered.{FindsAway, used_by}
 use Rattle.part_table.specs.Parts.{in_order}
 use Rattle.part_table.specs.Passes.{AreFirst, IsPassOf, Opened, Pass, first_pass}
-use Rattle.part_table.specs.Known.{IsSame, Known}
+use Rattle.part_table.specs.Known.{IsSame, Known, Try}
 use Rattle.part_table.specs.Tried.{EndsIn, FoundAway}
+use Rattle.part_table.proofs.Added.{timed}
 use Rattle.part_table.proofs.Lists.{get_set_else}
 use Rattle.cpu_threads.specs.Machines.{AreFresh, AreTheirs, HandsOut, MeetsOnly}
 use Rattle.cpu_threads.proofs.Ends.{get_bound, get_set_here}
@@ -41,12 +42,17 @@ meets_more step v w x m f = record {
   same = same_on v w x m.same f.same;
   rounds = m.rounds ++ f.tries ∷ [];
   tried =
+      let n : ℕ = length v.own.log.calls in
+      let met : List Try = flat_map (λ ts. ts) m.rounds in
       f.tried
-      ∙ (ap (λ ts. ts ++ f.tries) m.tried
-      ∙ (append_assoc v.tries (flat_map (λ ts. ts) m.rounds) f.tries
+      ∙ (ap (λ (k : CpuState). w.tries ++ timed (length k.log.calls) f.tries) m.same.own
+      ∙ (ap (λ ts. ts ++ timed n f.tries) m.tried
+      ∙ (append_assoc v.tries (timed n met) (timed n f.tries)
       ∙ ap (λ ts. v.tries ++ ts)
-      (ap (λ ts. flat_map (λ us. us) m.rounds ++ ts) (sym (append-nil f.tries))
-      ∙ sym (flat_map-append (λ ts. ts) m.rounds (f.tries ∷ [])))));
+      (sym (map-append (λ (t : Try). (n, t)) met f.tries)
+      ∙ ap (timed n)
+      (ap (λ ts. met ++ ts) (sym (append-nil f.tries))
+      ∙ sym (flat_map-append (λ ts. ts) m.rounds (f.tries ∷ [])))))));
   away = All-push (λ ts. (v.own.log.room ≢ 0) × EndsIn FoundAway (used_by step v) ts) m.rounds f.tries m.away
       (subst
       (λ (k : CpuState). (k.log.room ≢ 0)

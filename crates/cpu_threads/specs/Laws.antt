@@ -19,12 +19,13 @@ use Rattle.ghost_spec.specs.States.{contents_in}
 use Rattle.ghost_judge.specs.Judgements.{IsAsPredicted, told_of}
 use Rattle.part_table.specs.declared.slot.Slot.{Slot}
 use Rattle.part_table.specs.Answered.{FindsAway, FindsLogFull, MeetsAnother, MakesCall, used_by}
+use Rattle.part_table.specs.Before.{before_own}
 use Rattle.part_table.specs.Endings.{IsEndFor, IsEndOf}
 use Rattle.part_table.specs.Parts.{parts, part_of, uses}
 use Rattle.part_table.specs.Passes.{Opened, Pass}
 use Rattle.part_table.specs.Beginnings.{GoesOn, own_in}
-use Rattle.part_table.specs.Known.{AreFronts, Known, StartsWith, seen_at}
-use Rattle.part_table.specs.Tried.{FoundAway, FoundFull, FoundRoom, Try}
+use Rattle.part_table.specs.Known.{AreFronts, Known, StartsWith, Try, seen_at}
+use Rattle.part_table.specs.Tried.{FoundAway, FoundFull, FoundRoom}
 use Rattle.cpu_threads.specs.Ends.{AreFreshAt, HasAll, IsAtHome, LacksOne, OfGiven}
 use Rattle.cpu_threads.specs.Inits.{InitsVm}
 use Rattle.cpu_threads.specs.Judged.{Asked, IsJudged}
@@ -33,11 +34,11 @@ use Rattle.cpu_threads.specs.declared.init.InitStage.TheVariants.{Reserve, Fund 
 
 -- The history is a pass's: its CPU's calls in it are the pass's own list, in order and with their
 -- replies, and its calls on each part begin with what the pass has seen there, and with each log of
--- the part that it took
+-- the part that it took, whose calls come before the pass's next one
 pub record IsHistoryOf (l : TheLayout) (log : List Call) (p : Pass) : Type 0 where
   pub calls : calls_by p.knows.cpu log ≡ p.knows.own.log.calls
   pub seen : (k : ℕ) → k < parts → StartsWith (calls_on (part_of k) log) (seen_at p.knows.seen k)
-  pub tried : AreFronts l.config.log (λ k. calls_on (part_of k) log) p.knows.tries
+  pub tried : AreFronts l.config.log p.knows.cpu log p.knows.tries
 
 -- There is one legal history at whose end the parts and the CPUs are. It goes on from what the
 -- machine began with, is each given pass's, and has no more calls of a CPU whose pass was never
@@ -59,16 +60,18 @@ EndsInOne A =
     → AreFreshAt t passes cpus
     → OneHistory t found cpus passes given
 
--- if a try of a given pass found a part's log full, it is full at the end
+-- if a try of a given pass found a part's log full, the history has as many calls of the part as a
+-- log can store before the pass's next call, and no more to its end
 abbrev pub FullLogsStay : Type 0 → Type 0
 FullLogsStay A =
     (m : Opened) (found : List (Slot A)) (cpus : List CpuState) (passes : List (Option Pass))
     (given : List Pass) (h : OneHistory m found cpus passes given)
     → OfGiven given
     (λ p. All
-    (λ t. FoundFull t.1
-    → length (calls_on (part_of t.0) h.end.left.log)
-    ≡ m.layout.config.log) p.knows.tries)
+    (λ t. FoundFull t.1.1
+    → (length (calls_on (part_of t.1.0) (before_own p.knows.cpu t.0 h.end.left.log))
+    ≡ m.layout.config.log)
+    × (length (calls_on (part_of t.1.0) h.end.left.log) ≡ m.layout.config.log)) p.knows.tries)
 
 -- what a pass has seen of a part only grows, and of a part that its call used it ends with the call
 abbrev pub SeenGrows : Type 0

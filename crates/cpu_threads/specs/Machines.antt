@@ -1,5 +1,5 @@
 -- A machine, its passes, and the answer of a call that is tried again.
-use Rattle.std.specs.Prelude.{◌≡◌, ◌≢◌, ℕ, ◌<◌, ◌≤◌, List, [], ◌++◌, flat_map, length, map, All, Option, Some, None, slice_get, slice_index_or}
+use Rattle.std.specs.Prelude.{◌≡◌, ◌≢◌, ℕ, ◌<◌, ◌≤◌, List, [], flat_map, length, map, All, Option, Some, None, slice_get, slice_index_or}
 use Rattle.page_state.specs.declared.layout.Config.{Config}
 use Rattle.page_state.specs.declared.layout.Geometry.{Geometry}
 use Rattle.call_table.specs.declared.reply.Reply.{Reply}
@@ -12,10 +12,10 @@ use Rattle.part_table.specs.Answered.{FindsLogFull, MakesCall, used_by}
 use Rattle.part_table.specs.declared.rule.Begun.{Begun}
 use Rattle.part_table.specs.Parts.{log_of, parts}
 use Rattle.part_table.specs.Passes.{AreFirst, IsPassOf, Opened, Pass, first_pass}
-use Rattle.part_table.specs.Known.{IsSame, Known, own_at_boot}
+use Rattle.part_table.specs.Known.{AddsTries, IsSame, Known, Try, own_at_boot}
 use Rattle.part_table.specs.Beginnings.{own_in}
 use Rattle.part_table.specs.Slots.{slots_of}
-use Rattle.part_table.specs.Tried.{EndsIn, FoundAway, Try}
+use Rattle.part_table.specs.Tried.{EndsIn, FoundAway}
 use Rattle.hypercalls.specs.declared.parts.Parts.{Parts}
 use Rattle.hypercalls.specs.Booted.{IsConfig, layout_for}
 
@@ -78,7 +78,7 @@ pub record IsBootedMachine (m : Memory) (c : Config) (it : Machine) : Type 0 whe
 pub record MeetsOnly (step : Step) (v w : Known) : Type 0 where
   pub same : IsSame v w
   pub rounds : List (List Try)
-  pub tried : w.tries ≡ v.tries ++ flat_map (λ ts. ts) rounds
+  pub tried : AddsTries (flat_map (λ ts. ts) rounds) v w
   pub away : All (λ ts. (v.own.log.room ≢ 0) × EndsIn FoundAway (used_by step v) ts) rounds
 
 -- a step is tried while another pass is in its way, and then the call is stored

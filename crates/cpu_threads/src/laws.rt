@@ -8,12 +8,13 @@ use std::alloc::Allocator;
 /// world is. The calls of each CPU in it are those of its given pass's list, each once, in that order and with the replies
 /// that were answered; a CPU whose pass was never handed out has those that the
 /// machine began with. At each part the history begins with what each
-/// given pass had seen there, and with each log that it took.
+/// given pass had seen there, and with each log that it took. The calls of such a log come before the call that the
+/// pass made next.
 pub fn one_history<A: Allocator>()
     ensures { EndsInOne A }
 {}
 
-/// So a part's log that a try found full is full at the end.
+/// So a part's log that a try found full was full before the pass's next call, and is at the end.
 pub fn full_logs<A: Allocator>()
     ensures { FullLogsStay A }
 {}

@@ -1,12 +1,12 @@
 //! Threads: one machine, and a pass for each of its CPUs. Whatever the CPUs do at once, there is one legal history of their calls.
 #![tactic(auto)]
 
-mod boot;
-mod ending;
 mod init;
 mod judged;
 pub mod laws;
 mod machine;
+mod machine_boot;
+mod passes_back;
 mod rooms;
 mod shutdown;
 

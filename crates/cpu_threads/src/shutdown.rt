@@ -8,8 +8,8 @@ ghost use Rattle.cpu_threads.specs.Ends.{AllGiven, AreFreshAt, AreOf, HasAll, Ha
 ghost use Rattle.cpu_threads.specs.Rooms.{AreHistories};
 ghost use Rattle.cpu_threads.specs.declared.shutdown.ShutdownFault.TheVariants.{Missing, NoMemory};
 
-use crate::ending::{all_back, lacks};
 use crate::machine::Machine;
+use crate::passes_back::{all_back, lacks};
 use crate::rooms::{copied, log_rooms};
 use part_table::whole::together;
 use part_table::{CpuPass, PartTable, Slot};
@@ -81,7 +81,7 @@ impl<A: Allocator> Machine<A> {
     /// The world after the one legal history of all calls, once each pass that was handed out is given. It goes on from
     /// the history of the world that the machine was made of. Each CPU has the state in which its pass ends, with the
     /// pass's calls, and each part's log begins with what each pass has seen there (`laws::one_history`). A log that a
-    /// try found full is then full (`laws::full_logs`). With it come copies of all logs, for which room is taken before
+    /// try found full was full before its pass's next call (`laws::full_logs`). With it come copies of all logs, for which room is taken before
     /// the machine ends. On a refusal the machine and the passes are returned.
     // Room for the copies is taken first: docs/DECISIONS.md, 33.
     pub fn shutdown(

@@ -18,8 +18,8 @@ use Rattle.part_table.specs.Endings.{ForEach, Gives, HasEnd, HaveEnded, IsEndFor
 use Rattle.part_table.specs.Parts.{parts, part_of, log_of, IsPart, IsOwn}
 use Rattle.part_table.specs.Passes.{AreHomeFrom, Opened, Pass}
 use Rattle.part_table.specs.Rule.{Ended, IsLawful}
-use Rattle.part_table.specs.Known.{StartsWith, seen_at}
-use Rattle.part_table.proofs.Fronts.{found_fronts}
+use Rattle.part_table.specs.Known.{AreFronts, StartsWith, seen_at}
+use Rattle.part_table.proofs.Left.{left_by, stands}
 use Rattle.part_table.proofs.Lists.{elem_of_get, from, get_front, get_last}
 use Rattle.part_table.proofs.Pairs.{at_bound, part_same}
 use Rattle.part_table.proofs.Root.{Ends, finals}
@@ -53,10 +53,9 @@ module _ {A : Type 0} (t : Opened) (n : ℕ) (ended : List Ended) (xs : List (Op
     count = have.1 ∙ all;
     left = record {
       ready = f.ready;
+      whole = left_by f.state f.log;
       log = f.log;
-      state = f.state;
-      run = f.run;
-      stored = f.stored;
+      history = stands (layout_of key) f.state f.log f.run f.stored;
       cpus = λ k e at.
           let less : k < n = bound cpus k e n have.1 at in
           let h = home k (omega arith) less in
@@ -75,13 +74,16 @@ module _ {A : Type 0} (t : Opened) (n : ℕ) (ended : List Ended) (xs : List (Op
     };
   }
 
-  keeps_own : ForEach passes (KeepsOwn cpus)
-  keeps_own c p there =
+  cpu_there : (c : ℕ) (p : Pass) → slice_get passes c ≡ Some (Some p) → p.knows.cpu ≡ c
+  cpu_there c p there =
       let inside : c < n = bound passes c (Some p) n long there in
       let h = home c (omega arith) inside in
       let same : h.0 ≡ p = ap (from h.0) (ap (from (Some h.0)) (sym h.1 ∙ there)) in
-      let cpu : p.knows.cpu ≡ c = ap (λ (z : Pass). z.knows.cpu) (sym same) ∙ h.3 in
-      ap (slice_get cpus) cpu ∙ (have.2 c p inside there).1
+      ap (λ (z : Pass). z.knows.cpu) (sym same) ∙ h.3
+
+  keeps_own : ForEach passes (KeepsOwn cpus)
+  keeps_own c p there =
+      ap (slice_get cpus) (cpu_there c p there) ∙ (have.2 c p (bound passes c (Some p) n long there) there).1
 
   keeps_seen : ForEach passes (KeepsSeen found)
   keeps_seen c p there k x at =
@@ -92,11 +94,11 @@ module _ {A : Type 0} (t : Opened) (n : ℕ) (ended : List Ended) (xs : List (Op
       let log : (log_of x).calls ≡ _ = ap (λ (z : Slot A). (log_of z).calls) (sym same) ∙ h.3 in
       subst (λ (l : List Call). StartsWith l (seen_at p.knows.seen k)) (sym log) (f.seen c (ended_of p) ends k)
 
-  keeps_tried : ForEach passes (KeepsTried key found)
+  keeps_tried : ForEach passes (KeepsTried key f.log)
   keeps_tried c p there =
       let ends = (have.2 c p (bound passes c (Some p) n long there) there).0 in
-      found_fronts key found f.log p.knows.tries
-      (λ k less. let h = f.each_part k less in (h.0, gives.1 k h.0 less h.1, h.3)) (f.tried c (ended_of p) ends)
+      subst (λ (k : ℕ). AreFronts key.config.log k f.log p.knows.tries) (sym (cpu_there c p there))
+      (f.tried c (ended_of p) ends)
 
   pub end_for : IsEndFor t found cpus (ForEach passes)
   end_for = record { end = is_end; goes_on = f.goes_on; own = keeps_own; seen = keeps_seen; tried = keeps_tried }

@@ -1,5 +1,5 @@
 -- Each exchange keeps the rule.
-use Rattle.std.proofs.Common.{◌≡◌, ◌≢◌, ◌⊎◌, ℕ, ◌+◌, ◌<◌, List, [], ◌∷◌, ◌++◌, get_or, set, Bool, true, false, true≢false, cond, eqb, refl, sym, ap, ◌∙◌, subst, ⊎_elim, inl, inr, arith, eq-eqb, ne_eqb, get_or-set_same, get_or-set_other, length-set, append-nil}
+use Rattle.std.proofs.Common.{◌≡◌, ◌≢◌, ◌⊎◌, ℕ, ◌+◌, ◌<◌, List, [], ◌∷◌, ◌++◌, length, get_or, set, Bool, true, false, true≢false, cond, eqb, refl, sym, ap, ◌∙◌, subst, ⊎_elim, inl, inr, arith, eq-eqb, ne_eqb, get_or-set_same, get_or-set_other, length-set, append-nil}
 use Rattle.std.specs.Prelude.{Option, Some, None, slice_index, All}
 use Rattle.std.proofs.lemmas.List.Elements.{All-push}
 use mathlib.Core.Option.{some, none}
@@ -25,12 +25,12 @@ use Rattle.part_table.specs.declared.rule.View.{View}
 use Rattle.part_table.specs.declared.slot.Slot.{Slot}
 use Rattle.part_table.specs.Parts.{parts, part_of, uses, log_of, IsPart, IsOwn}
 use Rattle.part_table.specs.Does.{Does}
-use Rattle.part_table.proofs.Left.{one_cpu}
+use Rattle.part_table.proofs.Left.{left_by, one_cpu, stands}
 use Rattle.part_table.proofs.Beginning.{goes_longer}
 use Rattle.part_table.proofs.Fronts.{fronts_longer, fronts_missed, fronts_took}
 use Rattle.part_table.specs.Beginnings.{own_in}
-use Rattle.part_table.specs.Rule.{AreFrontsIn, Hands, held_at, seen_with, StandsAfter, Knows, Rooted, IsLawful, taking, missing, releasing, took, Standing, returned, stored, entered, storing, tail, known_of}
-use Rattle.part_table.specs.Known.{at, seen_at, StartsWith, Extends}
+use Rattle.part_table.specs.Rule.{Hands, held_at, seen_with, StandsAfter, Knows, Rooted, IsLawful, taking, missing, releasing, took, Standing, returned, stored, entered, storing, tail, known_of}
+use Rattle.part_table.specs.Known.{at, seen_at, AreFronts, StartsWith, Try, Extends}
 use Rattle.part_table.proofs.Pairs.{at_same, at_other, set_at, at_bound, part_same, still_held, seats, picked_more, picked_same, picked_longer, runs_more, after_seen, unused_seen}
 
 pub either_bool : (b : Bool) → (b ≡ true) ⊎ (b ≡ false)
@@ -114,9 +114,9 @@ module _ (A : Type 0) (key : TheLayout) where
     -- a view that goes on but for the parts that it holds and those that it tried knows what it knew, where what it
     -- holds is told
     still_knows : (ws : List ℕ) (holder : ℕ → ℕ) (i : ℕ) (v : View A) (hands : Hands A)
-        (tries : List (ℕ × Option StoredCalls))
+        (tries : List (ℕ × Try))
         → F s.words r.holder i v
-        → (v.on ≡ true → AreFrontsIn key r.log tries)
+        → (v.on ≡ true → AreFronts key.config.log v.cpu r.log tries)
         → ((j : ℕ) (y : Slot A)
         → held_at hands j ≡ Some y
         → (v.on ≡ true)
@@ -175,7 +175,8 @@ module _ (A : Type 0) (key : TheLayout) where
           root = root_still w;
           each_seat = seats (F ws holder) s.views id w
               (still_knows ws holder id m.0 w.held w.tries mine
-              (λ o. fronts_took key r.log m.0.tries r.state k x (mine.tried o) inside stands.0 stands.1)
+              (λ o. fronts_took key m.0.cpu r.log m.0.own.log.calls m.0.tries r.state k x (mine.mine o) (mine.tried o)
+              inside stands.0 stands.1)
               (λ j y e. dite (ℕ_discrete j k)
               (λ is. let same : x ≡ y =
               part_same x y (sym (at_same m.0.held k (Some x) None) ∙ (ap (held_at w.held) (sym is) ∙ e)) in (
@@ -224,7 +225,7 @@ module _ (A : Type 0) (key : TheLayout) where
           root = root_still w;
           each_seat = seats (F ws r.holder) s.views id w
               (still_knows ws r.holder id m.0 w.held w.tries mine
-              (λ o. fronts_missed key r.log m.0.tries k (mine.tried o))
+              (λ o. fronts_missed key m.0.cpu r.log (length m.0.own.log.calls) m.0.tries k (mine.tried o))
               (λ j y e. let h = mine.held j y e in (h.0, h.1, (λ z. h.2 (zero_as j z)), h.3, h.4)))
               (λ i u apart there. let f = r.each_seat i u there in still_knows ws r.holder i u u.held u.tries f f.tried
               (λ j y e. let h = f.held j y e in (h.0, h.1, (λ z. h.2 (zero_as j z)), h.3, h.4)));
@@ -355,7 +356,7 @@ module _ (A : Type 0) (key : TheLayout) where
             goes_on = goes_longer v.begun r.log c o.goes_on;
             few = o.few;
             seen = λ j z at_j i. picked_longer (call_uses (part_of i)) r.log c (seen_at z.1 i) (o.seen j z at_j i);
-            tried = λ j z at_j. fronts_longer key r.log c z.2 (o.tried j z at_j);
+            tried = λ j z at_j. fronts_longer key j r.log c z.2 (o.tried j z at_j);
             ended = λ j z at_j. let k = o.ended j z at_j in
                 let other : j ≢ c.cpu = λ is. let same : j + 1 ≡ id = ap (λ n. n + 1) (is ∙ by) ∙ at in
                 absurd
@@ -377,10 +378,11 @@ module _ (A : Type 0) (key : TheLayout) where
       extends_it = let same : key ≡ m.0.layout = sym (mine.layout on) in record {
         left = record {
           ready = subst (λ (l : TheLayout). CanBoot (layout_of l)) same r.ready;
+          whole = left_by gone.0 log';
           log = log';
-          state = gone.0;
-          run = subst (λ (l : TheLayout). IsRun (layout_of l) log' gone.0) same runs;
-          stored = all_stored;
+          history =
+              stands (layout_of m.0.layout) gone.0 log'
+              (subst (λ (l : TheLayout). IsRun (layout_of l) log' gone.0) same runs) all_stored;
           cpus =
               one_cpu (λ n k. (k.log.calls ≡ calls_by n log') × IsOwn (layout_of m.0.layout) gone.0 n k) m.0.cpu owned (
                 own_list,
@@ -443,7 +445,7 @@ module _ (A : Type 0) (key : TheLayout) where
                       (λ l. StartsWith (calls_on (part_of j) log') l) (sym (after_seen after m.0.seen j t.0 t.1))
                       ([], sym ((steps j t.0 t.1).1) ∙ sym (append-nil (log_of t.0).calls)))
                       (either_option (held_at after j));
-                  tried = λ o. fronts_longer key r.log c m.0.tries (mine.tried o);
+                  tried = λ o. fronts_longer key m.0.cpu r.log c m.0.tries (mine.tried o);
                   held = λ j y e. dite (ℕ_discrete j k)
                       (λ is. let never : None ≡ Some y =
                       sym (at_same after k None None) ∙ (ap (held_at w.held) (sym is) ∙ e) in
@@ -468,7 +470,7 @@ module _ (A : Type 0) (key : TheLayout) where
                       (ne_eqb c.cpu v.cpu (λ e. other o (sym e))));
                   own = λ o. gone.5 v.cpu v.own (other o) (f.own o);
                   seen = λ o j. picked_longer (call_uses (part_of j)) r.log c (seen_at v.seen j) (f.seen o j);
-                  tried = λ o. fronts_longer key r.log c v.tries (f.tried o);
+                  tried = λ o. fronts_longer key v.cpu r.log c v.tries (f.tried o);
                   held = λ j y e. let h = f.held j y e in
                       let ne : j ≢ k = λ is. apart (sym h.3 ∙ (ap r.holder is ∙ k_mine.3)) in (
                         h.0,
@@ -519,7 +521,7 @@ module _ (A : Type 0) (key : TheLayout) where
                       (λ (a : Hands A). StartsWith (calls_on (part_of j) log') (at (seen_with a m.0.seen) [] j))
                       (sym empty)
                       (picked_longer (call_uses (part_of j)) r.log c (seen_at m.0.seen j) (mine.seen o j));
-                  tried = λ o. fronts_longer key r.log c m.0.tries (mine.tried o);
+                  tried = λ o. fronts_longer key m.0.cpu r.log c m.0.tries (mine.tried o);
                   held = λ j y e. dite (ℕ_discrete j k)
                       (λ is. let never : None ≡ Some y =
                       sym (at_same after k None None) ∙ (ap (held_at w.held) (sym is) ∙ e) in
@@ -542,7 +544,7 @@ module _ (A : Type 0) (key : TheLayout) where
                       (ne_eqb c.cpu v.cpu (λ e. other o (sym e))));
                   own = λ o. gone.5 v.cpu v.own (other o) (f.own o);
                   seen = λ o j. picked_longer (call_uses (part_of j)) r.log c (seen_at v.seen j) (f.seen o j);
-                  tried = λ o. fronts_longer key r.log c v.tries (f.tried o);
+                  tried = λ o. fronts_longer key v.cpu r.log c v.tries (f.tried o);
                   held = λ j y e. let h = f.held j y e in (h.0, h.1, h.2, h.3, stays j y (unused j) h.4);
                 });
           }
@@ -562,10 +564,11 @@ module _ (A : Type 0) (key : TheLayout) where
       let same : key ≡ m.0.layout = sym (mine.layout on) in
       let stands : Standing w = record {
         ready = subst (λ (l : TheLayout). CanBoot (layout_of l)) same new.ready;
+        whole = left_by new.state new.log;
         log = new.log;
-        state = new.state;
-        run = subst (λ (l : TheLayout). IsRun (layout_of l) new.log new.state) same new.run;
-        stored = new.stored;
+        history =
+            stands (layout_of m.0.layout) new.state new.log
+            (subst (λ (l : TheLayout). IsRun (layout_of l) new.log new.state) same new.run) new.stored;
         cpus =
             one_cpu
             (λ c k. (k.log.calls ≡ calls_by c new.log) × IsOwn (layout_of m.0.layout) new.state c k) w.cpu w.own

@@ -4,6 +4,8 @@ pub mod SteppingOn
 pub mod Pairs
 pub mod Beginning
 pub mod Left
+pub mod Before
+pub mod Added
 pub mod Fronts
 pub mod Lists
 pub mod Keeps

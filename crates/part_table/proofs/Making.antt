@@ -8,7 +8,6 @@ use Rattle.call_table.specs.declared.reply.Reply.{Reply}
 use Rattle.call_table.specs.declared.step.Step.{Step}
 use Rattle.reference_model.specs.model.History.{IsStored}
 use Rattle.part_types.specs.declared.parts.CpuState.{CpuState}
-use Rattle.part_types.specs.Logs.{StoredCalls}
 use Rattle.part_table.specs.declared.slot.Slot.{Slot}
 use Rattle.part_table.specs.declared.tries.Tried.{Tried}
 use Rattle.part_table.specs.declared.tries.Tried.TheVariants.{Stored, Contended, LogFull}
@@ -17,8 +16,9 @@ use Rattle.part_table.specs.Does.{Does, IsCalled, IsLeft, both_at, only_at}
 use Rattle.part_table.specs.Made.{IsMade, Makes}
 use Rattle.part_table.specs.Parts.{numbers_for, log_of, uses}
 use Rattle.part_table.specs.Rule.{Seated, known_of}
-use Rattle.part_table.specs.Known.{Known}
+use Rattle.part_table.specs.Known.{AddsTries, Known, Try}
 use Rattle.part_table.specs.Trying.{MakesFor, MakesOf, reply_of}
+use Rattle.part_table.proofs.Added.{timed}
 use Rattle.part_table.proofs.Holding.{only_here, at_first, at_second}
 
 module _ {A T : Type 0}
@@ -36,7 +36,7 @@ module _ {A T : Type 0}
       {before after : ℕ → Option (Slot A)} {z n : Seated A} (ks : List ℕ) (m : Seated A)
       → n ≡ z
       → z.0.own ≡ owned
-      → z.0.tries ≡ m.0.tries ++ map (λ k. (k, option_map log_of (before k))) ks
+      → AddsTries (map (λ k. (k, option_map log_of (before k))) ks) (known_of m.0) (known_of z.0)
       → (m.0.layout ≡ l) × (m.0.cpu ≡ own.id) × (m.0.own ≡ own)
       → IsLeft (layout_of l) own.id own before
       → ((k : ℕ) (x : Slot A) → before k ≡ Some x → uses c k ≡ true)
@@ -104,16 +104,18 @@ module _ {A T : Type 0}
       of LogFull e h = h
 
 -- what was tried, as the logs of the parts that were taken
-module _ {A : Type 0} (tries : List (ℕ × Option StoredCalls)) where
+module _ {A : Type 0} (tries : List (ℕ × Try)) (n : ℕ) where
   pub tried_one : (k : ℕ) (x : Slot A)
-      → tries ++ (k, Some (log_of x)) ∷ [] ≡ tries ++ map (λ j. (j, option_map log_of (only_at k x j))) (k ∷ [])
-  tried_one k x = ap (λ (o : Option (Slot A)). tries ++ (k, option_map log_of o) ∷ []) (sym (only_here k x))
+      → tries ++ (n, (k, Some (log_of x))) ∷ []
+      ≡ tries ++ timed n (map (λ j. (j, option_map log_of (only_at k x j))) (k ∷ []))
+  tried_one k x = ap (λ (o : Option (Slot A)). tries ++ (n, (k, option_map log_of o)) ∷ []) (sym (only_here k x))
 
   pub tried_two : (g : ℕ) (x y : Slot A) → 1 ≢ g
-      → tries ++ (1, Some (log_of x)) ∷ (g, Some (log_of y)) ∷ []
-      ≡ tries ++ map (λ j. (j, option_map log_of (both_at g y 1 x j))) (1 ∷ g ∷ [])
+      → tries ++ (n, (1, Some (log_of x))) ∷ (n, (g, Some (log_of y))) ∷ []
+      ≡ tries ++ timed n (map (λ j. (j, option_map log_of (both_at g y 1 x j))) (1 ∷ g ∷ []))
   tried_two g x y ne =
       ap
-      (λ (o : Option (Slot A) × Option (Slot A)). tries ++ (1, option_map log_of o.0) ∷ (g, option_map log_of o.1)
+      (λ (o : Option (Slot A) × Option (Slot A)). tries ++ (n, (1, option_map log_of o.0))
+      ∷ (n, (g, option_map log_of o.1))
       ∷ [])
       (λ i. (sym (at_second g 1 y x ne) i, sym (at_first g 1 y x) i))

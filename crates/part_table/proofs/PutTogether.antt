@@ -153,13 +153,13 @@ module _ {A : Type 0} where
       let many = h.all in
       let a = each_part h 0 (omega arith) in
       let b = each_part h 1 (omega arith) in
-      let v = vms_front (layout_of l) h.left.state a.0 a.2 in
-      let s = shared_front (layout_of l) h.left.state b.0 b.2 in
+      let v = vms_front (layout_of l) h.left.history.end a.0 a.2 in
+      let s = shared_front (layout_of l) h.left.history.end b.0 b.2 in
       let ex : x ≡ VmSlot v.0 = some_same x a.0 a.1 ∙ v.1 in
       let ey : y ≡ SharedSlot s.0 = some_same y b.0 b.1 ∙ s.1 in
       let guests =
-      guests_from (λ k z. IsPart (layout_of l) h.left.state (suc (suc k)) z)
-      (guest_of (layout_of l) h.left.state) xs
+      guests_from (λ k z. IsPart (layout_of l) h.left.history.end (suc (suc k)) z)
+      (guest_of (layout_of l) h.left.history.end) xs
       (λ k less. let t = each_part h (suc (suc k)) (omega (arith, less, many)) in (t.0, t.1, t.2)) in
       subst (λ z. AreParts (z ∷ (y ∷ xs))) (sym ex) (subst (λ z. AreParts (VmSlot v.0 ∷ (z ∷ xs))) (sym ey) guests)
 
@@ -183,23 +183,23 @@ module _ {A : Type 0} where
     pub guests_count : length gs ≡ 64
     guests_count = let n = ap length is in let many = end.all in let m = length_guests gs in omega (arith, n, many, m)
 
-    pub vms_end : IsVms at end.left.state v × (v.log.calls ≡ calls_on vm_part end.left.log)
+    pub vms_end : IsVms at end.left.history.end v × (v.log.calls ≡ calls_on vm_part end.left.log)
     vms_end =
         let t = each_part end 0 (omega arith) in
         let e : t.0 ≡ VmSlot v =
         sym (some_same (VmSlot v) t.0 (sym (ap (λ (xs : List (Slot A)). slice_get xs 0) is) ∙ t.1)) in
-        (subst (IsPart at end.left.state 0) e t.2, sym (ap (λ (x : Slot A). (log_of x).calls) e) ∙ t.3)
+        (subst (IsPart at end.left.history.end 0) e t.2, sym (ap (λ (x : Slot A). (log_of x).calls) e) ∙ t.3)
 
-    pub shared_end : IsShared at end.left.state s × (s.log.calls ≡ calls_on shared_part end.left.log)
+    pub shared_end : IsShared at end.left.history.end s × (s.log.calls ≡ calls_on shared_part end.left.log)
     shared_end =
         let t = each_part end 1 (omega arith) in
         let e : t.0 ≡ SharedSlot s =
         sym (some_same (SharedSlot s) t.0 (sym (ap (λ (xs : List (Slot A)). slice_get xs 1) is) ∙ t.1)) in
-        (subst (IsPart at end.left.state 1) e t.2, sym (ap (λ (x : Slot A). (log_of x).calls) e) ∙ t.3)
+        (subst (IsPart at end.left.history.end 1) e t.2, sym (ap (λ (x : Slot A). (log_of x).calls) e) ∙ t.3)
 
     pub guest_end : (j : ℕ) (g : GuestPart A)
         → slice_get gs j ≡ Some g
-        → IsGuest at end.left.state j g × (g.log.calls ≡ calls_on (guest_part j) end.left.log)
+        → IsGuest at end.left.history.end j g × (g.log.calls ≡ calls_on (guest_part j) end.left.log)
     guest_end j g here =
         let less = get_below gs j g here in
         let many = guests_count in
@@ -208,7 +208,8 @@ module _ {A : Type 0} where
         sym
         (some_same (GuestSlot g) t.0
         (sym (ap (λ (xs : List (Slot A)). slice_get xs (suc (suc j))) is ∙ get_guest gs j g here) ∙ t.1)) in
-        (subst (IsPart at end.left.state (suc (suc j))) e t.2, sym (ap (λ (x : Slot A). (log_of x).calls) e) ∙ t.3)
+        let log = sym (ap (λ (x : Slot A). (log_of x).calls) e) ∙ t.3 in
+        (subst (IsPart at end.left.history.end (suc (suc j))) e t.2, log)
 
   -- parts that are put together so stand at the end of the history
   pub has_history : (q : Parts A) (found : List (Slot A)) (end : IsEndOf q.layout found q.cpus.items)
@@ -226,9 +227,9 @@ module _ {A : Type 0} where
         ready = end.left.ready;
         log = end.left.log;
         history = record {
-          end = end.left.state;
-          run = end.left.run;
-          stored = end.left.stored;
+          end = end.left.history.end;
+          run = end.left.history.run;
+          stored = end.left.history.stored;
           vms = pair _ _ _ _ vs.0.content vs.1;
           shared = pair _ _ _ _ ss.0.content ss.1;
           guest = λ j less. let g =

@@ -28,8 +28,8 @@ use Rattle.part_table.proofs.Fronts.{fronts_none}
 use Rattle.part_table.proofs.Left.{each_part, one_cpu, own_left, there}
 use Rattle.part_table.proofs.Lists.{elem_of_get, or_of_get}
 use Rattle.part_table.specs.Beginnings.{AreLeftFirst, GoesOn, begun_in, logs_in, no_own, own_in}
-use Rattle.part_table.specs.Rule.{AreFrontsIn, Ended, held_at, Knows, Rooted, IsLawful, IsIdle, nobody, rooted, one_more, newcomer, with_end}
-use Rattle.part_table.specs.Known.{StartsWith, seen_at}
+use Rattle.part_table.specs.Rule.{Ended, held_at, Knows, Rooted, IsLawful, IsIdle, nobody, rooted, one_more, newcomer, with_end}
+use Rattle.part_table.specs.Known.{AreFronts, StartsWith, seen_at}
 use Rattle.part_table.proofs.Pairs.{set_at, at_bound, at_end, seats, still_held}
 
 idle_is : {A : Type 0} → (x : Slot A) (o : Option (Slot A)) → o ≡ None → o ≡ Some x → ⊥
@@ -96,7 +96,7 @@ module _ (A : Type 0) (key : TheLayout) where
               mine = λ _. fresh.0;
               own = λ _. fresh.1;
               seen = λ _ k. (calls_on (part_of k) r.log, refl);
-              tried = λ _. fronts_none key r.log;
+              tried = λ _. fronts_none key v.made r.log;
               held = λ k x e. absurd (idle_is x None refl e);
             })
             (at_end vs right u j e);
@@ -180,8 +180,10 @@ module _ (A : Type 0) (key : TheLayout) where
                   (at_end v.ended (w.own, w.seen, w.tries) e c at);
               tried = λ c e at. ⊎_elim
                   (λ old. o.tried c e old)
-                  (λ (q : (c ≡ length v.ended) × ((w.own, w.seen, w.tries) ≡ e)). subst
-                  (λ (z : Ended). AreFrontsIn key r.log z.2) q.1 (theirs.tried on))
+                  (λ (q : (c ≡ length v.ended) × ((w.own, w.seen, w.tries) ≡ e)). let same : c ≡ w.cpu =
+                  q.0 ∙ sym next in
+                  subst (λ (z : ℕ × Ended). AreFronts key.config.log z.0 r.log z.1.2) (λ i. (sym same i, q.1 i))
+                  (theirs.tried on))
                   (at_end v.ended (w.own, w.seen, w.tries) e c at);
               ended = λ c e at. ⊎_elim
                   (λ old. let k = o.ended c e old in (
@@ -230,7 +232,7 @@ module _ (A : Type 0) (key : TheLayout) where
         → get_elem? ended c ≡ some e
         → (k : ℕ)
         → StartsWith (calls_on (part_of k) log) (seen_at e.1 k)
-    pub tried : (c : ℕ) (e : Ended) → get_elem? ended c ≡ some e → AreFrontsIn key log e.2
+    pub tried : (c : ℕ) (e : Ended) → get_elem? ended c ≡ some e → AreFronts key.config.log c log e.2
     pub goes_on : GoesOn b log
 
   in_list : (l : List Ended) (c : ℕ) → c < length l → (e : Ended) × (get_elem? l c ≡ some e)
@@ -288,23 +290,24 @@ module _ (A : Type 0) (k : Opening A) (xs : List (Option (Slot A))) (same : k.sl
   first_own : (c : ℕ)
       → c < k.layout.config.cpus
       → ((own_in (begun_in k) c).log.calls ≡ calls_by c leaves.log)
-      × IsOwn (layout_of k.layout) leaves.state c (own_in (begun_in k) c)
+      × IsOwn (layout_of k.layout) leaves.history.end c (own_in (begun_in k) c)
   first_own c below =
       let count : length k.owns.value.items ≡ k.layout.config.cpus = e.end.count in
       let h = there k.owns.value.items c (omega arith) in
       let is : own_in (begun_in k) c ≡ h.0 = or_of_get k.owns.value.items c no_own h.0 h.1 in
-      subst (λ (o : CpuState). (o.log.calls ≡ calls_by c leaves.log) × IsOwn (layout_of k.layout) leaves.state c o)
+      subst
+      (λ (o : CpuState). (o.log.calls ≡ calls_by c leaves.log)
+      × IsOwn (layout_of k.layout) leaves.history.end c o)
       (sym is) (leaves.cpus c h.0 h.1)
 
   pub left_first : AreLeftFirst A k.layout (begun_in k)
   left_first c below = record {
     ready = leaves.ready;
+    whole = leaves.whole;
     log = leaves.log;
-    state = leaves.state;
-    run = leaves.run;
-    stored = leaves.stored;
+    history = leaves.history;
     cpus =
-        one_cpu (λ n o. (o.log.calls ≡ calls_by n leaves.log) × IsOwn (layout_of k.layout) leaves.state n o) c
+        one_cpu (λ n o. (o.log.calls ≡ calls_by n leaves.log) × IsOwn (layout_of k.layout) leaves.history.end n o) c
         (own_in (begun_in k) c) (first_own c below);
     parts = λ j x q. absurd cc;
   }
@@ -327,10 +330,10 @@ module _ (A : Type 0) (k : Opening A) (xs : List (Option (Slot A))) (same : k.sl
   opens ws wide zero_words = record {
     ready = leaves.ready;
     log = leaves.log;
-    state = leaves.state;
+    state = leaves.history.end;
     holder = λ _. 0;
-    run = leaves.run;
-    stored = leaves.stored;
+    run = leaves.history.run;
+    stored = leaves.history.stored;
     wide = wide;
     deep =
         length-map xs (λ (y : Option (Slot A)). some y) ∙ ap (λ (ys : List (Option (Slot A))). length ys) e.slots_are
@@ -340,7 +343,7 @@ module _ (A : Type 0) (k : Opening A) (xs : List (Option (Slot A))) (same : k.sl
     taken = λ j lt nz. absurd (nz (zero_words j));
     each_seat = each;
     root =
-        λ u f up. subst (λ (v : View A). Rooted k.layout (rooted k ∷ []) leaves.log leaves.state v)
+        λ u f up. subst (λ (v : View A). Rooted k.layout (rooted k ∷ []) leaves.log leaves.history.end v)
         (some-injective (rooted k) u f) record {
           off = refl;
           layout = refl;
@@ -356,10 +359,10 @@ module _ (A : Type 0) (k : Opening A) (xs : List (Option (Slot A))) (same : k.sl
     where
       each : (j : ℕ) (v : View A)
           → get_elem? (rooted k ∷ []) j ≡ some v
-          → Knows k.layout ws (λ _. 0) leaves.log leaves.state j v
+          → Knows k.layout ws (λ _. 0) leaves.log leaves.history.end j v
       each zero v f =
-          subst (Knows k.layout ws (λ _. 0) leaves.log leaves.state 0) (some-injective (rooted k) v f)
-          (off_knows A k.layout ws (λ _. 0) leaves.log leaves.state 0 (rooted k) refl
+          subst (Knows k.layout ws (λ _. 0) leaves.log leaves.history.end 0) (some-injective (rooted k) v f)
+          (off_knows A k.layout ws (λ _. 0) leaves.log leaves.history.end 0 (rooted k) refl
           (λ j x g. absurd (idle_is x None refl g)))
       each (suc j) v f = absurd (some-ne-none v (sym f))
 

@@ -39,17 +39,17 @@ module _ {A : Type 0} (key : TheLayout) (cpu : ℕ) (own : CpuState) (step : Ste
   slot_low : (v : ℕ) → guest_slot (cpu_of own) step ≡ Some v → v < 64
   slot_low v e =
       let slot : Option ℕ = guest_slot (cpu_of own) step in
-      let x = used_of (names step) slot cpu left.state.contents in
+      let x = used_of (names step) slot cpu left.history.end.contents in
       let is : slot ≡ guest_slot x.cpu step =
       ap (λ (k : Cpu). guest_slot k step)
-      ((own_left cpu own left).content ∙ sym (used_cpu (names step) slot cpu left.state.contents)) in
+      ((own_left cpu own left).content ∙ sym (used_cpu (names step) slot cpu left.history.end.contents)) in
       (reached_relies
       (layout_of key) cpu slot step x known
       is ∣ record {
         ready = left.ready;
         log = left.log;
-        state = left.state;
-        run = left.run;
+        state = left.history.end;
+        run = left.history.run;
         used = refl;
       } ∣₁).slot_low v e
 

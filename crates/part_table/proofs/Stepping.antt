@@ -283,9 +283,9 @@ module _ {A : Type 0} (l : Layout) (step : Step) (x : Lent A) (fits : Fits (name
       (λ h. record {
         ready = h.ready;
         log = h.log;
-        state = h.state;
-        run = h.run;
-        used = used_is h.state (part_left h) (own_left id x.cpu h);
+        state = h.history.end;
+        run = h.history.run;
+        used = used_is h.history.end (part_left h) (own_left id x.cpu h);
       })
 
   pub suits : ∥ IsLeft l id x.cpu here ∥₁ → Suits l x
@@ -293,10 +293,10 @@ module _ {A : Type 0} (l : Layout) (step : Step) (x : Lent A) (fits : Fits (name
     vms =
         some_one VmSlot (λ p. p.log) (λ p. refl) (λ v. IsOfSize l.config.log v.log) x.vms
         (λ p e. ∥∥₁_elim left (nat_prop _ _)
-        (λ h. let is : IsVms l h.state p = part_left h 0 (VmSlot p) e in is.size));
+        (λ h. let is : IsVms l h.history.end p = part_left h 0 (VmSlot p) e in is.size));
     shared = some_one SharedSlot (λ p. p.log) (λ p. refl) (λ s. SharedSuits l s) x.shared (λ p e.
         let is : IsLeft l id x.cpu here → SharedSuits l p =
-        (λ h. let i : IsShared l h.state p = part_left h 1 (SharedSlot p) e in i.suits) in
+        (λ h. let i : IsShared l h.history.end p = part_left h 1 (SharedSlot p) e in i.suits) in
         record {
           depth = ∥∥₁_elim left (nat_prop _ _) (λ h. (is h).depth);
           rows =
@@ -306,7 +306,7 @@ module _ {A : Type 0} (l : Layout) (step : Step) (x : Lent A) (fits : Fits (name
         });
     guest = some_guest slot x.guest fits.guest (λ v p is e.
         let suit : IsLeft l id x.cpu here → GuestSuits l p =
-        (λ h. let i : IsGuest l h.state v p =
+        (λ h. let i : IsGuest l h.history.end v p =
         part_left h (suc (suc v)) (GuestSlot p)
         (ap (λ o. cond (is_slot o v) (option_map GuestSlot x.guest) None) is
         ∙ ap (λ b. cond b (option_map GuestSlot x.guest) None) (eq-self v) ∙ e) in

@@ -165,10 +165,9 @@ module _ {A : Type 0} where
       → IsLeft l cpu own f
   left_as l cpu own f g e h = record {
     ready = h.ready;
+    whole = h.whole;
     log = h.log;
-    state = h.state;
-    run = h.run;
-    stored = h.stored;
+    history = h.history;
     cpus = h.cpus;
     parts = λ j x q. h.parts j x (sym (e j) ∙ q);
   }

@@ -38,17 +38,17 @@ not_full n h = grind (arith, nat_tests)
 
 -- the number of a part that is told by number, by its kind
 module _ {A : Type 0} (l : Layout) (id : ℕ) (own : CpuState) (k : ℕ) (x : Slot A) where
-  part_here : (h : IsLeft l id own (only_at k x)) → IsPart l h.state k x
+  part_here : (h : IsLeft l id own (only_at k x)) → IsPart l h.history.end k x
   part_here h = part_left h k x (ap (λ b. cond b (Some x) None) (eq-eqb k k refl))
 
   vms_here : (p : VmPart) → x ≡ VmSlot p → ∥ IsLeft l id own (only_at k x) ∥₁ → k ≡ 0
-  vms_here p e left = ∥∥₁_elim left (nat_prop k 0) (λ h. vms_number l h.state k x p e (part_here h))
+  vms_here p e left = ∥∥₁_elim left (nat_prop k 0) (λ h. vms_number l h.history.end k x p e (part_here h))
 
   shared_here : (p : SharedPart A) → x ≡ SharedSlot p → ∥ IsLeft l id own (only_at k x) ∥₁ → k ≡ 1
-  shared_here p e left = ∥∥₁_elim left (nat_prop k 1) (λ h. shared_number l h.state k x p e (part_here h))
+  shared_here p e left = ∥∥₁_elim left (nat_prop k 1) (λ h. shared_number l h.history.end k x p e (part_here h))
 
   pub guest_past : (p : GuestPart A) → x ≡ GuestSlot p → ∥ IsLeft l id own (only_at k x) ∥₁ → 1 < k
-  guest_past p e left = ∥∥₁_elim left le_prop (λ h. guest_number l h.state k x p e (part_here h))
+  guest_past p e left = ∥∥₁_elim left le_prop (λ h. guest_number l h.history.end k x p e (part_here h))
 
   -- the same parts, told otherwise
   left_for : (j : ℕ) (y : Slot A)
@@ -119,7 +119,7 @@ module _ {A : Type 0} where
     pub is_shared : ((p : SharedPart A) → x ≡ SharedSlot p → ⊥) → ⊥
     is_shared never = ∥∥₁_elim left no_proof (λ h.
         let t =
-        shared_kind l h.state x
+        shared_kind l h.history.end x
         (part_left h 1 x (ap (λ b. cond b (Some y) (Some x)) (ne_eqb 1 (v + 2) (λ e. omega (arith, e))))) in
         never t.0 t.1)
 
@@ -129,7 +129,7 @@ module _ {A : Type 0} where
         let part =
         part_left h (v + 2) y
         (ap (λ b. cond b (Some y) (cond (eqb (v + 2) 1) (Some x) None)) (eq-eqb (v + 2) (v + 2) refl)) in
-        let t = guest_kind l h.state v y (subst (λ k. IsPart l h.state k y) two part) in
+        let t = guest_kind l h.history.end v y (subst (λ k. IsPart l h.history.end k y) two part) in
         never t.0 t.1)
 
 -- `x` is what is lent of the parts that `f` tells by number

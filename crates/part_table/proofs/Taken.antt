@@ -1,7 +1,6 @@
 -- A call was made on the parts as the tries of them took them.
 use Rattle.std.proofs.Common.{◌≡◌, ℕ, List, [], ◌∷◌, ◌++◌, map, All, sym, ap, ◌∙◌}
 use Rattle.std.specs.Prelude.{Option, Some, None, option_map}
-use Rattle.std.proofs.lemmas.List.{append_cancel_left}
 use Rattle.std.proofs.lemmas.List.Elements.{All-cons, All-nil}
 use Rattle.page_state.specs.declared.layout.Layout.{Layout as TheLayout}
 use Rattle.call_table.specs.declared.reply.Call.{Call}
@@ -9,10 +8,11 @@ use Rattle.part_types.specs.declared.parts.CpuState.{CpuState}
 use Rattle.part_types.specs.Logs.{StoredCalls}
 use Rattle.part_table.specs.declared.slot.Slot.{Slot}
 use Rattle.part_table.specs.Answered.{used_by}
-use Rattle.part_table.specs.Known.{Known, seen_at}
+use Rattle.part_table.specs.Known.{Known, Try, seen_at}
 use Rattle.part_table.specs.Laws.{MadeAsTaken}
 use Rattle.part_table.specs.Parts.{log_of}
-use Rattle.part_table.specs.Tried.{AllTaken, Try}
+use Rattle.part_table.specs.Tried.{AllTaken}
+use Rattle.part_table.proofs.Added.{same_tries}
 
 abbrev first_log : List Try → Option StoredCalls
 first_log [] = None
@@ -50,4 +50,4 @@ pub made_as_taken : {A T : Type 0}
     → MadeAsTaken tells
 made_as_taken tells step reply v w from to s m =
     as_taken m.makes.before s.call v w (used_by step v) s.tries s.taken
-    (append_cancel_left v.tries s.tries (tries_of m.makes.before (used_by step v)) (sym s.tried ∙ m.makes.tried))
+    (same_tries v w s.tries (tries_of m.makes.before (used_by step v)) s.tried m.makes.tried)

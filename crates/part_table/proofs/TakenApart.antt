@@ -188,10 +188,9 @@ module _ {A : Type 0} where
         left =
             record {
               ready = past.ready;
+              whole = kept_of p;
               log = past.log;
-              state = end;
-              run = h.run;
-              stored = h.stored;
+              history = past.history;
               cpus = own_at;
               parts = part_at;
             };

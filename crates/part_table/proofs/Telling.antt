@@ -1,7 +1,6 @@
 -- What a try tells, from the views that its exchanges leave.
-use Rattle.std.proofs.Common.{◌≡◌, ◌≢◌, ◌⊎◌, ℕ, List, [], ◌∷◌, ◌++◌, true, false, true≢false, refl, sym, ap, ◌∙◌, subst, ⊎_elim, inl, inr, append_assoc}
+use Rattle.std.proofs.Common.{◌≡◌, ◌≢◌, ◌⊎◌, ℕ, List, [], ◌∷◌, ◌++◌, length, true, false, true≢false, refl, sym, ap, ◌∙◌, subst, ⊎_elim, inl, inr, append_assoc}
 use Rattle.std.specs.Prelude.{Option, Some, None}
-use Rattle.std.proofs.lemmas.List.{append_cancel_left}
 use Rattle.atomic_table.specs.Seated.{TableId}
 use Rattle.page_state.specs.declared.layout.Layout.{Layout as TheLayout}
 use Rattle.call_table.specs.declared.reply.Call.{Call}
@@ -23,12 +22,13 @@ use Rattle.call_table.specs.declared.reply.Reply.TheVariants.{Refused}
 use Rattle.call_table.specs.declared.step.Step.{Step}
 use Rattle.part_table.specs.Parts.{numbers_for, uses, log_of, IsPart, IsOwn}
 use Rattle.part_table.specs.Does.{Does, IsCalled, IsLeft, none_at, only_at, both_at}
-use Rattle.part_table.proofs.Left.{list_left, one_cpu, own_left}
+use Rattle.part_table.proofs.Left.{left_by, list_left, one_cpu, own_left, stands}
 use Rattle.part_table.specs.Rule.{Hands, IsIdle, Seated, tail, held_at, seen_with, taking, missing, releasing, storing, known_of, Standing, AtRest}
-use Rattle.part_table.specs.Known.{seen_at, StartsWith, IsSame, Adds, Extends, Known}
-use Rattle.part_table.specs.Tried.{AllTaken, EndsIn, FoundFull, FoundRoom, Try}
+use Rattle.part_table.specs.Known.{seen_at, StartsWith, IsSame, Adds, AddsTries, Extends, Known, Try}
+use Rattle.part_table.specs.Tried.{AllTaken, EndsIn, FoundFull, FoundRoom}
 use Rattle.part_table.specs.Answered.{Answers, FindsAway, FindsLogFull, MeetsAnother, MakesCall, used_by}
 use Rattle.part_table.specs.Trying.{CanTry, IsAtRest, Tells, TriesOf, WhereStored, reply_of}
+use Rattle.part_table.proofs.Added.{same_tries, timed}
 use Rattle.part_table.proofs.Holding.{only_here, at_first, at_second}
 use Rattle.part_table.proofs.Pairs.{at_same, at_other, unused_seen, part_same}
 
@@ -64,8 +64,11 @@ module _ {A : Type 0} where
       ∙ (t.4 ∙ ap (λ (z : Slot A). with_call c (log_of z)) (part_same t.0 x (sym t.2 ∙ p)))
 
   pub two_tries : (v : View A) (g : ℕ) (x y : Slot A)
-      → (taking (taking v 1 x) g y).tries ≡ v.tries ++ (1, Some (log_of x)) ∷ (g, Some (log_of y)) ∷ []
-  two_tries v g x y = append_assoc v.tries ((1, Some (log_of x)) ∷ []) ((g, Some (log_of y)) ∷ [])
+      → (taking (taking v 1 x) g y).tries
+      ≡ v.tries ++ timed (length v.own.log.calls) ((1, Some (log_of x)) ∷ (g, Some (log_of y)) ∷ [])
+  two_tries v g x y =
+      let n : ℕ = length v.own.log.calls in
+      append_assoc v.tries (timed n ((1, Some (log_of x)) ∷ [])) (timed n ((g, Some (log_of y)) ∷ []))
 
   -- a seat once its pass took the part k
   abbrev pub with_taken : Seated A → ℕ → Slot A → Seated A
@@ -169,7 +172,8 @@ module _ {A : Type 0} where
     record { layout = refl; cpu = refl; own = refl; seen = refl },
     (
       (1, Some (log_of x)) ∷ (g, None) ∷ [],
-      append_assoc m.0.tries ((1, Some (log_of x)) ∷ []) ((g, None) ∷ []),
+      append_assoc m.0.tries (timed (length m.0.own.log.calls) ((1, Some (log_of x)) ∷ []))
+          (timed (length m.0.own.log.calls) ((g, None) ∷ [])),
       (Some (log_of x), (g, None) ∷ [], refl, inr ((log_of x, refl, room), (None, [], refl, inl (refl, refl)))),
     ),
   )
@@ -260,17 +264,19 @@ module _ {A : Type 0} where
       → IsLeft (layout_of l) cpu own f
   left_of {l = l} {cpu = cpu} {own = own} w s a b d h = record {
     ready = subst (λ (z : TheLayout). CanBoot (layout_of z)) a s.ready;
+    whole = left_by s.history.end s.log;
     log = s.log;
-    state = s.state;
-    run = subst (λ (z : TheLayout). IsRun (layout_of z) s.log s.state) a s.run;
-    stored = s.stored;
-    cpus = one_cpu (λ c k. (k.log.calls ≡ calls_by c s.log) × IsOwn (layout_of l) s.state c k) cpu own (
+    history =
+        stands (layout_of l) s.history.end s.log
+        (subst (λ (z : TheLayout). IsRun (layout_of z) s.log s.history.end) a s.history.run) s.history.stored;
+    cpus = one_cpu (λ c k. (k.log.calls ≡ calls_by c s.log) × IsOwn (layout_of l) s.history.end c k) cpu own (
       ap (λ (z : CpuState). z.log.calls) (sym d) ∙ (list_left w.cpu w.own s ∙ ap (λ n. calls_by n s.log) b),
-      subst (λ (z : TheLayout × (ℕ × CpuState)). IsOwn (layout_of z.0) s.state z.1.0 z.1.1) (λ i. (a i, (b i, d i)))
+      subst (λ (z : TheLayout × (ℕ × CpuState)). IsOwn (layout_of z.0) s.history.end z.1.0 z.1.1)
+          (λ i. (a i, (b i, d i)))
           (own_left w.cpu w.own s),
     );
     parts = λ j x q. let t = s.parts j x (sym (h j) ∙ q) in
-        (subst (λ (z : TheLayout). IsPart (layout_of z) s.state j x) a t.0, t.1);
+        (subst (λ (z : TheLayout). IsPart (layout_of z) s.history.end j x) a t.0, t.1);
   }
 
   -- the same of a pass that holds nothing
@@ -282,13 +288,15 @@ module _ {A : Type 0} where
       → IsLeft {A = A} (layout_of l) cpu own none_at
   left_idle l cpu own w s a b d = record {
     ready = subst (λ (z : TheLayout). CanBoot (layout_of z)) a s.ready;
+    whole = left_by s.history.end s.log;
     log = s.log;
-    state = s.state;
-    run = subst (λ (z : TheLayout). IsRun (layout_of z) s.log s.state) a s.run;
-    stored = s.stored;
-    cpus = one_cpu (λ c k. (k.log.calls ≡ calls_by c s.log) × IsOwn (layout_of l) s.state c k) cpu own (
+    history =
+        stands (layout_of l) s.history.end s.log
+        (subst (λ (z : TheLayout). IsRun (layout_of z) s.log s.history.end) a s.history.run) s.history.stored;
+    cpus = one_cpu (λ c k. (k.log.calls ≡ calls_by c s.log) × IsOwn (layout_of l) s.history.end c k) cpu own (
       ap (λ (z : CpuState). z.log.calls) (sym d) ∙ (list_left w.cpu w.own s ∙ ap (λ n. calls_by n s.log) b),
-      subst (λ (z : TheLayout × (ℕ × CpuState)). IsOwn (layout_of z.0) s.state z.1.0 z.1.1) (λ i. (a i, (b i, d i)))
+      subst (λ (z : TheLayout × (ℕ × CpuState)). IsOwn (layout_of z.0) s.history.end z.1.0 z.1.1)
+          (λ i. (a i, (b i, d i)))
           (own_left w.cpu w.own s),
     );
     parts = λ j x q. absurd cc;
@@ -298,10 +306,9 @@ module _ {A : Type 0} where
   pub rest_added : (c : Call) (w : View A) → Extends c (known_of w) → AtRest w
   rest_added c w h = record {
     ready = h.left.ready;
+    whole = h.left.whole;
     log = h.left.log;
-    state = h.left.state;
-    run = h.left.run;
-    stored = h.left.stored;
+    history = h.left.history;
     cpus = h.left.cpus;
     parts = λ j x q. absurd cc;
   }
@@ -309,7 +316,7 @@ module _ {A : Type 0} where
   -- a pass that could try is at rest again, where it stored no call and where it stored one
   pub rests : {table old seat : TableId} {l : TheLayout} {own : CpuState} {m n : Seated A}
       → CanTry table l own old m
-      → (hs : Hands A) (ts : List Try)
+      → (hs : Hands A) (ts : List (ℕ × Try))
       → n ≡ (record m.0 { held = hs; tries = ts }, m.1)
       → seat ≡ old
       → ((j : ℕ) → held_at hs j ≡ None) → IsAtRest table l own.id own seat n
@@ -327,7 +334,7 @@ module _ {A : Type 0} where
 
   pub rests_stored : {table old seat : TableId} {l : TheLayout} {own owned : CpuState} {m n : Seated A} {cs : Hands A}
       → CanTry table l own old m
-      → (c : Call) (seen : List (ℕ × List Call)) (hs : Hands A) (ts : List Try)
+      → (c : Call) (seen : List (ℕ × List Call)) (hs : Hands A) (ts : List (ℕ × Try))
       → n ≡ (record m.0 { own = owned; seen = seen; held = hs; tries = ts }, cs)
       → cs ≡ []
       → seat ≡ old
@@ -489,10 +496,9 @@ module _ (step : Step) (reply : Reply) (v w : Known) where
   met_of : Replies step reply v w → MeetsAnother v w → reply ≡ Refused contended
   met_of a m = of a.0 a.1 a.2
     where
-      apart : (ts : List Try) → w.tries ≡ v.tries ++ ts → NoneAway ts → ⊥
+      apart : (ts : List Try) → AddsTries ts v w → NoneAway ts → ⊥
       apart ts is none =
-          none m.part m.before m.after
-          (append_cancel_left v.tries ts (m.before ++ (m.part, None) ∷ m.after) (sym is ∙ m.tried))
+          none m.part m.before m.after (same_tries v w ts (m.before ++ (m.part, None) ∷ m.after) is m.tried)
 
       of : (t : Tried) → reply ≡ reply_of t → ComesTo step t v w → reply ≡ Refused contended
       of (Stored c) e h = absurd (apart h.1.3.0 h.1.3.1 (taken_none_away c v w (used_by step v) h.1.3.0 h.1.3.2))

@@ -8,8 +8,8 @@ use Rattle.call_table.specs.declared.step.Step.{Step}
 use Rattle.reference_model.specs.model.History.{IsStored}
 use Rattle.part_table.specs.Parts.{numbers_for}
 use Rattle.part_table.specs.Does.{IsCalled}
-use Rattle.part_table.specs.Known.{Adds, IsSame, Known}
-use Rattle.part_table.specs.Tried.{Try, AllTaken, EndsIn, FoundAway, FoundFull}
+use Rattle.part_table.specs.Known.{Adds, AddsTries, IsSame, Known, Try}
+use Rattle.part_table.specs.Tried.{AllTaken, EndsIn, FoundAway, FoundFull}
 
 -- the parts that a step of the pass uses, in the order in which they are tried
 abbrev pub used_by : Step → Known → List ℕ
@@ -24,7 +24,7 @@ pub record MakesCall (step : Step) (reply : Reply) (v w : Known) : Type 0 where
   pub room : v.own.log.room ≢ 0
   pub added : Adds call v w
   pub tries : List Try
-  pub tried : w.tries ≡ v.tries ++ tries
+  pub tried : AddsTries tries v w
   pub taken : AllTaken call v w (used_by step v) tries
 
 -- another pass has a part that the step uses: the last try, and no other, found a part taken.
@@ -33,7 +33,7 @@ pub record FindsAway (step : Step) (v w : Known) : Type 0 where
   pub same : IsSame v w
   pub room : v.own.log.room ≢ 0
   pub tries : List Try
-  pub tried : w.tries ≡ v.tries ++ tries
+  pub tried : AddsTries tries v w
   pub away : EndsIn FoundAway (used_by step v) tries
 
 -- a try that the pass recorded in the call found a part taken by another pass
@@ -41,14 +41,14 @@ pub record MeetsAnother (v w : Known) : Type 0 where
   pub part : ℕ
   pub before : List Try
   pub after : List Try
-  pub tried : w.tries ≡ v.tries ++ (before ++ (part, None) ∷ after)
+  pub tried : AddsTries (before ++ (part, None) ∷ after) v w
 
 -- a log is full: the CPU's, and no part was tried, or that of the part that was tried last, as it
 -- was taken. Nothing else changed
 pub record FindsLogFull (step : Step) (v w : Known) : Type 0 where
   pub same : IsSame v w
   pub tries : List Try
-  pub tried : w.tries ≡ v.tries ++ tries
+  pub tried : AddsTries tries v w
   pub full : ((v.own.log.room ≡ 0) × (tries ≡ []))
       ⊎ ((v.own.log.room ≢ 0) × EndsIn FoundFull (used_by step v) tries)
 

@@ -1,17 +1,16 @@
 -- What one call does to the parts that it uses and to its CPU's own state, whatever the rest of the
 -- state is.
-use Rattle.std.specs.Prelude.{◌≡◌, ◌≢◌, ℕ, ◌+◌, false, true, cond, eqb, length, All, List, Option, Some, None, Ok}
+use Rattle.std.specs.Prelude.{◌≡◌, ◌≢◌, ℕ, ◌+◌, false, true, cond, eqb, length, List, Option, Some, None, Ok}
 use Rattle.call_table.specs.declared.reply.Call.{Call}
 use Rattle.call_table.specs.declared.reply.Refusal.TheVariants.{NoMemory}
 use Rattle.call_table.specs.declared.reply.Reply.TheVariants.{Refused}
 use Rattle.call_table.specs.declared.step.Step.{Step}
 use Rattle.page_state.specs.Layouts.{Layout}
 use Rattle.reference_model.specs.model.Boot.{CanBoot}
-use Rattle.reference_model.specs.model.History.{IsStored, calls_on, calls_by}
+use Rattle.reference_model.specs.model.History.{IsHistory, IsStored, Kept, calls_on, calls_by}
 use Rattle.reference_model.specs.declared.changes.Changes.{Changes}
 use Rattle.reference_model.specs.model.Decides.{decides}
 use Rattle.reference_model.specs.model.Rules.{guest_slot, names}
-use Rattle.reference_model.specs.model.Run.{IsRun}
 use Rattle.reference_model.specs.model.State.{Reference}
 use Rattle.reference_model.specs.model.Step.{Steps}
 use Rattle.reference_model.specs.model.Used.{used_of}
@@ -45,22 +44,21 @@ module _ {A : Type 0} where
   abbrev pub pair_at : ℕ → Slot A → Slot A → ℕ → Option (Slot A)
   pair_at v shared guest = both_at (v + 2) guest 1 shared
 
-  -- There is one legal history, and all that is kept is as at its end: CPUs' own states by number,
-  -- each with its calls, and parts by number, each with the calls on it. Parts that aren't kept may
-  -- be anything
+  -- There is one legal history, which a whole state with all logs has, and all that is kept is as
+  -- at its end: CPUs' own states by number, each with its calls, and parts by number, each with the
+  -- calls on it. What isn't kept may be anything
   pub record AreLeft (l : Layout) (owns : ℕ → Option CpuState)
       (kept : ℕ → Option (Slot A)) : Type 0 where
     pub ready : CanBoot l
+    pub whole : Kept
     pub log : List Call
-    pub state : Reference
-    pub run : IsRun l log state
-    pub stored : All (λ c. IsStored c.reply) log
+    pub history : IsHistory l whole log
     pub cpus : (c : ℕ) (k : CpuState)
         → owns c ≡ Some k
-        → (k.log.calls ≡ calls_by c log) × IsOwn l state c k
+        → (k.log.calls ≡ calls_by c log) × IsOwn l history.end c k
     pub parts : (k : ℕ) (x : Slot A)
         → kept k ≡ Some x
-        → IsPart l state k x × ((log_of x).calls ≡ calls_on (part_of k) log)
+        → IsPart l history.end k x × ((log_of x).calls ≡ calls_on (part_of k) log)
 
   -- what a step may rely on: a run leaves these parts and the CPU's own state
   abbrev pub IsLeft : Layout → ℕ → CpuState → (ℕ → Option (Slot A)) → Type 0

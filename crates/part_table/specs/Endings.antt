@@ -1,5 +1,5 @@
 -- The parts that a table begins with, and those left at the end.
-use Rattle.std.specs.Prelude.{◌≡◌, ℕ, ◌<◌, Bool, false, List, [], ◌∷◌, ◌++◌, length, map, All, Option, Some, option_map, slice_get, slice_index_or, unwrap_or}
+use Rattle.std.specs.Prelude.{◌≡◌, ℕ, ◌<◌, Bool, false, List, [], ◌∷◌, ◌++◌, length, map, All, Option, Some, slice_get, slice_index_or}
 use mathlib.Core.Option.{some}
 use lib.ListN.{get_elem?}
 use Rattle.page_state.specs.declared.layout.Layout.{Layout as TheLayout}
@@ -43,14 +43,10 @@ KeepsSeen {A = A} found p =
     → slice_get found k ≡ Some x
     → StartsWith (log_of x).calls (seen_at p.knows.seen k)
 
--- the calls of the part of a number
-abbrev pub calls_at : {A : Type 0} → List (Slot A) → ℕ → List Call
-calls_at found k = unwrap_or (option_map (λ x. (log_of x).calls) (slice_get found k)) []
-
--- each part's log begins with each log of it that the pass took, and is of the same size: one that
--- was full is as it was
-abbrev pub KeepsTried : {A : Type 0} → TheLayout → List (Slot A) → Pass → Type 0
-KeepsTried l found p = AreFronts l.config.log (calls_at found) p.knows.tries
+-- in the history each part's calls begin with each log of it that the pass took, and these calls
+-- come before the one that the pass made next
+abbrev pub KeepsTried : TheLayout → List Call → Pass → Type 0
+KeepsTried l log p = AreFronts l.config.log p.knows.cpu log p.knows.tries
 
 -- so for each pass of the list
 abbrev pub ForEach : List (Option Pass) → (Pass → Type 0) → Type 0
@@ -59,14 +55,14 @@ ForEach passes F = (c : ℕ) (p : Pass) → slice_get passes c ≡ Some (Some p)
 -- The parts and the CPUs' own states are the end of one legal history, which continues the one that
 -- the table began with, and agrees with each pass: its CPU ends in the pass's state, with all its
 -- calls, and each part's log begins with the calls that the pass has seen of the part, and with
--- each log of it that the pass took
+-- each log of it that the pass took, whose calls come before the pass's next one
 pub record IsEndFor {A : Type 0} (t : Opened) (found : List (Slot A)) (cpus : List CpuState)
     (Each : (Pass → Type 0) → Type 0) : Type 0 where
   pub end : IsEndOf t.layout found cpus
   pub goes_on : GoesOn t.begun end.left.log
   pub own : Each (KeepsOwn cpus)
   pub seen : Each (KeepsSeen found)
-  pub tried : Each (KeepsTried t.layout found)
+  pub tried : Each (KeepsTried t.layout end.left.log)
 
 -- there are such parts and states
 abbrev pub HasEnd : Type 0 → Opened → List (Option Pass) → Type 0

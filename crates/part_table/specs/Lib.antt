@@ -1,6 +1,7 @@
 pub mod Parts
 pub mod Slots
 pub mod Does
+pub mod Before
 pub mod Known
 pub mod Beginnings
 pub mod Rule

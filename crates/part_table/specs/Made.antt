@@ -10,7 +10,7 @@ use Rattle.part_table.specs.declared.slot.Slot.{Slot}
 use Rattle.part_table.specs.Answered.{used_by}
 use Rattle.part_table.specs.Does.{Does, IsCalled, IsLeft}
 use Rattle.part_table.specs.Parts.{log_of, uses}
-use Rattle.part_table.specs.Known.{Known}
+use Rattle.part_table.specs.Known.{AddsTries, Known}
 
 module _ {A T : Type 0}
     (tells : TheLayout
@@ -34,7 +34,7 @@ module _ {A T : Type 0}
     pub left : IsLeft (layout_of v.layout) v.cpu v.own before
     pub only : (k : ℕ) (x : Slot A) → before k ≡ Some x → uses c k ≡ true
     pub does : Does (layout_of v.layout) c before v.own after w.own
-    pub tried : w.tries ≡ v.tries ++ map (λ k. (k, option_map log_of (before k))) ks
+    pub tried : AddsTries (map (λ k. (k, option_map log_of (before k))) ks) v w
     pub told : tells v.layout before v.own c after w.own from to
 
   -- the call of this reply was made

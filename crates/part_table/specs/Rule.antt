@@ -24,7 +24,7 @@ use Rattle.part_table.specs.declared.rule.View.{View}
 use Rattle.part_table.specs.declared.slot.Slot.{Slot}
 use Rattle.part_table.specs.Parts.{parts, part_of, log_of, IsPart, IsOwn}
 use Rattle.part_table.specs.Does.{IsLeft, none_at}
-use Rattle.part_table.specs.Known.{at, seen_at, AreFronts, Known, StartsWith, Extends}
+use Rattle.part_table.specs.Known.{at, seen_at, AreFronts, Known, StartsWith, Try, Extends}
 use Rattle.part_table.specs.Beginnings.{GoesOn, begun_in, no_layout, no_own, own_in}
 
 -- parts by number; none: no longer held
@@ -38,14 +38,10 @@ held_at h k = at h None k
 -- the state in which a CPU's pass ends, the calls that it has seen of each part's log, and its
 -- tries
 abbrev pub Ended : Type 0
-Ended = CpuState × List (ℕ × List Call) × List (ℕ × Option StoredCalls)
+Ended = CpuState × List (ℕ × List Call) × List (ℕ × Try)
 
 abbrev pub known_of : {A : Type 0} → View A → Known
 known_of v = record { layout = v.layout; cpu = v.cpu; own = v.own; seen = v.seen; tries = v.tries }
-
--- each log that was taken begins its part's calls in a history, and is of the layout's size
-abbrev pub AreFrontsIn : TheLayout → List Call → List (ℕ × Option StoredCalls) → Type 0
-AreFrontsIn key log tries = AreFronts key.config.log (λ k. calls_on (part_of k) log) tries
 
 module _ {A : Type 0} (key : TheLayout) (ws : List ℕ) (holder : ℕ → ℕ) (log : List Call)
     (state : Reference) where
@@ -62,7 +58,7 @@ module _ {A : Type 0} (key : TheLayout) (ws : List ℕ) (holder : ℕ → ℕ) (
     pub mine : v.on ≡ true → v.own.log.calls ≡ calls_by v.cpu log
     pub own : v.on ≡ true → IsOwn (layout_of key) state v.cpu v.own
     pub seen : v.on ≡ true → (k : ℕ) → StartsWith (calls_on (part_of k) log) (seen_at v.seen k)
-    pub tried : v.on ≡ true → AreFrontsIn key log v.tries
+    pub tried : v.on ≡ true → AreFronts key.config.log v.cpu log v.tries
     pub held : (k : ℕ) (x : Slot A)
         → held_at v.held k ≡ Some x
         → (v.on ≡ true) × (k < parts) × (slice_index ws k ≢ 0) × (holder k ≡ j) × StandsAfter k x
@@ -91,7 +87,9 @@ pub record Rooted {A : Type 0} (key : TheLayout) (views : List (View A)) (log : 
       → get_elem? v.ended c ≡ some e
       → (k : ℕ)
       → StartsWith (calls_on (part_of k) log) (seen_at e.1 k)
-  pub tried : (c : ℕ) (e : Ended) → get_elem? v.ended c ≡ some e → AreFrontsIn key log e.2
+  pub tried : (c : ℕ) (e : Ended)
+      → get_elem? v.ended c ≡ some e
+      → AreFronts key.config.log c log e.2
 
 -- The rule: a word says whether its part is taken, a taken part is held by exactly one seat, and
 -- there is a legal history that ends in all parts and all CPUs' own states. What a pass has seen of
@@ -193,14 +191,17 @@ clash v w = nowhere
 abbrev pub never : {A : Type 0} → Step (Option (Slot A)) → Seated A → ℕ → Seated A → Type 0
 never st m r n = ⊥
 
+-- a try more, with the number of calls in the own list
+abbrev pub trying : {A : Type 0} → View A → ℕ → Option StoredCalls → List (ℕ × Try)
+trying v k found = v.tries ++ (length v.own.log.calls, (k, found)) ∷ []
+
 -- the part k is in hand, with the log that it was taken with
 abbrev pub taking : {A : Type 0} → View A → ℕ → Slot A → View A
-taking v k x =
-    record v { held = (k, Some x) ∷ v.held; tries = v.tries ++ (k, Some (log_of x)) ∷ [] }
+taking v k x = record v { held = (k, Some x) ∷ v.held; tries = trying v k (Some (log_of x)) }
 
 -- the part k was found taken
 abbrev pub missing : {A : Type 0} → View A → ℕ → View A
-missing v k = record v { tries = v.tries ++ (k, None) ∷ [] }
+missing v k = record v { tries = trying v k None }
 
 -- the part k is out of hand
 abbrev pub releasing : {A : Type 0} → View A → ℕ → View A

@@ -2,11 +2,7 @@
 use Rattle.std.specs.Prelude.{◌≡◌, ◌≢◌, ◌⊎◌, ℕ, List, [], ◌∷◌, ◌++◌, Option, Some, None}
 use Rattle.call_table.specs.declared.reply.Call.{Call}
 use Rattle.part_types.specs.Logs.{StoredCalls}
-use Rattle.part_table.specs.Known.{Known, StartsWith, seen_at}
-
--- a try of a part: its number, and the log with which it was taken, or none if another pass had it
-abbrev pub Try : Type 0
-Try = ℕ × Option StoredCalls
+use Rattle.part_table.specs.Known.{Known, StartsWith, Try, seen_at}
 
 -- the part was taken, with room in its log
 abbrev pub FoundRoom : Option StoredCalls → Type 0

@@ -17,11 +17,11 @@ use Rattle.part_table.specs.declared.tries.Tried.{Tried}
 use Rattle.part_table.specs.declared.tries.Tried.TheVariants.{Stored, Contended, LogFull}
 use Rattle.part_table.specs.Answered.{used_by}
 use Rattle.part_table.specs.Does.{Does, IsCalled, IsLeft}
-use Rattle.part_table.specs.Known.{Adds, IsSame, Known, StartsWith, seen_at}
+use Rattle.part_table.specs.Known.{Adds, AddsTries, IsSame, Known, StartsWith, Try, seen_at}
 use Rattle.part_table.specs.Made.{Makes}
 use Rattle.part_table.specs.Parts.{log_of, numbers_for, parts, uses}
 use Rattle.part_table.specs.Rule.{AtRest, Hands, IsIdle, Seated, Standing, held_at, taking}
-use Rattle.part_table.specs.Tried.{AllTaken, EndsIn, FoundAway, FoundFull, Try}
+use Rattle.part_table.specs.Tried.{AllTaken, EndsIn, FoundAway, FoundFull}
 
 module _ {A : Type 0} where
   -- A pass between its calls: its seat is one of the table's and holds no part, its view is that of
@@ -73,9 +73,9 @@ module _ {A : Type 0} where
 
 -- the tries of one call that uses these parts, by its outcome
 abbrev pub TriesOf : List ℕ → Tried → Known → Known → Type 0
-TriesOf ks (Stored c) v w = (ts : List Try) × (w.tries ≡ v.tries ++ ts) × AllTaken c v w ks ts
-TriesOf ks Contended v w = (ts : List Try) × (w.tries ≡ v.tries ++ ts) × EndsIn FoundAway ks ts
-TriesOf ks LogFull v w = (ts : List Try) × (w.tries ≡ v.tries ++ ts) × EndsIn FoundFull ks ts
+TriesOf ks (Stored c) v w = (ts : List Try) × AddsTries ts v w × AllTaken c v w ks ts
+TriesOf ks Contended v w = (ts : List Try) × AddsTries ts v w × EndsIn FoundAway ks ts
+TriesOf ks LogFull v w = (ts : List Try) × AddsTries ts v w × EndsIn FoundFull ks ts
 
 -- the answer of one try of a step: a stored call is the step's, and if none is stored nothing
 -- changed

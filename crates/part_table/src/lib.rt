@@ -10,7 +10,7 @@ mod room;
 pub mod rule;
 mod slot;
 mod step;
-pub mod table;
+pub mod table_of_parts;
 pub mod tries;
 pub mod whole;
 
@@ -19,4 +19,4 @@ pub use maker::{Maker, Plain};
 pub use pass::CpuPass;
 pub use slot::Slot;
 pub use step::{alone, both, idle};
-pub use table::PartTable;
+pub use table_of_parts::PartTable;

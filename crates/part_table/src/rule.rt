@@ -36,8 +36,9 @@ pub struct View<A: Allocator> {
     pub seen: LinkedList<(u64, LinkedList<Call>)>,
     /// The parts that the pass holds.
     pub held: LinkedList<(u64, Option<Slot<A>>)>,
-    /// Each part that was tried, with its log as it was taken, or none if another pass had it.
-    pub tries: LinkedList<(u64, Option<Log>)>,
+    /// Each part that was tried, with its log as it was taken, or none if another pass had it. With each try the number
+    /// of calls in the CPU's own list then.
+    pub tries: LinkedList<(u64, (u64, Option<Log>))>,
     pub root: bool,
     /// Of the root: what the table began with.
     pub begun: Begun,
@@ -49,7 +50,7 @@ pub struct View<A: Allocator> {
         (
             CpuState,
             LinkedList<(u64, LinkedList<Call>)>,
-            LinkedList<(u64, Option<Log>)>,
+            LinkedList<(u64, (u64, Option<Log>))>,
         ),
     >,
 }

@@ -3,10 +3,12 @@ pub mod Crowded
 pub mod Found
 pub mod Histories
 pub mod Indexed
+pub mod Inserted
 pub mod Known
 pub mod Layers
 pub mod Members
 pub mod Orders
+pub mod OwnSlots
 pub mod Places
 pub mod Replies
 pub mod Runs

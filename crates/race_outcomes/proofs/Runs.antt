@@ -13,7 +13,7 @@ use Rattle.reference_model.specs.model.Run.{Runs}
 use Rattle.reference_model.specs.model.State.{Reference}
 use Rattle.reference_model.specs.model.Step.{Steps}
 use Rattle.race_outcomes.specs.declared.node.Turn.{Turn}
-use Rattle.race_outcomes.specs.Laws.{AreTheirs, IsPlain, RunsAreOutcomes, answers_of, is_want}
+use Rattle.race_outcomes.specs.Laws.{AreTheirs, RunsAreOutcomes, answers_of, is_want}
 use Rattle.race_outcomes.specs.Orders.{IsNext, Leads, Makes, Point, first_point, no_replies_yet, model_reply}
 use Rattle.race_outcomes.proofs.Orders.{none_length}
 use Rattle.race_outcomes.proofs.Told.{call_told}
@@ -23,14 +23,14 @@ theirs_at : (turns : List Turn) (rs : List Reply) (i : ℕ) (t : Turn) (r : Repl
     → AreTheirs turns rs
     → slice_get turns i ≡ Some t
     → slice_get rs i ≡ Some r
-    → (t.wants ≡ is_want r) × IsPlain r
+    → t.wants ≡ is_want r
 theirs_at [] rs i t r h e f = absurd (cc)
 theirs_at (u ∷ ts) [] i t r h e f = absurd (cc)
 theirs_at (u ∷ ts) (q ∷ rs) zero t r h e f =
     let at : u ≡ t = same_Some u t e in
     let told : q ≡ r = same_Some q r f in
-    (ap (λ (x : Turn). x.wants) (sym at) ∙ h.0 ∙ ap is_want told, subst IsPlain told h.1)
-theirs_at (u ∷ ts) (q ∷ rs) (suc i) t r h e f = theirs_at ts rs i t r h.2 e f
+    ap (λ (x : Turn). x.wants) (sym at) ∙ h.0 ∙ ap is_want told
+theirs_at (u ∷ ts) (q ∷ rs) (suc i) t r h e f = theirs_at ts rs i t r h.1 e f
 
 -- the steps of a CPU that aren't made, with their replies
 abbrev pub left_of : ℕ → List Turn → List (Option Reply) → List Reply → List (Step × Reply)
@@ -215,7 +215,7 @@ module _ (l : Layout) (turns : List Turn) (rs : List Reply) where
       → Steps l p.state c u
       → ((cpu : ℕ) → map told_by (calls_by cpu (c ∷ cs)) ≡ left_of cpu turns p.told rs)
       → IsNextCall c cs p u
-  next_call c cs p u plain h left =
+  next_call c cs p u theirs h left =
       by_first (find_first c.cpu turns p.told rs c.step c.reply (map told_by (calls_by c.cpu cs)) own)
     where
       own : left_of c.cpu turns p.told rs ≡ (c.step, c.reply) ∷ map told_by (calls_by c.cpu cs)
@@ -231,8 +231,8 @@ module _ (l : Layout) (turns : List Turn) (rs : List Reply) where
         still = f.still;
       }
         where
-          theirs : (f.turn.wants ≡ is_want c.reply) × IsPlain c.reply
-          theirs = theirs_at turns rs f.place f.turn c.reply plain f.next.at f.reply_at
+          wants : f.turn.wants ≡ is_want c.reply
+          wants = theirs_at turns rs f.place f.turn c.reply theirs f.next.at f.reply_at
 
           turn_is : (t : Turn)
               → t.cpu ≡ c.cpu
@@ -243,7 +243,7 @@ module _ (l : Layout) (turns : List Turn) (rs : List Reply) where
           so : ◌≡◌ {A = Reply × Reference} (model_reply l p.state f.turn) (c.reply, u)
           so =
               ap (model_reply l p.state) (turn_is f.turn f.cpu_is f.step_is)
-              ∙ call_told l p.state u c f.turn.wants h theirs.0 theirs.1
+              ∙ call_told l p.state u c f.turn.wants h wants
 
           made_at : (r : Reply × Reference)
               → ◌≡◌ {A = Reply × Reference} r (c.reply, u)
@@ -268,7 +268,7 @@ module _ (l : Layout) (turns : List Turn) (rs : List Reply) where
               ap (map told_by) (sym (if-false (c.cpu == cpu) (c ∷ calls_by cpu cs) (calls_by cpu cs) other)) ∙ left cpu
               ∙ sym (f.others cpu other)
 
-  module _ (t : Reference) (count : length rs ≡ length turns) (plain : AreTheirs turns rs) where
+  module _ (t : Reference) (count : length rs ≡ length turns) (theirs : AreTheirs turns rs) where
     along : (log : List Call) (p : Point)
         → Runs (Steps l) p.state log t
         → length p.told ≡ length turns
@@ -285,14 +285,14 @@ module _ (l : Layout) (turns : List Turn) (rs : List Reply) where
             → ◌≡◌ {A = Point} (record { state = b; told = y }) (record { state = a; told = x })
         same a b x y e f = cc
     along (c ∷ cs) p h n are left =
-        let s = next_call c cs p h.0 plain h.1 left in
+        let s = next_call c cs p h.0 theirs h.1 left in
         let q : Point = record { state = h.0; told = slice_set p.told s.place (Some c.reply) } in
         let rest = along cs q h.2 (length-set p.told s.place (Some c.reply) ∙ n) (s.still are) s.after in
         (s.place ∷ rest.0, (q, s.makes, rest.1))
 
 pub runs_are_outcomes : RunsAreOutcomes
-runs_are_outcomes l s t turns rs log runs calls plain =
+runs_are_outcomes l s t turns rs log runs calls theirs =
     let g =
-    along l turns rs t calls.count plain log (first_point s turns) runs (none_length turns)
+    along l turns rs t calls.count theirs log (first_point s turns) runs (none_length turns)
     (none_told_yet turns rs) (λ cpu. calls.each cpu ∙ sym (none_left cpu turns rs)) in
     (g.0, record { end = t; leads = g.1 })

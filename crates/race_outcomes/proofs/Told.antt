@@ -5,18 +5,18 @@ use Rattle.page_state.proofs.Common.{and-both, both, if-false, if-true}
 use Rattle.page_state.specs.Layouts.{Layout}
 use Rattle.call_table.specs.declared.reply.Call.{Call}
 use Rattle.call_table.specs.declared.reply.Refusal.{Refusal}
-use Rattle.call_table.specs.declared.reply.Refusal.TheVariants.{NoMemory}
+use Rattle.call_table.specs.declared.reply.Refusal.TheVariants.{LogFull, NoMemory}
 use Rattle.call_table.specs.declared.reply.Reply.{Reply}
 use Rattle.call_table.specs.declared.reply.Reply.TheVariants.{Done, Refused}
-use Rattle.reference_model.proofs.Steps.{refusal_keeps, step_exists}
+use Rattle.reference_model.proofs.Steps.{log_full_keeps, refusal_keeps, step_exists}
 use Rattle.reference_model.specs.model.Rules.{guest_slot, may_grow, names}
 use Rattle.reference_model.specs.model.State.{Contents, Reference, Rooms}
-use Rattle.reference_model.specs.model.Step.{Answered, IsStoredAnswer, Steps, answer, fails, predict_step, is_full, made, rooms_by, rule_of, stored, used_by, with_used}
+use Rattle.reference_model.specs.model.Step.{Answered, FindsFull, IsStoredAnswer, Steps, answer, fails, predict_step, is_full, made, rooms_by, rule_of, stored, used_by, with_used}
 use Rattle.reference_model.specs.model.Used.{Used, UsedRooms, put_rooms, used_of}
 use Rattle.ghost_judge.specs.Judgements.{is_done}
-use Rattle.ghost_spec.proofs.Predictions.{predicted-answer}
+use Rattle.ghost_spec.proofs.Predictions.{predicted-answer, predicted-full}
 use Rattle.race_outcomes.specs.declared.node.Turn.{Turn}
-use Rattle.race_outcomes.specs.Laws.{IsPlain, is_want}
+use Rattle.race_outcomes.specs.Laws.{is_want}
 use Rattle.race_outcomes.specs.Orders.{is_wanting, model_reply, wanting}
 
 pub told_plain : (l : Layout) (s : Reference) (turn : Turn)
@@ -144,11 +144,18 @@ module _ (l : Layout) (s t : Reference) (c : Call) (wants : Bool) (h : Steps l s
       (same_state t.contents s.contents t.rooms
       (put_rooms (names c.step) c.slot c.cpu s.rooms (stored (rooms_by c s))) keeps left))
 
-  pub call_told : wants ≡ is_want c.reply → IsPlain c.reply → model_reply l s turn ≡ pair c.reply t
-  call_told theirs plain = elim h.on.answers [
-    | inl p ↦ absurd (let bad : ⊥ = subst IsPlain p.reply plain in bad)
-    | inr p ↦ by_answer p p.answered
-  ]
+  -- where a log is full
+  full : wants ≡ is_want c.reply → FindsFull c x (rooms_by c s) h.after h.left → model_reply l s turn ≡ pair c.reply t
+  full theirs f =
+      let none : wants ≡ false = theirs ∙ ap is_want f.reply in
+      let v = (predict_step l s c.cpu c.step).0 in
+      told_plain l s turn
+      (ap (λ (b : Bool). b && may_grow c.step && is_done v) none ∙ no_want (may_grow c.step) (is_done v))
+      ∙ predicted-full l s c.cpu c.step c.slot slot_is f.full
+      ∙ same_pair (Refused LogFull) c.reply s t (sym f.reply) (sym (log_full_keeps l s t c h f.reply))
+
+  pub call_told : wants ≡ is_want c.reply → model_reply l s turn ≡ pair c.reply t
+  call_told theirs = elim h.on.answers [ inl p ↦ full theirs p | inr p ↦ by_answer p p.answered ]
     where
       by_answer : IsStoredAnswer l c x (rooms_by c s) h.after h.left
           → Answered l c.cpu c.slot c.step true x c.reply h.after

@@ -1,71 +1,50 @@
 -- One legal history gives an outcome.
-use Rattle.std.proofs.Common.{◌≡◌, ℕ, zero, suc, ◌<◌, ◌≤◌, ◌==◌, Bool, true, false, refl, sym, ap, subst, ◌∙◌, arith, inl, inr, ◌⊎◌, List, [], ◌∷◌, drop, get_or, length, map, filter, Option, Some, None, take}
+use Rattle.std.proofs.Common.{◌≡◌, ℕ, zero, suc, ◌<◌, ◌≤◌, ◌==◌, Bool, true, false, refl, sym, ap, subst, ◌∙◌, arith, inl, inr, ◌⊎◌, List, [], ◌∷◌, ◌++◌, drop, get_or, length, map, Option, Some, None, take}
 use Rattle.std.specs.Prelude.{◌||◌, All, not, if◌then◌else◌}
 use Rattle.std.proofs.lemmas.Bool.{cases_lt}
-use Rattle.std.proofs.lemmas.List.Elements.{All-cons, All-head, All-nil, All-tail}
+use Rattle.std.proofs.lemmas.List.Elements.{All-append, All-cons, All-filter, All-head, All-nil, All-tail, All-weaker, filter_passes}
 use Rattle.std.proofs.lemmas.Option.{same_Some}
+use Rattle.page_state.specs.LayoutView.{layout_of}
 use Rattle.page_state.specs.Layouts.{Layout}
-use Rattle.page_state.proofs.Common.{both, eq-same}
+use Rattle.page_state.proofs.Common.{both, eq-same, if-false, if-true}
 use Rattle.call_table.specs.declared.reply.Call.{Call}
 use Rattle.call_table.specs.declared.reply.Refusal.{Refusal}
 use Rattle.call_table.specs.declared.reply.Refusal.TheVariants as refusals
 use Rattle.call_table.specs.declared.reply.Reply.{Reply}
-use Rattle.call_table.specs.declared.reply.Reply.TheVariants.{Done, Refused}
+use Rattle.call_table.specs.declared.reply.Reply.TheVariants.{Refused}
 use Rattle.call_table.specs.declared.step.Step.{Step}
 use Rattle.reference_model.specs.model.Boot.{boot}
-use Rattle.reference_model.specs.model.History.{calls_by}
+use Rattle.reference_model.specs.model.History.{IsStored, calls_by}
 use Rattle.reference_model.specs.model.Parts.{lacks_slot}
-use Rattle.reference_model.specs.model.Rules.{guest_slot, names}
-use Rattle.reference_model.specs.model.Run.{Runs}
+use Rattle.reference_model.specs.model.Rules.{names}
+use Rattle.reference_model.specs.model.Run.{IsRun, Runs}
 use Rattle.reference_model.specs.model.State.{Reference}
-use Rattle.reference_model.specs.model.Step.{Answered, FindsFull, Steps, fails, predict_step, is_short, or_else, refusal, rooms_by, rule_of, used_by}
-use Rattle.reference_model.specs.model.Used.{Used, used_of}
+use Rattle.reference_model.specs.model.Step.{Answered, Steps, fails, is_short, or_else, refusal, rule_of, used_by}
+use Rattle.reference_model.specs.model.Used.{Used}
 use Rattle.reference_model.proofs.Steps.{log_full_keeps}
-use Rattle.ghost_spec.proofs.Predictions.{predicted-full}
 use Rattle.race_outcomes.specs.declared.node.Turn.{Turn}
-use Rattle.race_outcomes.specs.Laws.{AreTheirs, IsPlain, answers_of, is_want}
+use Rattle.race_outcomes.specs.Laws.{AreTheirs, HasFullLog, answers_of, before_own, is_want, stored_answers}
 use Rattle.race_outcomes.specs.Orders.{AreWanted, IsOutcome, replies_along, model_reply}
-use Rattle.race_outcomes.proofs.Runs.{runs_are_outcomes}
-use Rattle.race_outcomes.proofs.Told.{call_told, told_plain}
+use Rattle.race_outcomes.proofs.Inserted.{stored_runs_are_outcomes}
+use Rattle.race_outcomes.proofs.Told.{call_told}
 use Rattle.trace_race.specs.declared.course.Asked.{Asked}
 use Rattle.trace_race.specs.Courses.{in_order_of}
 use Rattle.trace_race.specs.Judged.{told_of}
 use Rattle.trace_race.specs.Made.{answers_of as answers_asked, asked_with, is_stored, stored_in}
+use Rattle.trace_race.proofs.Kept.{stored_is}
 use Rattle.trace_race.proofs.Past.{behind_all}
 use Rattle.trace_outcomes.specs.Laws.{HistoriesAreOutcomes, RacesAreReported, turns_replied}
 use Rattle.trace_outcomes.specs.Races.{first_of, no_replies, nothing_wanted, raced_of, first_replies, turns_of, turns_raced}
-
--- a plain reply is stored
-plain_stored : (r : Reply) → IsPlain r → is_stored r ≡ true
-plain_stored (Done v) h = refl
-plain_stored (Refused refusals.Perm) h = refl
-plain_stored (Refused refusals.NoVm) h = refl
-plain_stored (Refused refusals.Contended) h = absurd h
-plain_stored (Refused refusals.NoMemory) h = refl
-plain_stored (Refused refusals.Busy) h = refl
-plain_stored (Refused refusals.Invalid) h = refl
-plain_stored (Refused refusals.NoPool) h = refl
-plain_stored (Refused refusals.LogFull) h = absurd h
+use Rattle.trace_outcomes.proofs.Placed.{full_at, kept_answers}
 
 module _ (cpu : ℕ) where
-  -- so all answers are
-  all_stored : (steps : List Asked) (rs : List Reply)
-      → All IsPlain rs
-      → filter (λ (a : Step × Reply). is_stored a.1) (answers_asked cpu steps rs)
-      ≡ answers_of cpu (turns_replied steps rs) rs
-  all_stored [] rs h = refl
-  all_stored (a ∷ steps) [] h = refl
-  all_stored (a ∷ steps) (r ∷ rs) h = by_own (both (a.cpu == cpu)) (all_stored steps rs (All-tail IsPlain r rs h))
-    where
-      by_own : ((a.cpu == cpu) ≡ true) ⊎ ((a.cpu == cpu) ≡ false)
-          → filter (λ (x : Step × Reply). is_stored x.1) (answers_asked cpu steps rs)
-          ≡ answers_of cpu (turns_replied steps rs) rs
-          → filter (λ (x : Step × Reply). is_stored x.1) (answers_asked cpu (a ∷ steps) (r ∷ rs))
-          ≡ answers_of cpu (turns_replied (a ∷ steps) (r ∷ rs)) (r ∷ rs)
-      by_own (inl own) rest =
-          let kept = plain_stored r (All-head IsPlain r rs h) in
-          rw own (rw kept (ap (λ (xs : List (Step × Reply)). (a.step, r) ∷ xs) rest))
-      by_own (inr other) rest = rw other rest
+  -- its answers
+  asked_same : (steps : List Asked) (rs : List Reply)
+      → answers_of cpu (turns_replied steps rs) rs ≡ answers_asked cpu steps rs
+  asked_same [] rs = refl
+  asked_same (a ∷ steps) [] = refl
+  asked_same (a ∷ steps) (r ∷ rs) =
+      ap (λ (xs : List (Step × Reply)). if a.cpu == cpu then (a.step, r) ∷ xs else xs) (asked_same steps rs)
 
   -- a CPU that isn't there has none
   none_asked : (n : ℕ)
@@ -106,13 +85,13 @@ same_count [] rs n = refl
 same_count (a ∷ steps) [] n = absurd (omega arith)
 same_count (a ∷ steps) (r ∷ rs) n = ap suc (same_count steps rs (omega (arith, n)))
 
-all_theirs : (steps : List Asked) (rs : List Reply) → All IsPlain rs → AreTheirs (turns_replied steps rs) rs
-all_theirs [] rs h = tt
-all_theirs (a ∷ steps) [] h = tt
-all_theirs (a ∷ steps) (r ∷ rs) h = (refl, All-head IsPlain r rs h, all_theirs steps rs (All-tail IsPlain r rs h))
+all_theirs : (steps : List Asked) (rs : List Reply) → AreTheirs (turns_replied steps rs) rs
+all_theirs [] rs = tt
+all_theirs (a ∷ steps) [] = tt
+all_theirs (a ∷ steps) (r ∷ rs) = (refl, all_theirs steps rs)
 
--- a refusal that a test gives is plain
-plain_test : (a b c d e : Bool) (why : Refusal)
+-- a refusal that a test gives is stored
+stored_test : (a b c d e : Bool) (why : Refusal)
     → or_else
     (if a then Some refusals.Invalid
     else if b then Some refusals.NoVm
@@ -121,65 +100,70 @@ plain_test : (a b c d e : Bool) (why : Refusal)
     else None)
     (if e then Some refusals.NoPool else None)
     ≡ Some why
-    → IsPlain (Refused why)
-plain_test true b c d e why h = subst (λ (w : Refusal). IsPlain (Refused w)) (same_Some refusals.Invalid why h) tt
-plain_test false true c d e why h = subst (λ (w : Refusal). IsPlain (Refused w)) (same_Some refusals.NoVm why h) tt
-plain_test false false true d e why h = subst (λ (w : Refusal). IsPlain (Refused w)) (same_Some refusals.Busy why h) tt
-plain_test false false false true e why h =
-    subst (λ (w : Refusal). IsPlain (Refused w)) (same_Some refusals.Perm why h) tt
-plain_test false false false false true why h =
-    subst (λ (w : Refusal). IsPlain (Refused w)) (same_Some refusals.NoPool why h) tt
-plain_test false false false false false why h = absurd cc
+    → is_stored (Refused why) ≡ true
+stored_test true b c d e why h = ap (λ w. is_stored (Refused w)) (sym (same_Some refusals.Invalid why h))
+stored_test false true c d e why h = ap (λ w. is_stored (Refused w)) (sym (same_Some refusals.NoVm why h))
+stored_test false false true d e why h = ap (λ w. is_stored (Refused w)) (sym (same_Some refusals.Busy why h))
+stored_test false false false true e why h = ap (λ w. is_stored (Refused w)) (sym (same_Some refusals.Perm why h))
+stored_test false false false false true why h = ap (λ w. is_stored (Refused w)) (sym (same_Some refusals.NoPool why h))
+stored_test false false false false false why h = absurd cc
 
-plain_why : (l : Layout) (cpu : ℕ) (slot : Option ℕ) (step : Step) (x : Used) (why : Refusal)
+stored_why : (l : Layout) (cpu : ℕ) (slot : Option ℕ) (step : Step) (x : Used) (why : Refusal)
     → fails l cpu slot step x ≡ Some why
-    → IsPlain (Refused why)
+    → is_stored (Refused why) ≡ true
 unfolding fails refusal
-plain_why l cpu slot step x why h =
+stored_why l cpu slot step x why h =
     let r = rule_of l cpu slot step x in
-    plain_test (not r.valid.passes) (lacks_slot (names step) slot || not r.has_vm.passes) (not r.ready.passes)
+    stored_test (not r.valid.passes) (lacks_slot (names step) slot || not r.has_vm.passes) (not r.ready.passes)
     (not r.allowed.passes) (is_short l.depth r.changes x) why h
 
--- an answer is plain
-plain_answer : (l : Layout) (cpu : ℕ) (slot : Option ℕ) (step : Step) (reply : Reply) (x y : Used)
+-- an answer is stored
+stored_answer : (l : Layout) (cpu : ℕ) (slot : Option ℕ) (step : Step) (reply : Reply) (x y : Used)
     → Answered l cpu slot step true x reply y
-    → IsPlain reply
-plain_answer l cpu slot step reply x y (inl m) = subst IsPlain (sym m.reply_is) tt
-plain_answer l cpu slot step reply x y (inr (inl r)) =
-    subst IsPlain (sym r.reply_is) (plain_why l cpu slot step x r.why r.fail)
-plain_answer l cpu slot step reply x y (inr (inr w)) = subst IsPlain (sym w.reply_is) tt
+    → is_stored reply ≡ true
+stored_answer l cpu slot step reply x y (inl m) = ap is_stored m.reply_is
+stored_answer l cpu slot step reply x y (inr (inl r)) =
+    ap is_stored r.reply_is ∙ stored_why l cpu slot step x r.why r.fail
+stored_answer l cpu slot step reply x y (inr (inr w)) = ap is_stored w.reply_is
 
-slot_found : (l : Layout) (s t : Reference) (c : Call)
-    → Steps l s c t
-    → c.slot ≡ guest_slot (s.contents.cpu c.cpu) c.step
-unfolding used_of
-slot_found l s t c h = h.on.slot
+-- a call that isn't stored keeps the state
+unstored_keeps : (l : Layout) (s t : Reference) (c : Call) → Steps l s c t → is_stored c.reply ≡ false → t ≡ s
+unstored_keeps l s t c h none = elim h.on.answers [
+  | inl f ↦ log_full_keeps l s t c h f.reply
+  | inr a ↦
+      let kept : is_stored c.reply ≡ true =
+      stored_answer l c.cpu c.slot c.step c.reply (used_by c s) h.after a.answered in
+      absurd (let differ : true ≡ false = sym kept ∙ none in cc)
+]
 
--- a call is told what its step is told, also where a log is full
+-- so the calls of a run that are stored are a run
+stored_run : (l : Layout) (calls : List Call) (s t : Reference)
+    → Runs (Steps l) s calls t
+    → Runs (Steps l) s (stored_in calls) t
+stored_run l [] s t h = h
+stored_run l (c ∷ calls) s t h = by (both (is_stored c.reply)) (stored_run l calls h.0 t h.2)
+  where
+    by : ((is_stored c.reply) ≡ true) ⊎ ((is_stored c.reply) ≡ false)
+        → Runs (Steps l) h.0 (stored_in calls) t
+        → Runs (Steps l) s (stored_in (c ∷ calls)) t
+    by (inl kept) rest =
+        subst (λ (xs : List Call). Runs (Steps l) s xs t)
+        (sym (if-true (is_stored c.reply) (c ∷ stored_in calls) (stored_in calls) kept)) (h.0, h.1, rest)
+    by (inr none) rest =
+        subst (λ (xs : List Call). Runs (Steps l) s xs t)
+        (sym (if-false (is_stored c.reply) (c ∷ stored_in calls) (stored_in calls) none))
+        (subst (λ (x : Reference). Runs (Steps l) x (stored_in calls) t) (unstored_keeps l s h.0 c h.1 none) rest)
+
+no_middle : {X : Type 0} (xs ys : List X) (x : X) → [] ≡ xs ++ x ∷ ys → ⊥
+no_middle [] ys x e = cc
+no_middle (z ∷ xs) ys x e = cc
+
+-- a call is told what its step is told
 told_by_call : (l : Layout) (s t : Reference) (c : Call)
     → Steps l s c t
     → ◌≡◌ {A = Reply × Reference} (model_reply l s (record { cpu = c.cpu; step = c.step; wants = is_want c.reply }))
     (c.reply, t)
-told_by_call l s t c h = elim h.on.answers [
-  | inl f ↦ full f
-  | inr a ↦ call_told l s t c (is_want c.reply) h refl
-      (plain_answer l c.cpu c.slot c.step c.reply (used_by c s) h.after a.answered)
-]
-  where
-    same_pair : (r q : Reply) (u v : Reference) → r ≡ q → u ≡ v → ◌≡◌ {A = Reply × Reference} (r, u) (q, v)
-    same_pair r q u v e f = cc
-
-    full : FindsFull c (used_by c s) (rooms_by c s) h.after h.left
-        → ◌≡◌ {A = Reply × Reference} (model_reply l s (record { cpu = c.cpu; step = c.step; wants = is_want c.reply }))
-        (c.reply, t)
-    full f =
-        let none : is_want c.reply ≡ false = ap is_want f.reply in
-        let is : predict_step l s c.cpu c.step ≡ (Refused refusals.LogFull, s) =
-        predicted-full l s c.cpu c.step c.slot (slot_found l s t c h) f.full in
-        let stays : t ≡ s = log_full_keeps l s t c h f.reply in
-        ap (λ (b : Bool). model_reply l s (record { cpu = c.cpu; step = c.step; wants = b })) none
-        ∙ told_plain l s (record { cpu = c.cpu; step = c.step; wants = false }) refl ∙ is
-        ∙ same_pair (Refused refusals.LogFull) c.reply s t (sym f.reply) (sym stays)
+told_by_call l s t c h = call_told l s t c (is_want c.reply) h refl
 
 -- the steps of a run, made in order, are told its replies
 told_run : (l : Layout) (calls : List Call) (s t : Reference) (steps : List Asked) (rs : List Reply)
@@ -230,7 +214,7 @@ same_take (suc n) (x ∷ xs) [] e = absurd (omega (arith, e))
 same_take (suc n) (x ∷ xs) (y ∷ ys) e = ap suc (same_take n xs ys (omega (arith, e)))
 
 pub histories_are_outcomes : HistoriesAreOutcomes
-histories_are_outcomes l start steps rs count below h plain = (
+histories_are_outcomes l start steps rs count below h = (
   ap (λ (z : List Reply × Reference). z.0) first,
   subst (λ (s : Reference). IsOutcome l s (turns_replied raced told) told)
       (sym (ap (λ (z : List Reply × Reference). z.1) first)) outcome,
@@ -242,6 +226,9 @@ histories_are_outcomes l start steps rs count below h plain = (
     told : List Reply
     told = drop start rs
 
+    front : List Call
+    front = stored_in h.first
+
     first : ◌≡◌ {A = List Reply × Reference}
         (replies_along l (boot l) (turns_replied (take start steps) (take start rs)))
         (take start rs, h.at)
@@ -250,29 +237,76 @@ histories_are_outcomes l start steps rs count below h plain = (
         (same_take start rs steps count) h.asked h.begins.leads
 
     inside : All (λ c. c.cpu < l.config.cpus) h.log
-    inside = behind_all (λ (c : Call). c.cpu < l.config.cpus) (stored_in h.first) h.log h.run.cpus
+    inside = behind_all (λ (c : Call). c.cpu < l.config.cpus) front h.log h.run.cpus
+
+    inside_here : All (λ c. c.cpu < h.key.config.cpus) (front ++ h.log)
+    inside_here =
+        subst (λ (m : Layout). All (λ c. c.cpu < m.config.cpus) (front ++ h.log)) (sym h.key_is) h.run.cpus
+
+    begins : IsRun (layout_of h.key) front h.at
+    begins =
+        subst (λ (m : Layout). IsRun m front h.at) (sym h.key_is)
+        (record {
+          cpus =
+              All-filter (λ (c : Call). is_stored c.reply) (λ (c : Call). c.cpu < l.config.cpus) h.first
+              h.begins.cpus;
+          leads = stored_run l h.first (boot l) h.at h.begins.leads;
+        })
+
+    stored : All (λ c. IsStored c.reply) (front ++ h.log)
+    stored =
+        All-append (λ (c : Call). IsStored c.reply) front h.log
+        (All-weaker (λ (c : Call). is_stored c.reply ≡ true) (λ (c : Call). IsStored c.reply)
+        (λ c e. stored_is c.reply e) front (filter_passes (λ (c : Call). is_stored c.reply) h.first))
+        h.stored
+
+    none_there : (cpu : ℕ) → l.config.cpus ≤ cpu → answers_of cpu (turns_replied raced told) told ≡ []
+    none_there cpu more = none_asked cpu l.config.cpus more raced told (dropped_below l.config.cpus start steps below)
 
     each : (cpu : ℕ)
-        → map (λ (c : Call). (c.step, c.reply)) (calls_by cpu h.log) ≡ answers_of cpu (turns_replied raced told) told
+        → map (λ (c : Call). (c.step, c.reply)) (calls_by cpu h.log)
+        ≡ stored_answers (answers_of cpu (turns_replied raced told) told)
     each cpu = by_place (cases_lt cpu l.config.cpus)
       where
         by_place : (cpu < l.config.cpus) ⊎ (l.config.cpus ≤ cpu)
             → map (λ (c : Call). (c.step, c.reply)) (calls_by cpu h.log)
-            ≡ answers_of cpu (turns_replied raced told) told
-        by_place (inl less) = (h.each cpu less).calls ∙ all_stored cpu raced told plain
+            ≡ stored_answers (answers_of cpu (turns_replied raced told) told)
+        by_place (inl less) =
+            (h.each cpu less).calls
+            ∙ kept_answers h.key cpu (answers_asked cpu raced told) h.at front h.log (h.each cpu less) begins stored
+            inside_here
+            ∙ ap stored_answers (sym (asked_same cpu raced told))
         by_place (inr more) =
             ap (map (λ (c : Call). (c.step, c.reply))) (none_called cpu l.config.cpus more h.log inside)
-            ∙ sym (none_asked cpu l.config.cpus more raced told (dropped_below l.config.cpus start steps below))
+            ∙ ap stored_answers (sym (none_there cpu more))
+
+    full : (cpu : ℕ) (earlier after : List (Step × Reply)) (step : Step)
+        → answers_of cpu (turns_replied raced told) told ≡ earlier ++ (step, Refused refusals.LogFull) ∷ after
+        → (u : Reference)
+        → Runs (Steps l) h.at (before_own cpu (length (stored_answers earlier)) h.log) u
+        → HasFullLog u cpu step
+    full cpu earlier after step e u runs = by_place (cases_lt cpu l.config.cpus)
+      where
+        by_place : (cpu < l.config.cpus) ⊎ (l.config.cpus ≤ cpu) → HasFullLog u cpu step
+        by_place (inl less) =
+            full_at h.key cpu (answers_asked cpu raced told) h.at front h.log (h.each cpu less) begins stored
+            inside_here earlier after step (sym (asked_same cpu raced told) ∙ e) u
+            (subst
+            (λ (m : Layout). Runs (Steps m) h.at (before_own cpu (length (stored_answers earlier)) h.log) u)
+            (sym h.key_is) runs)
+        by_place (inr more) =
+            absurd (no_middle earlier after (step, Refused refusals.LogFull) (sym (none_there cpu more) ∙ e))
 
     outcome : IsOutcome l h.at (turns_replied raced told) told
     outcome =
-        runs_are_outcomes l h.at h.end (turns_replied raced told) told h.log h.goes
+        stored_runs_are_outcomes l h.at h.end (turns_replied raced told) told h.log h.goes
         (record {
           count = same_drop start rs steps count
               ∙ sym (same_count raced told (same_drop start rs steps count));
           each = each;
+          full = full;
         })
-        (all_theirs raced told plain)
+        (all_theirs raced told)
 
 -- ---- where no step is told `nomemory`
 
@@ -314,7 +348,7 @@ all_wanted (a ∷ steps) [] = tt
 all_wanted (a ∷ steps) (t ∷ told) = (tt, all_wanted steps told)
 
 pub races_are_reported : RacesAreReported
-races_are_reported m a rs found booted count below h wants plain all =
+races_are_reported m a rs found booted count below h wants all =
     (told, all.complete raced outcome (all_wanted (raced_of a) (map Some raced)))
   where
     n : ℕ
@@ -327,7 +361,7 @@ races_are_reported m a rs found booted count below h wants plain all =
     from = replies_along m.layout (boot m.layout) (turns_replied (take n a.steps) (take n rs))
 
     base : (from.0 ≡ take n rs) × IsOutcome m.layout from.1 (turns_replied (drop n a.steps) raced) raced
-    base = histories_are_outcomes m.layout n a.steps rs count below h plain
+    base = histories_are_outcomes m.layout n a.steps rs count below h
 
     first_turns : turns_replied (take n a.steps) (take n rs) ≡ turns_of (first_of a) (take n (no_replies a.steps))
     first_turns =

@@ -1,9 +1,11 @@
 pub mod Decimals
 pub mod FoundTold
+pub mod FullAt
 pub mod Generated
 pub mod Histories
 pub mod Lines
 pub mod Noting
+pub mod Placed
 pub mod Replies
 pub mod Taken
 pub mod Tells

@@ -6,7 +6,7 @@ use Rattle.call_table.specs.Texts.{text_of_reply}
 use Rattle.reference_model.specs.model.Boot.{boot}
 use Rattle.race_outcomes.specs.declared.finding.Outcome.{Outcome as RaceOutcome}
 use Rattle.race_outcomes.specs.declared.node.Turn.{Turn}
-use Rattle.race_outcomes.specs.Laws.{IsPlain, is_want}
+use Rattle.race_outcomes.specs.Laws.{is_want}
 use Rattle.race_outcomes.specs.Orders.{AllOutcomes, IsOutcome, replies_along}
 use Rattle.trace_lines.specs.declared.response.Response.TheVariants as responses
 use Rattle.trace_lines.specs.Texts.{text_of_response}
@@ -27,14 +27,13 @@ turns_replied (a ∷ more) (reply ∷ replies) =
 
 -- If replies have one legal history, the model gives the steps before `start` these replies, made
 -- in order. From the state that they lead to, the others are an outcome of the steps after `start`,
--- in any order of the CPUs, unless one of them reports a full log or a part that was taken
+-- in some order of the CPUs, also where a full log refused some
 abbrev pub HistoriesAreOutcomes : Type 0
 HistoriesAreOutcomes =
     (l : Layout) (start : ℕ) (steps : List Asked) (replies : List Reply)
     → length replies ≡ length steps
     → All (λ a. a.cpu < l.config.cpus) steps
     → OneHistory l start steps replies
-    → All IsPlain (drop start replies)
     →
     let first = replies_along l (boot l) (turns_replied (take start steps) (take start replies)) in
     (first.0 ≡ take start replies)
@@ -51,7 +50,6 @@ RacesAreReported =
     → All (λ s. s.cpu < m.layout.config.cpus) a.steps
     → HasOneHistory m a replies
     → All (λ r. is_want r ≡ false) replies
-    → All IsPlain (drop (in_order_of a) replies)
     → AllOutcomes m.layout (first_replies m a (no_replies a.steps)).1
     (turns_raced a (no_replies a.steps)) (nothing_wanted (raced_of a)) found
     → ((first_replies m a (no_replies a.steps)).0 ≡ take (in_order_of a) replies)

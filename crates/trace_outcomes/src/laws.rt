@@ -2,14 +2,12 @@
 ghost use Rattle.trace_outcomes.specs.Laws.{HistoriesAreOutcomes, LinesAreRead, RacesAreReported, RepliesAreRead};
 
 /// If replies have one legal history, as those of each race have, the model gives the steps before `start` exactly
-/// these replies, and from there on the others are an outcome of the steps after `start`, unless one of them reports a
-/// full log or a part that was taken.
+/// these replies, and from there on the others are an outcome of the steps after `start`.
 pub fn histories_are_outcomes()
     ensures { HistoriesAreOutcomes }
 {}
 
-/// All outcomes of a trace have the replies of each of its races that reports no lack of memory, and after `start` no
-/// full log.
+/// All outcomes of a trace have the replies of each of its races that reports no lack of memory.
 pub fn races_are_reported()
     ensures { RacesAreReported }
 {}

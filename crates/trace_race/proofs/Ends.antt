@@ -1,5 +1,5 @@
 -- The calls that each CPU's pass has made are its calls in the history at whose end the machine is.
-use Rattle.std.proofs.Common.{◌≡◌, ℕ, ◌<◌, ◌==◌, suc, refl, sym, ap, subst, ◌∙◌, inl, inr, List, [], ◌∷◌, ◌++◌, All, drop, filter, length, map, Option, Some, slice_get, arith}
+use Rattle.std.proofs.Common.{◌≡◌, ℕ, ◌+◌, ◌<◌, ◌==◌, Bool, suc, refl, sym, ap, subst, ◌∙◌, inl, inr, List, [], ◌∷◌, ◌++◌, All, drop, filter, length, length-append, map, Option, Some, slice_get, arith}
 use Rattle.std.proofs.lemmas.List.{append_assoc, append-nil}
 use Rattle.std.proofs.lemmas.List.Elements.{filter-append}
 use Rattle.page_state.specs.Layouts.{Layout}
@@ -24,13 +24,14 @@ use Rattle.part_table.specs.declared.slot.Slot.{Slot}
 use Rattle.part_table.specs.Endings.{IsEndFor}
 use Rattle.part_table.specs.Parts.{part_of}
 use Rattle.part_table.specs.Passes.{Opened, Pass, first_known}
-use Rattle.part_table.specs.Known.{Known}
+use Rattle.part_table.specs.Before.{before_own}
+use Rattle.part_table.specs.Known.{AreFronts, Known}
 use Rattle.part_table.specs.Beginnings.{no_own, own_in}
+use Rattle.part_table.proofs.Before.{own_behind}
 use Rattle.part_table.proofs.Left.{there}
 use Rattle.part_table.proofs.Lists.{or_of_get}
 use Rattle.cpu_threads.specs.Ends.{AllGiven, AreOf, OfGiven}
 use Rattle.cpu_threads.specs.Machines.{FullInTheEnd, StoresInTheEnd}
-use Rattle.cpu_threads.proofs.Full.{end_fronts}
 use Rattle.trace_race.proofs.FullLogs.{made_in}
 use Rattle.trace_race.proofs.Kept.{kept_cases}
 use Rattle.trace_race.proofs.Made.{at_place, map-append}
@@ -97,27 +98,77 @@ all_of t steps replies passes done cpu less =
     let there = at_place passes cpu (let n = done.count in omega (arith, n, less)) in
     record { place = cpu; pass = there.0; there = there.1; cpu = (done.each cpu there.0 there.1).cpu_is }
 
--- calls in another order of the same parts and CPUs are full where these are
-module _ (l : Layout) (V W : List Call) (on : (p : Part) → calls_on p V ≡ calls_on p W)
-    (by : (cpu : ℕ) → calls_by cpu V ≡ calls_by cpu W) where
-  full_as : (step : Step) (v : Known) → FindsFull l W step v → FindsFull l V step v
-  full_as step v (inl e) = inl (ap (λ (cs : List Call). length cs) (by v.cpu) ∙ e)
-  full_as step v (inr e) = inr (e.0, e.1, ap (λ (cs : List Call). length cs) (on (part_of e.0)) ∙ e.2)
+-- a call adds at most one to the own list
+counted : (l : Layout) (log : List Call) (step : Step) (reply : Reply) (v w : Known)
+    → CallsIn l log step reply v w
+    → (d : ℕ) × (length w.own.log.calls ≡ length v.own.log.calls + d) × (w.cpu ≡ v.cpu)
+counted l log step reply v w c = elim (kept_cases reply c.answered) [
+  | inl k ↦
+      let s : StoresInTheEnd step reply v w = c.stored k.0 in (
+        1,
+        ap (λ l. length l.calls) s.stores.added.own
+            ∙ (ap (λ (k : CpuState). length (k.log.calls ++ s.stores.call ∷ [])) s.met.same.own
+            ∙ length-append v.own.log.calls (s.stores.call ∷ [])),
+        s.stores.added.cpu ∙ s.met.same.cpu,
+      )
+  | inr k ↦
+      let same = (c.full k.0).0 in
+      let own : length w.own.log.calls ≡ length v.own.log.calls =
+      ap (λ (k : CpuState). length k.log.calls) same.own in
+      (0, omega (arith, own), same.cpu)
+]
 
-  pub makes_as : (v w : Known) (answers : List (Step × Reply))
-      → MakeAll (CallsIn l W) v answers w
-      → MakeAll (CallsIn l V) v answers w
-  makes_as v w [] made = made
-  makes_as v w (a ∷ more) made = (
-    made.0,
-    record {
-      answered = made.1.answered;
-      stored = made.1.stored;
-      full = λ e. let f = made.1.full e in
-          (f.0, full_as a.0 v f.1);
-    },
-    makes_as made.0 w more made.2,
+-- Calls behind others of the same parts and CPUs are full where these are, for a CPU whose own list has its calls of
+-- the others
+module _ (l : Layout) (xs zs ys : List Call) (on : (p : Part) → calls_on p xs ≡ calls_on p zs)
+    (by : (cpu : ℕ) → calls_by cpu xs ≡ calls_by cpu zs) where
+  picked_as : (f : Call → Bool) (cpu n m : ℕ)
+      → filter f xs ≡ filter f zs
+      → n ≡ length (calls_by cpu xs) + m
+      → filter f (before_own cpu n (xs ++ ys)) ≡ filter f (before_own cpu n (zs ++ ys))
+  picked_as f cpu n m same e =
+      let there : List Call = before_own cpu m ys in
+      ap (filter f) (own_behind cpu n m xs ys e) ∙ filter-append f xs there
+      ∙ ap (λ cs. cs ++ filter f there) same ∙ sym (filter-append f zs there)
+      ∙ ap (filter f)
+      (sym (own_behind cpu n m zs ys (e ∙ ap (λ (cs : List Call). length cs + m) (by cpu))))
+
+  full_as : (step : Step) (v : Known) (m : ℕ)
+      → length v.own.log.calls ≡ length (calls_by v.cpu xs) + m
+      → FindsFull l (zs ++ ys) step v
+      → FindsFull l (xs ++ ys) step v
+  full_as step v m e (inl f) =
+      inl
+      (ap (λ (cs : List Call). length cs)
+      (picked_as (λ (c : Call). c.cpu == v.cpu) v.cpu (length v.own.log.calls) m (by v.cpu) e)
+      ∙ f)
+  full_as step v m e (inr f) = inr (
+    f.0,
+    f.1,
+    ap (λ (cs : List Call). length cs)
+        (picked_as (call_uses (part_of f.0)) v.cpu (length v.own.log.calls) m (on (part_of f.0)) e)
+        ∙ f.2,
   )
+
+  pub makes_as : (v w : Known) (m : ℕ) (answers : List (Step × Reply))
+      → length v.own.log.calls ≡ length (calls_by v.cpu xs) + m
+      → MakeAll (CallsIn l (zs ++ ys)) v answers w
+      → MakeAll (CallsIn l (xs ++ ys)) v answers w
+  makes_as v w m [] e made = made
+  makes_as v w m (a ∷ more) e made =
+      let next = counted l (zs ++ ys) a.0 a.1 v made.0 made.1 in
+      let grown : length made.0.own.log.calls ≡ length v.own.log.calls + next.0 = next.1 in
+      let same : length (calls_by made.0.cpu xs) ≡ length (calls_by v.cpu xs) =
+      ap (λ (c : ℕ). length (calls_by c xs)) next.2 in (
+        made.0,
+        record {
+          answered = made.1.answered;
+          stored = made.1.stored;
+          full = λ why. let f = made.1.full why in
+              (f.0, full_as a.0 v m e f.1);
+        },
+        makes_as made.0 w (m + next.0) more (omega (arith, grown, same, e)) made.2,
+      )
 
 -- a list without its front
 cut : {X : Type 0} (xs ys zs : List X) → xs ++ ys ≡ xs ++ zs → ys ≡ zs
@@ -140,7 +191,7 @@ module _ {A : Type 0} (t : Opened) (start : ℕ) (steps : List Asked) (replies :
   whole = end.end.left.log
 
   abbrev last : Reference
-  last = end.end.left.state
+  last = end.end.left.history.end
 
   -- what comes first in the machine's history are the calls of the world that it was made of
   same_on : (p : Part) → calls_on p first ≡ calls_on p end.goes_on.first
@@ -153,7 +204,7 @@ module _ {A : Type 0} (t : Opened) (start : ℕ) (steps : List Asked) (replies :
       ∙ sym
       (front_none (guest_part v) end.goes_on.first after
       (ap (calls_on (guest_part v)) (sym end.goes_on.log_is)
-      ∙ no_guest_calls l made.begun.ready whole last end.end.left.run v past)))
+      ∙ no_guest_calls l made.begun.ready whole last end.end.left.history.run v past)))
 
   same_by : (cpu : ℕ) → calls_by cpu first ≡ calls_by cpu end.goes_on.first
   same_by cpu = by_lt cpu t.layout.config.cpus
@@ -165,7 +216,7 @@ module _ {A : Type 0} (t : Opened) (start : ℕ) (steps : List Asked) (replies :
       ∙ sym
       (front_by cpu end.goes_on.first after
       (ap (calls_by cpu) (sym end.goes_on.log_is)
-      ∙ none_by t.layout.config.cpus whole end.end.left.run.cpus cpu past)))
+      ∙ none_by t.layout.config.cpus whole end.end.left.history.run.cpus cpu past)))
 
   all_on : (p : Part) → calls_on p (first ++ after) ≡ calls_on p whole
   all_on p =
@@ -180,7 +231,7 @@ module _ {A : Type 0} (t : Opened) (start : ℕ) (steps : List Asked) (replies :
 
   -- so the steps before `start`, in the trace's order, and then the calls of the machine are a run
   run : IsRun l (first ++ after) last
-  run = parts_run l whole (first ++ after) last end.end.left.run all_on all_by
+  run = parts_run l whole (first ++ after) last end.end.left.history.run all_on all_by
 
   goes : Runs (Steps l) made.begun.at after last
   goes =
@@ -201,6 +252,8 @@ module _ {A : Type 0} (t : Opened) (start : ℕ) (steps : List Asked) (replies :
       subst (λ (c : ℕ). slice_get cpus c ≡ Some p.knows.own) one.cpu_is (end.own cpu p given.1) in
       let calls : p.knows.own.log.calls ≡ calls_by cpu whole = (end.end.left.cpus cpu p.knows.own state).0 in
       let begun = made.begun.owns cpu less in
+      let long : length (calls_by cpu first) ≡ length (own_in t.begun cpu).log.calls =
+      ap (λ (cs : List Call). length cs) begun.0 in
       let parted : calls_by cpu whole ≡ calls_by cpu first ++ calls_by cpu after =
       sym (all_by cpu) ∙ filter-append (λ (c : Call). c.cpu == cpu) first after in
       let both : map told (calls_by cpu first) ++ map told (calls_by cpu after) ≡ map told (calls_by cpu first) ++ kept answers =
@@ -213,9 +266,12 @@ module _ {A : Type 0} (t : Opened) (start : ℕ) (steps : List Asked) (replies :
         first_is = begun.1;
         first_calls = sym begun.0;
         last = p.knows;
-        makes = makes_as l (first ++ after) whole all_on all_by (first_known t cpu) p.knows answers
+        makes = makes_as l first end.goes_on.first after same_on same_by (first_known t cpu) p.knows 0 answers
+            (omega (arith, long))
+            (subst (λ (cs : List Call). MakeAll (CallsIn l cs) (first_known t cpu) answers p.knows) end.goes_on.log_is
             (made_in t found cpus end.end cpu p.knows answers begun.1.size one.makes state
-            (end_fronts t.layout found cpus end.end p.knows.tries (end.tried cpu p given.1)));
+            (subst (λ (c : ℕ). AreFronts t.layout.config.log c whole p.knows.tries) one.cpu_is
+            (end.tried cpu p given.1))));
         own = all_by cpu ∙ sym calls;
       }
 
@@ -234,7 +290,7 @@ module _ {A : Type 0} (t : Opened) (start : ℕ) (steps : List Asked) (replies :
     run = run;
     stored =
         behind_all (λ (c : Call). IsStored c.reply) end.goes_on.first after
-        (subst (All (λ c. IsStored c.reply)) end.goes_on.log_is end.end.left.stored);
+        (subst (All (λ c. IsStored c.reply)) end.goes_on.log_is end.end.left.history.stored);
     each = λ cpu less. each cpu less (at_place passes cpu (let n = made.done.count in omega (arith, n, less)));
   }
 

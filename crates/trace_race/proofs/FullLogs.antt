@@ -1,5 +1,5 @@
 -- Where a call found a log full, the log is full in the history at whose end the machine is.
-use Rattle.std.proofs.Common.{◌≡◌, ◌≢◌, ℕ, suc, ◌+◌, ◌<◌, refl, sym, ap, subst, ◌∙◌, inl, inr, ⊎_elim, List, [], ◌∷◌, ◌++◌, length, length-append, append-nil, Option, Some, slice_get, arith}
+use Rattle.std.proofs.Common.{◌≡◌, ◌≢◌, ℕ, suc, ◌+◌, ◌<◌, ◌≤◌, refl, sym, ap, subst, ◌∙◌, inl, inr, ⊎_elim, List, [], ◌∷◌, ◌++◌, length, length-append, append-nil, Option, Some, slice_get, arith}
 use Rattle.std.specs.Prelude.{Contains, flat_map}
 use Rattle.std.proofs.lemmas.List.{append_assoc}
 use Rattle.std.proofs.lemmas.List.Elements.{All-contains, Contains-append_left, Contains-append_right}
@@ -17,11 +17,14 @@ use Rattle.part_types.specs.View.{cpu_of}
 use Rattle.hypercalls.specs.Uses.{parts_of}
 use Rattle.part_table.specs.declared.slot.Slot.{Slot}
 use Rattle.part_table.specs.Answered.{used_by}
+use Rattle.part_table.specs.Before.{before_own}
 use Rattle.part_table.specs.Endings.{IsEndOf}
 use Rattle.part_table.specs.Parts.{in_order, parts, part_of}
-use Rattle.part_table.specs.Known.{AreFronts, IsSame, Known, StartsWith}
-use Rattle.part_table.specs.Tried.{EndsIn, FoundFull, FoundRoom, Try}
-use Rattle.cpu_threads.proofs.Full.{full_stays}
+use Rattle.part_table.specs.Known.{AddsTries, AreFronts, IsSame, Known, StartsWith, Try}
+use Rattle.part_table.specs.Tried.{EndsIn, FoundFull, FoundRoom}
+use Rattle.part_table.proofs.Added.{timed}
+use Rattle.part_table.proofs.Before.{own_all}
+use Rattle.cpu_threads.proofs.Full.{full_before}
 use Rattle.cpu_threads.proofs.Tries.{same_on}
 use Rattle.cpu_threads.specs.Machines.{FullInTheEnd, StoresInTheEnd}
 use Rattle.trace_race.proofs.Kept.{kept_cases}
@@ -32,7 +35,7 @@ use Rattle.trace_race.specs.Made.{Calls, CallsIn, FindsFull, MakeAll, Makes}
 -- what a pass knows after calls: it has tried more, and made more
 record IsLater (most : ℕ) (v w : Known) : Type 0 where
   cpu : w.cpu ≡ v.cpu
-  tried : (more : List Try) × (w.tries ≡ v.tries ++ more)
+  tried : (more : List (ℕ × Try)) × (w.tries ≡ v.tries ++ more)
   calls : StartsWith w.own.log.calls v.own.log.calls
   size : IsOfSize most v.own.log → IsOfSize most w.own.log
 
@@ -43,7 +46,7 @@ module _ (most : ℕ) where
     tried = (
       a.tried.0 ++ b.tried.0,
       b.tried.1
-          ∙ (ap (λ (ts : List Try). ts ++ b.tried.0) a.tried.1 ∙ append_assoc u.tries a.tried.0 b.tried.0),
+          ∙ (ap (λ (ts : List (ℕ × Try)). ts ++ b.tried.0) a.tried.1 ∙ append_assoc u.tries a.tried.0 b.tried.0),
     );
     calls = (
       a.calls.0 ++ b.calls.0,
@@ -54,7 +57,7 @@ module _ (most : ℕ) where
   }
 
   -- nothing but tries
-  same_later : (v w : Known) (ts : List Try) → IsSame v w → w.tries ≡ v.tries ++ ts → IsLater most v w
+  same_later : (v w : Known) (ts : List (ℕ × Try)) → IsSame v w → w.tries ≡ v.tries ++ ts → IsLater most v w
   same_later v w ts same tried = record {
     cpu = same.cpu;
     tried = (ts, tried);
@@ -71,17 +74,20 @@ module _ (most : ℕ) where
 
   stored_later : (step : Step) (reply : Reply) (v w : Known) → StoresInTheEnd step reply v w → IsLater most v w
   stored_later step reply v w s =
-      later_on v s.last w (same_later v s.last (flat_map (λ ts. ts) s.met.rounds) s.met.same s.met.tried) record {
+      later_on v s.last w
+      (same_later v s.last (timed (length v.own.log.calls) (flat_map (λ ts. ts) s.met.rounds)) s.met.same s.met.tried)
+      record {
         cpu = s.stores.added.cpu;
-        tried = (s.stores.tries, s.stores.tried);
+        tried = (timed (length s.last.own.log.calls) s.stores.tries, s.stores.tried);
         calls = (s.stores.call ∷ [], ap (λ (g : StoredCalls). g.calls) s.stores.added.own);
         size = size_more s.stores.call s.last.own.log w.own.log s.stores.added.own s.stores.room;
       }
 
   full_later : (step : Step) (v w : Known) → FullInTheEnd step v w → IsLater most v w
   full_later step v w f =
-      later_on v f.last w (same_later v f.last (flat_map (λ ts. ts) f.met.rounds) f.met.same f.met.tried)
-      (same_later f.last w f.full.tries f.full.same f.full.tried)
+      later_on v f.last w
+      (same_later v f.last (timed (length v.own.log.calls) (flat_map (λ ts. ts) f.met.rounds)) f.met.same f.met.tried)
+      (same_later f.last w (timed (length f.last.own.log.calls) f.full.tries) f.full.same f.full.tried)
 
   call_later : (step : Step) (reply : Reply) (v w : Known) → Calls step reply v w → IsLater most v w
   call_later step reply v w c = elim (kept_cases reply c.answered) [
@@ -96,9 +102,9 @@ module _ (most : ℕ) where
   made_later v w (a ∷ more) made =
       later_on v made.0 w (call_later a.0 a.1 v made.0 made.1) (made_later made.0 w more made.2)
 
--- the part at which tries ended that found its log full
-abbrev FoundAt : List ℕ → List Try → Type 0
-FoundAt ks ts = (k : ℕ) × (g : StoredCalls) × Contains ks k × Contains ts (k, Some g) × (g.room ≡ 0)
+-- the part at which tries ended that found its log full, with n calls in the own list
+abbrev FoundAt : ℕ → List ℕ → List Try → Type 0
+FoundAt n ks ts = (k : ℕ) × (g : StoredCalls) × Contains ks k × Contains (timed n ts) (n, (k, Some g)) × (g.room ≡ 0)
 
 contains-here : {X : Type 0} (x : X) (xs : List X) → Contains (x ∷ xs) x
 contains-here x xs = (0, omega arith, refl)
@@ -106,22 +112,22 @@ contains-here x xs = (0, omega arith, refl)
 contains-later : {X : Type 0} (y x : X) (xs : List X) → Contains xs x → Contains (y ∷ xs) x
 contains-later y x xs h = let less = h.1 in (suc h.0, omega arith, h.2)
 
-full_at : (ks : List ℕ) (ts : List Try) → EndsIn FoundFull ks ts → FoundAt ks ts
-full_at [] ts e = absurd e
-full_at (k ∷ ks) ts e = subst (FoundAt (k ∷ ks)) (sym e.2) (⊎_elim
+full_at : (n : ℕ) (ks : List ℕ) (ts : List Try) → EndsIn FoundFull ks ts → FoundAt n ks ts
+full_at n [] ts e = absurd e
+full_at n (k ∷ ks) ts e = subst (FoundAt n (k ∷ ks)) (sym e.2) (⊎_elim
     (λ (h : FoundFull e.0 × (e.1 ≡ [])). (
       k,
       h.0.0,
       contains-here k ks,
-      subst (λ (o : Option StoredCalls). Contains ((k, o) ∷ e.1) (k, Some h.0.0)) (sym h.0.1)
-          (contains-here (k, Some h.0.0) e.1),
+      subst (λ (o : Option StoredCalls). Contains ((n, (k, o)) ∷ timed n e.1) (n, (k, Some h.0.0))) (sym h.0.1)
+          (contains-here (n, (k, Some h.0.0)) (timed n e.1)),
       h.0.2,
     ))
-    (λ (h : FoundRoom e.0 × EndsIn FoundFull ks e.1). let more = full_at ks e.1 h.1 in (
+    (λ (h : FoundRoom e.0 × EndsIn FoundFull ks e.1). let more = full_at n ks e.1 h.1 in (
       more.0,
       more.1,
       contains-later k more.0 ks more.2,
-      contains-later (k, e.0) (more.0, Some more.1) e.1 more.3,
+      contains-later (n, (k, e.0)) (n, (more.0, Some more.1)) (timed n e.1) more.3,
       more.4,
     ))
     e.3)
@@ -129,7 +135,7 @@ full_at (k ∷ ks) ts e = subst (FoundAt (k ∷ ks)) (sym e.2) (⊎_elim
 module _ {A : Type 0} (l : TheLayout) (found : List (Slot A)) (cpus : List CpuState) (end : IsEndOf l found cpus)
     (cpu : ℕ) (last : Known)
     (here : slice_get cpus cpu ≡ Some last.own)
-    (fronts : AreFronts l.config.log (λ k. calls_on (part_of k) end.left.log) last.tries) where
+    (fronts : AreFronts l.config.log cpu end.left.log last.tries) where
   abbrev Full : Step → Known → Type 0
   Full step v = FindsFull (layout_of l) end.left.log step v
 
@@ -148,34 +154,47 @@ module _ {A : Type 0} (l : TheLayout) (found : List (Slot A)) (cpus : List CpuSt
       ap (λ (cs : List Call). length cs) later.calls.1 ∙ length-append v.own.log.calls later.calls.0 in
       let all : length last.own.log.calls ≡ length (calls_by v.cpu end.left.log) =
       ap (λ (cs : List Call). length cs) e.0 ∙ ap (λ (c : ℕ). length (calls_by c end.left.log)) (sym is) in
-      inl (omega (arith, now, was, more, all, none))
+      let full : length (calls_by v.cpu end.left.log) ≡ l.config.log = omega (arith, now, was, more, all, none) in
+      let few : length (calls_by v.cpu end.left.log) ≤ length v.own.log.calls = omega (arith, full, was, none) in
+      inl
+      (ap (λ (cs : List Call). length (calls_by v.cpu cs))
+      (own_all v.cpu (length v.own.log.calls) end.left.log few)
+      ∙ full)
 
   -- a part's log was
   part_full : (step : Step) (v u w : Known) (ts : List Try)
+      → v.cpu ≡ cpu
       → u.own ≡ v.own
-      → w.tries ≡ u.tries ++ ts
+      → AddsTries ts u w
       → IsLater l.config.log w last
       → EndsIn FoundFull (used_by step u) ts
       → Full step v
-  part_full step v u w ts same tried later ends =
-      let f = full_at (used_by step u) ts ends in
-      let there : Contains last.tries (f.0, Some f.1) =
-      subst (λ (xs : List Try). Contains xs (f.0, Some f.1)) (sym later.tried.1)
-      (Contains-append_left w.tries later.tried.0 (f.0, Some f.1)
-      (subst (λ (xs : List Try). Contains xs (f.0, Some f.1)) (sym tried)
-      (Contains-append_right u.tries ts (f.0, Some f.1) f.3))) in
+  part_full step v u w ts is same tried later ends =
+      let n : ℕ = length u.own.log.calls in
+      let f = full_at n (used_by step u) ts ends in
+      let it : ℕ × Try = (n, (f.0, Some f.1)) in
+      let there : Contains last.tries it =
+      subst (λ (xs : List (ℕ × Try)). Contains xs it) (sym later.tried.1)
+      (Contains-append_left w.tries later.tried.0 it
+      (subst (λ (xs : List (ℕ × Try)). Contains xs it) (sym tried)
+      (Contains-append_right u.tries (timed n ts) it f.3))) in
       let one =
       All-contains
-      (λ (t : Try). (g : StoredCalls)
-      → t.1 ≡ Some g
-      → (t.0 < parts)
+      (λ (t : ℕ × Try). (g : StoredCalls)
+      → t.1.1 ≡ Some g
+      → (t.1.0 < parts)
       × IsOfSize l.config.log g
-      × StartsWith (calls_on (part_of t.0) end.left.log) g.calls) last.tries
-      (f.0, Some f.1) fronts there f.1 refl in
+      × StartsWith (calls_on (part_of t.1.0) (before_own cpu t.0 end.left.log)) g.calls) last.tries
+      it fronts there f.1 refl in
+      let full = full_before l found cpus end f.0 cpu n f.1 one f.4 in
       inr (
         f.0,
         subst (λ (k : CpuState). Contains (in_order (parts_of (names step) (guest_slot (cpu_of k) step))) f.0) same f.2,
-        full_stays l found cpus end f.0 f.1 one f.4,
+        subst
+            (λ
+            (z : ℕ × CpuState). length
+            (calls_on (part_of f.0) (before_own z.0 (length z.1.log.calls) end.left.log)) ≡ l.config.log)
+            (λ i. (sym is i, same i)) full.0,
       )
 
   call_in : (step : Step) (reply : Reply) (v w : Known)
@@ -195,7 +214,7 @@ module _ {A : Type 0} (l : TheLayout) (found : List (Slot A)) (cpus : List CpuSt
           (sym (ap (λ (k : CpuState). k.log.room) f.met.same.own) ∙ h.0))
           (λ
           (h : (f.last.own.log.room ≢ 0) × EndsIn FoundFull (used_by step f.last) f.full.tries). part_full step v
-          f.last w f.full.tries f.met.same.own f.full.tried later h.1)
+          f.last w f.full.tries is f.met.same.own f.full.tried later h.1)
           f.full.full,
     );
   }
@@ -219,7 +238,7 @@ pub made_in : {A : Type 0} (t : Opened) (found : List (Slot A)) (cpus : List Cpu
     → IsOfSize t.layout.config.log (own_in t.begun cpu).log
     → Makes (first_known t cpu) answers last
     → slice_get cpus cpu ≡ Some last.own
-    → AreFronts t.layout.config.log (λ k. calls_on (part_of k) end.left.log) last.tries
+    → AreFronts t.layout.config.log cpu end.left.log last.tries
     → MakeAll (CallsIn (layout_of t.layout) end.left.log) (first_known t cpu) answers last
 made_in t found cpus end cpu last answers size made here fronts =
     all_in t.layout found cpus end cpu last here fronts (first_known t cpu) answers refl size made

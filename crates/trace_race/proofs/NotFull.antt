@@ -22,6 +22,7 @@ use Rattle.reference_model.specs.model.Used.{room_at, rooms_of}
 use Rattle.reference_model.proofs.Steps.{answered-room}
 use Rattle.ghost_spec.proofs.Rooms.{full-is}
 use Rattle.part_table.specs.Answered.{used_by}
+use Rattle.part_table.specs.Before.{before_own}
 use Rattle.part_table.specs.Known.{Known}
 use Rattle.part_table.specs.Parts.{part_of}
 use Rattle.trace_race.specs.declared.course.Asked.{Asked}
@@ -114,6 +115,7 @@ behind_start key a some inside h =
     (behind_all (λ (c : Call). c.cpu < key.config.cpus) (stored_in h.first) h.log h.run.cpus) none in
     let whole : stored_in h.first ++ h.log ≡ [] = (λ i. stored_in (first i) ++ log i) in
     let mine : Known = known_with h.key a.cpu is.first in
+    let n : ℕ = length is.first.log.calls in
     let made =
     subst
     (λ (xs : List (Step × Reply)). MakeAll
@@ -123,13 +125,14 @@ behind_start key a some inside h =
     let from : (cs : List Call) → cs ≡ [] → length cs ≡ h.key.config.log → ⊥ =
     λ cs e n. some (sym same ∙ sym n ∙ ap length e) in
     ⊎_elim
-    (λ (e : length (calls_by a.cpu (stored_in h.first ++ h.log)) ≡ h.key.config.log). from _
-    (ap (calls_by a.cpu) whole) e)
+    (λ (e : length (calls_by a.cpu (before_own a.cpu n (stored_in h.first ++ h.log))) ≡ h.key.config.log). from _
+    (ap (λ (cs : List Call). calls_by a.cpu (before_own a.cpu n cs)) whole) e)
     (λ
     (e : (k : ℕ)
     × Contains (used_by a.step mine) k
-    × (length (calls_on (part_of k) (stored_in h.first ++ h.log)) ≡ h.key.config.log)). from _
-    (ap (calls_on (part_of e.0)) whole) e.2)
+    × (length (calls_on (part_of k) (before_own a.cpu n (stored_in h.first ++ h.log)))
+    ≡ h.key.config.log)). from _
+    (ap (λ (cs : List Call). calls_on (part_of e.0) (before_own a.cpu n cs)) whole) e.2)
     (made.1.full refl).1
 
 none_asked : (n : ℕ) → asked_with (take n []) (take n []) ≡ []

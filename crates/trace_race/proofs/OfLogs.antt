@@ -48,7 +48,7 @@ module _ {A : Type 0} (p : Parts A) (logs : Histories) (l : TheLayout) (layout :
       sym (are.guest v less ∙ ap (at_place [] (λ (g : GuestPart A). g.log.calls)) g.1
       ∙ (e.left.parts (suc (suc v)) (GuestSlot g.0)
       (mapped (λ (g : GuestPart A). GuestSlot g) p.guests.items v g.0 g.1)).1))
-      (λ past. no_guest_calls (layout_of l) e.left.ready e.left.log e.left.state e.left.run v past
+      (λ past. no_guest_calls (layout_of l) e.left.ready e.left.log e.left.history.end e.left.history.run v past
       ∙ sym (log_past logs.guests.items v (let few = are.guests in omega (arith, few, past))))
 
   by_cpu : (cpu : ℕ) → calls_by cpu e.left.log ≡ log_by logs cpu
@@ -57,7 +57,7 @@ module _ {A : Type 0} (p : Parts A) (logs : Histories) (l : TheLayout) (layout :
       let k = got p.cpus.items cpu (let n = e.count in omega (arith, n, less)) in
       sym (are.cpu cpu (omega (arith, less, cpus_same)) ∙ ap (at_place [] (λ (k : CpuState). k.log.calls)) k.1
       ∙ (e.left.cpus cpu k.0 k.1).0))
-      (λ past. none_by l.config.cpus e.left.log e.left.run.cpus cpu past
+      (λ past. none_by l.config.cpus e.left.log e.left.history.run.cpus cpu past
       ∙ sym (log_past logs.cpus.items cpu (let few = are.cpus in omega (arith, few, past, cpus_same))))
 
   pub merged_whole : IsMerged logs e.left.log

@@ -21,10 +21,9 @@ use Rattle.reference_model.proofs.Ends.{filter-false, filter-true, parts_run}
 use Rattle.reference_model.proofs.Steps.{end_once}
 use Rattle.trace_race.specs.declared.course.Asked.{Asked}
 use Rattle.trace_race.specs.Judged.{told_of}
-use Rattle.trace_race.specs.Made.{AreBelow, CallsIn, IsCpus, OneHistory, answers_of, asked_with, is_stored, stored_in}
+use Rattle.trace_race.specs.Made.{AreBelow, OneHistory, answers_of, asked_with, is_stored, stored_in}
 use Rattle.trace_race.specs.Ordered.{IsMergedOf, OrdersBy, behind, own_from}
 use Rattle.trace_race.specs.Orders.{HasOrder, answered, calls_of, made_by, stored_of}
-use Rattle.trace_race.proofs.Ends.{makes_as}
 use Rattle.trace_race.proofs.OwnSteps.{cons-head, cons-tail, one_list, own_here, own_others, own_unstored}
 use Rattle.trace_race.proofs.Past.{behind_all, none_by, split}
 use Rattle.trace_race.proofs.Skipping.{behind_same}
@@ -86,7 +85,7 @@ map_map : {X Y Z : Type 0} (f : Y → Z) (g : X → Y) (xs : List X) → map f (
 map_map f g [] = refl
 map_map f g (x ∷ xs) = ap (λ ys. f (g x) ∷ ys) (map_map f g xs)
 
--- ---- the history in another order of the calls after `start`
+-- ---- the run in another order of the calls after `start`
 
 module _ (l : Layout) (start : ℕ) (steps : List Asked) (replies : List Reply) (h : OneHistory l start steps replies)
     (begins : IsRun l (stored_in h.first) h.at) (rest : List Call)
@@ -105,47 +104,14 @@ module _ (l : Layout) (start : ℕ) (steps : List Asked) (replies : List Reply) 
       filter-append (λ (c : Call). c.cpu == k) first rest ∙ ap (λ cs. calls_by k first ++ cs) (by k)
       ∙ sym (filter-append (λ (c : Call). c.cpu == k) first h.log)
 
-  run : IsRun l (first ++ rest) h.end
+  pub run : IsRun l (first ++ rest) h.end
   run = parts_run l (first ++ h.log) (first ++ rest) h.end h.run whole_on whole_by
 
-  goes : Runs (Steps l) h.at rest h.end
+  pub goes : Runs (Steps l) h.at rest h.end
   goes =
       let s = split (Steps l) first rest (boot l) h.end run.leads in
       subst (λ (u : Reference). Runs (Steps l) u rest h.end)
       (end_once l first s.0 h.at (record { cpus = begins.cpus; leads = s.1 }) begins) s.2
-
-  each : (cpu : ℕ)
-      → cpu < l.config.cpus
-      → IsCpus h.key cpu (answers_of cpu (drop start steps) (drop start replies)) h.at first rest
-  each cpu less =
-      let e = h.each cpu less in
-      record {
-        calls = ap (map (λ (c : Call). (c.step, c.reply))) (by cpu) ∙ e.calls;
-        first = e.first;
-        first_is = e.first_is;
-        first_calls = e.first_calls;
-        last = e.last;
-        makes =
-            makes_as (layout_of h.key) (first ++ rest) (first ++ h.log) whole_on whole_by _ e.last
-            (answers_of cpu (drop start steps) (drop start replies)) e.makes;
-        own = whole_by cpu ∙ e.own;
-      }
-
-  pub reordered : OneHistory l start steps replies
-  reordered = record {
-    key = h.key;
-    key_is = h.key_is;
-    first = h.first;
-    asked = h.asked;
-    at = h.at;
-    begins = h.begins;
-    log = rest;
-    end = h.end;
-    goes = goes;
-    run = run;
-    stored = all_as (λ (c : Call). IsStored c.reply) rest h.log by h.stored;
-    each = each;
-  }
 
 -- ---- the steps of a CPU
 
@@ -312,12 +278,17 @@ module _ (l : Layout) (start : ℕ) (steps : List Asked) (replies : List Reply) 
         ∙ length-map (made_by k (stored_of (answered after given))) (λ (a : Asked × Reply). (a.0.cpu, a.0.step, a.1))
 
     pub has_order : (lines : List ℕ) → OrdersBy after given cpus lines → HasOrder l start steps replies lines
-    unfolding reordered kept
+    unfolding kept
     has_order lines o = record {
       order = o.order;
       lines_are = o.lines_are;
       each = o.each;
-      history = reordered l start steps replies h m.begins kept.rest kept.on_is kept.by_is;
+      history = h;
+      log = kept.rest;
+      on = kept.on_is;
+      by = kept.by_is;
+      goes = goes l start steps replies h m.begins kept.rest kept.on_is kept.by_is;
+      run = run l start steps replies h m.begins kept.rest kept.on_is kept.by_is;
       told = one_list (λ (c : ℕ × Step × Reply). c.0) (told_of kept.rest) (calls_of o.order) (
           map_map (λ (c : ℕ × Step × Reply). c.0) (λ (c : Call). (c.cpu, c.step, c.reply)) kept.rest
           ∙ sym cpus_are ∙ sym o.cpus_are

@@ -31,7 +31,8 @@ FirstNotFull =
 
 -- If a CPU was answered LogFull after `start`, its list held its calls from before `start`, then
 -- exactly those of its steps before this one that were stored, with their replies. These calls
--- begin its calls in the history, and a log that would store the step is full there
+-- begin its calls in the history, and a log that would store the step is full there before the
+-- CPU's next call
 abbrev pub FullAfter : Type 0
 FullAfter =
     (key : TheLayout) (cpu : ℕ) (before after : List (Step × Reply)) (step : Step) (at : Reference)

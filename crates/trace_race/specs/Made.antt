@@ -22,6 +22,7 @@ use Rattle.hypercalls.specs.Booted.{IsBooted}
 use Rattle.world.specs.Laws.{Goes}
 use Rattle.part_table.specs.Passes.{IsPassOf, Opened, Pass, first_known, first_pass}
 use Rattle.part_table.specs.Answered.{used_by}
+use Rattle.part_table.specs.Before.{before_own}
 use Rattle.part_table.specs.Known.{IsSame, Known}
 use Rattle.part_table.specs.Parts.{IsOwn, part_of, parts}
 use Rattle.part_table.specs.Beginnings.{own_in}
@@ -65,17 +66,19 @@ MakeAll C v (a ∷ more) w = (u : Known) × C a.0 a.1 v u × MakeAll C u more w
 abbrev pub Makes : Known → List (Step × Reply) → Known → Type 0
 Makes v answers w = MakeAll Calls v answers w
 
--- a log that would store the pass's step is full in the history: its CPU has made as many calls as
--- a log can store, or that many calls used a part that the step uses
+-- a log that would store the pass's step is full in the history, before the call that follows the
+-- pass's own list there: its CPU has made as many calls as a log can store, or that many calls used
+-- a part that the step uses
 abbrev pub FindsFull : Layout → List Call → Step → Known → Type 0
 FindsFull l log step v =
-    (length (calls_by v.cpu log) ≡ l.config.log)
+    (length (calls_by v.cpu (before_own v.cpu (length v.own.log.calls) log)) ≡ l.config.log)
     ⊎ ((k : ℕ)
     × Contains (used_by step v) k
-    × (length (calls_on (part_of k) log) ≡ l.config.log))
+    × (length (calls_on (part_of k) (before_own v.cpu (length v.own.log.calls) log))
+    ≡ l.config.log))
 
 -- what a call comes to in a history: it is stored with its reply, or a log that would store it is
--- full there
+-- full there before the CPU's next call
 pub record CallsIn (l : Layout) (log : List Call) (step : Step) (reply : Reply)
     (v w : Known) : Type 0 where
   pub answered : reply ≢ Refused Contended
@@ -104,7 +107,8 @@ known_with key cpu own = record { layout = key; cpu = cpu; own = own; seen = [];
 
 -- A CPU's calls in a history, after those in `before`, are its steps in the trace's order, with the
 -- replies that it got, except for those that a full log refused. For each of these a log that would
--- store it is full in the history: `makes`. It begins with its own state after `before`, `first`
+-- store it is full in the history before the CPU's next call: `makes`. It begins with its own state
+-- after `before`, `first`
 pub record IsCpus (key : TheLayout) (cpu : ℕ) (answers : List (Step × Reply)) (at : Reference)
     (before log : List Call) : Type 0 where
   pub calls : map (λ c. (c.step, c.reply)) (calls_by cpu log) ≡ filter (λ a. is_stored a.1) answers

@@ -2,11 +2,16 @@
 use Rattle.std.specs.Prelude.{◌≡◌, ℕ, ◌==◌, Bool, true, false, List, [], ◌∷◌, ◌++◌, codes, drop, filter, map}
 use Rattle.std.specs.Fmt.{decimal}
 use Rattle.page_state.specs.Layouts.{Layout}
+use Rattle.call_table.specs.declared.reply.Call.{Call}
 use Rattle.call_table.specs.declared.reply.Reply.{Reply}
 use Rattle.call_table.specs.declared.step.Step.{Step}
+use Rattle.reference_model.specs.model.History.{calls_by, calls_on}
+use Rattle.reference_model.specs.model.Parts.{Part}
+use Rattle.reference_model.specs.model.Run.{IsRun, Runs}
+use Rattle.reference_model.specs.model.Step.{Steps}
 use Rattle.trace_race.specs.declared.course.Asked.{Asked}
 use Rattle.trace_race.specs.Judged.{told_of}
-use Rattle.trace_race.specs.Made.{OneHistory, is_stored}
+use Rattle.trace_race.specs.Made.{OneHistory, is_stored, stored_in}
 
 -- each step with its reply
 abbrev pub answered : List Asked → List Reply → List (Asked × Reply)
@@ -26,10 +31,11 @@ made_by cpu answers = filter (λ a. a.0.cpu == cpu) answers
 abbrev pub calls_of : List (Asked × Reply) → List (ℕ × Step × Reply)
 calls_of answers = map (λ a. (a.0.cpu, a.0.step, a.1)) answers
 
--- These are the line numbers of the steps after `start` in the order in which they took effect.
+-- These are the line numbers of the steps after `start` in an order that gives their replies.
 -- `each`: each of these steps that a log stores is in it once, and no other, each CPU's in the
--- trace's order. `told`: the calls of the one legal history after `start` are these steps with
--- their replies, in this order
+-- trace's order. `log`: the calls of the one legal history after `start`, in an order that keeps
+-- each part's and each CPU's (`on`, `by`), and so a run to the same end (`goes`, `run`). `told`:
+-- they are these steps with their replies, in this order
 pub record HasOrder (l : Layout) (start : ℕ) (steps : List Asked) (replies : List Reply)
     (lines : List ℕ) : Type 0 where
   pub order : List (Asked × Reply)
@@ -38,7 +44,12 @@ pub record HasOrder (l : Layout) (start : ℕ) (steps : List Asked) (replies : L
       → made_by cpu order
       ≡ made_by cpu (stored_of (answered (drop start steps) (drop start replies)))
   pub history : OneHistory l start steps replies
-  pub told : told_of history.log ≡ calls_of order
+  pub log : List Call
+  pub on : (p : Part) → calls_on p log ≡ calls_on p history.log
+  pub by : (cpu : ℕ) → calls_by cpu log ≡ calls_by cpu history.log
+  pub goes : Runs (Steps l) history.at log history.end
+  pub run : IsRun l (stored_in history.first ++ log) history.end
+  pub told : told_of log ≡ calls_of order
 
 -- the line of an order
 abbrev pub numbers_text : List ℕ → List ℕ

@@ -5,12 +5,12 @@
 mod booting;
 mod buffered;
 mod course;
-mod ending;
 mod fault;
 mod judged;
 pub mod laws;
 mod making;
 mod ordering;
+mod race_end;
 mod racing;
 mod reading;
 mod telling;

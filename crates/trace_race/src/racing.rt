@@ -16,10 +16,10 @@ ghost use Rattle.trace_text.specs.Failures.{ReportsWrite};
 
 use crate::booting::{Booted, boot_world};
 use crate::course::{Asked, Course};
-use crate::ending::{Compared, compared_at_end, dropped};
 use crate::fault::RaceFault;
 use crate::making::{Made, make};
 use crate::ordering::idle_order;
+use crate::race_end::{Compared, compared_at_end, dropped};
 use crate::reading::{Read, read_all};
 use crate::telling::{report_found, report_steps};
 use cpu_threads::Gate;

@@ -8,7 +8,6 @@ use Rattle.part_table.specs.Endings.{IsEndOf, KeepsOwn, KeepsSeen, KeepsTried}
 use Rattle.part_table.specs.Passes.{Pass}
 use Rattle.part_table.specs.Known.{StartsWith, seen_at}
 use Rattle.part_table.specs.Beginnings.{own_in}
-use Rattle.cpu_threads.proofs.Full.{end_fronts}
 use Rattle.cpu_threads.specs.Laws.{EndsInOne, IsHistoryOf}
 use Rattle.cpu_threads.proofs.laws.one_history.Goals as goal
 
@@ -17,13 +16,13 @@ of_kept : {A : Type 0} (l : TheLayout) (found : List (Slot A)) (cpus : List CpuS
     (p : Pass)
     → KeepsOwn cpus p
     → KeepsSeen found p
-    → KeepsTried l found p
+    → KeepsTried l e.left.log p
     → IsHistoryOf l e.left.log p
 of_kept l found cpus e p own seen tried = record {
   calls = sym (e.left.cpus p.knows.cpu p.knows.own own).0;
   seen = λ j less. let h = each_part e j less in
       subst (λ (cs : List Call). StartsWith cs (seen_at p.knows.seen j)) h.3 (seen j h.0 h.1);
-  tried = end_fronts l found cpus e p.knows.tries tried;
+  tried = tried;
 }
 
 ends_in_one : (A : Type 0) → EndsInOne A

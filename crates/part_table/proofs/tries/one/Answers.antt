@@ -1,4 +1,4 @@
-use Rattle.std.proofs.Common.{◌≡◌, ◌≢◌, ℕ, ◌∷◌, [], sym, ap, ◌∙◌, refl}
+use Rattle.std.proofs.Common.{◌≡◌, ◌≢◌, ℕ, ◌∷◌, [], length, sym, ap, ◌∙◌, refl}
 use Rattle.std.specs.Prelude.{Some, None}
 use Rattle.part_table.specs.declared.slot.Slot.{Slot}
 use Rattle.part_table.specs.Does.{only_at}
@@ -96,7 +96,8 @@ returns-clause-made g c =
     let at = goal.at.returns-clause-made g c in
     let q = cpu_told c.in-Some.ensures.taken.is (cpu_at c.requires.can) c.requires.can.rest.on in
     made_by g.M.Maker.tells (c.args.k ∷ []) c.args.seat.now.me (stored g at.After-commit) refl
-    (tried_one c.args.seat.now.me.0.tries c.args.k c.in-Some.part) (cpu_at c.requires.can)
+    (tried_one c.args.seat.now.me.0.tries (length c.args.seat.now.me.0.own.log.calls) c.args.k c.in-Some.part)
+    (cpu_at c.requires.can)
     (left_of c.take.new.seat.me.0 c.in-Some.ensures.taken.left q.0 q.1 q.2 (held g at.In-Some))
     (λ j z h. c.alone-part.ensures.does.only j c.alone-part.result.0
     (only_like c.args.k j c.in-Some.part c.alone-part.result.0 z h)) c.alone-part.ensures.call

@@ -1,4 +1,4 @@
-use Rattle.std.proofs.Common.{◌≡◌, ◌≢◌, ℕ, ◌+◌, ◌<◌, ◌∷◌, [], sym, ap, ◌∙◌, refl, subst, arith}
+use Rattle.std.proofs.Common.{◌≡◌, ◌≢◌, ℕ, ◌+◌, ◌<◌, ◌∷◌, [], length, sym, ap, ◌∙◌, refl, subst, arith}
 use Rattle.std.specs.Prelude.{Some, None}
 use Rattle.part_table.specs.declared.slot.Slot.{Slot}
 use Rattle.part_table.specs.Parts.{log_of, parts}
@@ -276,7 +276,7 @@ returns-clause-made g c =
     let q = cpu_told (both g at.In-Some-take) (cpu_at c.requires.can) c.requires.can.rest.on in
     made_by g.M.Maker.tells (1 ∷ k ∷ []) m (stored g at.After-release) refl
     (two_tries m.0 k c.in-Some.shared c.in-Some-take.guest
-    ∙ tried_two m.0.tries k c.in-Some.shared c.in-Some-take.guest (λ e. omega arith))
+    ∙ tried_two m.0.tries (length m.0.own.log.calls) k c.in-Some.shared c.in-Some-take.guest (λ e. omega arith))
     (cpu_at c.requires.can)
     (left_of c.take-2.new.seat.me.0 c.in-Some-take.ensures.taken.left q.0 q.1 q.2 (held g at.In-Some-take))
     (λ j z h. let there =
