@@ -7,6 +7,7 @@ setlocal iskeyword=@,48-57,_
 
 syntax match pkvmtraceComment "^#.*$"
 syntax match pkvmtraceExpected "^#= .*$"
+syntax match pkvmtraceWatch "^#! .*$"
 syntax match pkvmtraceCpu "^\%(0x[0-9a-f]\{1,16}\|0\|[1-9]\d*\) " contains=pkvmtraceCpuNumber nextgroup=pkvmtraceCall
 syntax match pkvmtraceCpuNumber "\S\+" contained
 syntax keyword pkvmtraceCall contained donate_guest donate_hyp finish_guest fund guest_relax guest_share_host
@@ -25,6 +26,7 @@ syntax match pkvmtraceVm " \zs\%(0\|[1-9]\d*\)\.\%(0\|[1-9]\d*\)\ze\%( \|$\)"
 
 highlight default link pkvmtraceComment Comment
 highlight default link pkvmtraceExpected SpecialComment
+highlight default link pkvmtraceWatch SpecialComment
 highlight default link pkvmtraceCpuNumber Identifier
 highlight default link pkvmtraceCall Function
 highlight default link pkvmtraceSetting PreProc

@@ -1,0 +1,4 @@
+pub mod Held
+pub mod Joined
+pub mod Leading
+pub mod Listed

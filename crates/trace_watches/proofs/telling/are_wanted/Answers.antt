@@ -1,0 +1,13 @@
+use Rattle.std.proofs.Common.{rules, tests}
+use Rattle.std.proofs.lemmas.Iterator.Search.{all_from_yields_List}
+use Rattle.std.proofs.lemmas.Iterator.Splits.{YieldsList-from_slice_split}
+use Rattle.trace_cases.specs.Kinds.{trimmed}
+use Rattle.trace_watches.specs.Watched.{is_wanted}
+use Rattle.trace_watches.proofs.telling.are_wanted.Goals as goal
+
+pub returns : goal.returns
+returns c =
+    all_from_yields_List (λ part. is_wanted c.args.wanted.now (trimmed part)) _ _ _ c.all.ensures.ran
+    (YieldsList-from_slice_split _ _ c.args.text.now c.split.ensures.rest c.split.ensures.done c.split.ensures.closure
+    (λ x r q k. search (rules, tests)))
+    (λ x b q k. search (rules, tests))
