@@ -19,8 +19,8 @@ ghost use Rattle.ghost_oracle.specs.Found.{found_state, walked_state, with_row, 
 ghost use Rattle.ghost_oracle.specs.Low.{IsLowCpu};
 ghost use Rattle.ghost_oracle.specs.inner.Trees.{AreTreesKept, IsFoundWith};
 
-use crate::both::compared;
 use crate::compared::Compared;
+use crate::kept_and_walked::compared;
 use crate::parts::{cpu_rooms, cpus_from, guest_rooms, slots_from};
 use crate::trees::{
     Source, frames_of, guests_from, guests_with_maplets, tree_from, tree_with_maplets,

@@ -2,11 +2,11 @@
 //! one type. `ghost_judge` compares two such lists; this crate re-exports its `audit` and `judge`.
 #![tactic(auto)]
 
-mod both;
 pub mod compared;
 mod eight;
 mod found;
 pub mod kept;
+mod kept_and_walked;
 pub mod laws;
 mod parts;
 mod pending;

@@ -1,25 +1,47 @@
 -- The parts that a call uses, on lists.
-use Rattle.std.specs.Prelude.{◌≡◌, ℕ, Bool, true, ◌&&◌, ◌==◌, List, Option, get_or, length, map, if◌then◌else◌}
+use Rattle.std.specs.Prelude.{◌≡◌, ℕ, Bool, true, false, ◌&&◌, ◌==◌, List, Option, get_or, is_some, length, map, if◌then◌else◌}
 use Rattle.descriptor.specs.declared.State.TheVariants.{Owned}
 use Rattle.descriptor.specs.declared.Prot.TheVariants.{RWX}
 use Rattle.page_state.specs.declared.entry.Entry.{Entry}
 use Rattle.page_state.specs.declared.entry.Entry.TheVariants.{Unmapped}
 use Rattle.page_state.specs.EntryTests.{is_in, is_free_page, is_unmapped, entry_frame, leaf}
 use Rattle.page_state.specs.Layouts.{hyp_page}
-use Rattle.reference_model.specs.model.Parts.{uses_vms}
-use Rattle.reference_model.specs.model.Rules.{names}
+use Rattle.reference_model.specs.model.Parts.{uses_vms, uses_shared}
+use Rattle.reference_model.specs.model.Rules.{names, guest_slot}
 use Rattle.reference_model.specs.model.SharedRules.{is_plain}
-use Rattle.reference_model.specs.model.State.{Vms, Shared, Guest, Contents, Rooms, no_slot, no_guest}
+use Rattle.reference_model.specs.model.State.{Vms, Shared, Guest, Cpu, Contents, Rooms, no_slot, no_guest}
 use Rattle.reference_model.specs.model.Step.{stored}
 use Rattle.reference_model.specs.model.Used.{Used, put_back, put_rooms, rooms_of as used_rooms_of, used_of}
 use Rattle.call_table.specs.declared.step.Step.{Step}
 use Rattle.ghost_spec.specs.declared.lists.GhostLists.{GhostLists}
 use Rattle.ghost_spec.specs.declared.parts.GhostGuest.{GhostGuest}
 use Rattle.ghost_spec.specs.declared.parts.GhostSlot.{GhostSlot}
+use Rattle.ghost_spec.specs.declared.step_uses.StepUses.{StepUses}
 use Rattle.ghost_spec.specs.declared.used.GhostUsed.{GhostUsed}
-use Rattle.ghost_spec.specs.Kept.{IsKeptShared, IsKeptGuest, IsKeptCpu}
+use Rattle.ghost_spec.specs.Kept.{IsKeptShared, IsKeptGuest, IsKeptCpu, IsLowSlot}
 use Rattle.ghost_spec.specs.States.{contents_in, slot_in, guest_in}
 use Rattle.ghost_spec.specs.Views.{cpu_in, shared_in_lists}
+
+-- a step on the Shared part and a guest; on neither if no slot is found
+abbrev pub both_uses : Step → Option ℕ → StepUses
+both_uses step slot =
+    record { step = step; slot = slot; has_vms = false; has_shared = is_some slot }
+
+-- a step on a guest alone, if a slot is found
+abbrev pub guest_uses : Step → Option ℕ → StepUses
+guest_uses step slot = record { step = step; slot = slot; has_vms = false; has_shared = false }
+
+-- the parts are those that the step uses, if its slot is the one that was found
+pub record AreUsed (u : StepUses) : Type 0 where
+  pub vms : u.has_vms ≡ uses_vms (names u.step)
+  pub shared : u.has_shared ≡ uses_shared (names u.step) u.slot
+  pub low : IsLowSlot u.slot
+
+-- the parts that a step of a CPU uses
+pub record IsUsesOf (k : Cpu) (step : Step) (u : StepUses) : Type 0 where
+  pub asked : u.step ≡ step
+  pub slot : u.slot ≡ guest_slot k u.step
+  pub used : AreUsed u
 
 -- the VM part; past the list's end slots are Empty
 abbrev pub vms_in : List GhostSlot → Vms

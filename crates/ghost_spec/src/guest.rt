@@ -10,9 +10,9 @@ ghost use Rattle.ghost_spec.specs.Changed.{mapped_guest};
 ghost use Rattle.ghost_spec.specs.Kept.{IsKeptGuest, IsSmallChange, IsSmallPart};
 ghost use Rattle.ghost_spec.specs.States.{guest_in};
 
-use crate::boot::{frames_from, root_tree};
 use crate::parts::{GhostGuest, GhostPhase};
 use crate::shared::{behind, edit, needed};
+use crate::shared_at_boot::{frames_from, root_tree};
 use call_table::VmKind;
 use ghost_trees::pool::give_all;
 use page_state::PageRange;

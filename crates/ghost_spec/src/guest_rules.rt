@@ -27,8 +27,8 @@ use crate::leaves::{annotation, hyp_page, is_free_page, is_in, is_unmapped, leaf
 use crate::parts::{GhostGuest, GhostPhase};
 use crate::rules::{change, host_entry};
 use crate::shared::Shared;
+use crate::step_uses::{ticket_kind, ticket_vm};
 use crate::used::GhostUsed;
-use crate::uses::{ticket_kind, ticket_vm};
 use call_table::{Refusal, Value, VmId, VmKind};
 use ghost_trees::runs::at;
 use ghost_trees::tree::{Tree, table_at};

@@ -2,8 +2,6 @@
 #![tactic(auto)]
 
 mod answer;
-pub mod boot;
-mod both;
 pub mod cpu;
 mod decide;
 pub mod filled;
@@ -12,13 +10,15 @@ mod guest;
 mod guest_rules;
 mod leaves;
 pub mod lists;
+mod pair;
 pub mod parts;
 pub mod rows;
 mod rules;
 pub mod shared;
+pub mod shared_at_boot;
 pub mod start;
 pub mod state;
+mod step_uses;
 mod used;
-mod uses;
 mod vm_rules;
 mod vms;

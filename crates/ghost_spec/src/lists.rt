@@ -4,14 +4,14 @@ ghost use Rattle.page_state.specs.LayoutView.{layout_of};
 ghost use Rattle.reference_model.specs.model.Step.{predict_step};
 
 use crate::answer::answer;
-use crate::both::both;
 use crate::cpu::GhostCpu;
+use crate::pair::both;
 use crate::parts::{GhostGuest, GhostSlot, copied_guests, copied_slots};
 use crate::shared::Shared;
+use crate::step_uses::{StepUses, uses};
 use crate::used::{
     GhostUsed, put_guest, put_shared, put_vms, store_in, take_guest, take_shared, used_vms,
 };
-use crate::uses::{guest_slot, uses_shared, uses_vms};
 use call_table::{Refusal, Reply, Step};
 use page_state::Layout;
 use std::alloc::{AllocError, Global};
@@ -121,9 +121,10 @@ impl GhostLists {
       rooms_of as rooms_of_state,
     };
     ghost use Rattle.std.specs.Prelude.{length, true};
-    ghost use Rattle.ghost_spec.specs.Kept.{HasNextGeneration, IsLowSlot};
+    ghost use Rattle.ghost_spec.specs.Kept.{HasNextGeneration};
     ghost use Rattle.ghost_spec.specs.States.{contents_in, ghost_state, IsKept};
     ghost use Rattle.ghost_spec.specs.Used.{
+      AreUsed,
       IsKeptUsed,
       IsSameElsewhere,
       IsTaken,
@@ -158,17 +159,17 @@ impl GhostLists {
     }
 
     /// Whether a log that would store a call is full.
-    fn is_full(&self, cpu: usize, step: Step, slot: Option<u64>) -> bool
+    fn is_full(&self, cpu: usize, uses: StepUses) -> bool
         requires cpu { cpu < length self.now.rooms.cpus.items }
         requires guests { length self.now.rooms.guests.items ≡ 64 }
-        requires slot { IsLowSlot slot }
+        requires uses { AreUsed uses }
         ensures { result
-            ≡ is_full_of (names step) slot
-            (rooms_of_state (names step) slot cpu (ghost_state self.now).rooms) }
+            ≡ is_full_of (names uses.step) uses.slot
+            (rooms_of_state (names uses.step) uses.slot cpu (ghost_state self.now).rooms) }
     {
-        let is_vms_full = is_used_full(uses_vms(step), self.rooms.vms);
-        let is_shared_full = is_used_full(uses_shared(step, slot), self.rooms.shared);
-        let is_guest_full = is_guest_full(self.rooms.guests.as_slice(), slot);
+        let is_vms_full = is_used_full(uses.has_vms, self.rooms.vms);
+        let is_shared_full = is_used_full(uses.has_shared, self.rooms.shared);
+        let is_guest_full = is_guest_full(self.rooms.guests.as_slice(), uses.slot);
         is_any(
             self.rooms.cpus[cpu] == 0,
             is_vms_full,
@@ -178,39 +179,34 @@ impl GhostLists {
     }
 
     /// Takes the parts that a call uses out, and leaves blank ones.
-    fn take(
-        &mut self,
-        alloc: Global,
-        cpu: usize,
-        step: Step,
-        slot: Option<u64>,
-    ) -> Result<GhostUsed, AllocError>
+    fn take(&mut self, alloc: Global, cpu: usize, uses: StepUses) -> Result<GhostUsed, AllocError>
         requires cpu { cpu < length self.old.cpus.items }
         requires kept { IsKept self.old }
-        requires slot { IsLowSlot slot }
-        ensures taken { IfOk result (IsTaken step slot cpu self.old) }
-        ensures others { OnOk result (IsSameElsewhere step slot cpu (contents_in self.old) (contents_in self.new)) }
+        requires uses { AreUsed uses }
+        ensures taken { IfOk result (IsTaken uses.step uses.slot cpu self.old) }
+        ensures others { OnOk result
+            (IsSameElsewhere uses.step uses.slot cpu (contents_in self.old) (contents_in self.new)) }
         ensures layout { self.new.layout ≡ self.old.layout }
         ensures rooms { self.new.rooms ≡ self.old.rooms }
         ensures left { OnOk result (IsKept self.new) }
     {
         Ok(GhostUsed {
-            vms: used_vms(alloc, self.vms.as_slice(), step)?,
-            shared: take_shared(alloc, &mut self.shared, step, slot),
-            guest: take_guest(alloc, &mut self.guests, slot),
+            vms: used_vms(alloc, self.vms.as_slice(), uses.has_vms)?,
+            shared: take_shared(alloc, &mut self.shared, uses.has_shared),
+            guest: take_guest(alloc, &mut self.guests, uses.slot),
             own: self.cpus[cpu],
         })
     }
 
     /// Puts the parts that a call used back.
-    fn put_back(&mut self, cpu: usize, step: Step, slot: Option<u64>, used: GhostUsed)
+    fn put_back(&mut self, cpu: usize, uses: StepUses, used: GhostUsed)
         requires cpu { cpu < length self.old.cpus.items }
         requires kept { IsKept self.old }
         requires used { IsKeptUsed used }
-        requires slot { IsLowSlot slot }
-        requires count { uses_vms_of (names step) ≡ true → length used.vms.items ≡ 64 }
+        requires uses { AreUsed uses }
+        requires count { uses_vms_of (names uses.step) ≡ true → length used.vms.items ≡ 64 }
         ensures contents { contents_in self.new
-            ≡ put_back_of (names step) slot cpu (contents_in self.old) (used_in used) }
+            ≡ put_back_of (names uses.step) uses.slot cpu (contents_in self.old) (used_in used) }
         ensures layout { self.new.layout ≡ self.old.layout }
         ensures rooms { self.new.rooms ≡ self.old.rooms }
         ensures kept { IsKept self.new }
@@ -221,25 +217,26 @@ impl GhostLists {
             guest,
             own,
         } = used;
-        put_vms(&mut self.vms, vms, step);
-        put_shared(&mut self.shared, shared, step, slot);
-        put_guest(&mut self.guests, guest, slot);
+        put_vms(&mut self.vms, vms, uses.has_vms);
+        put_shared(&mut self.shared, shared, uses.has_shared);
+        put_guest(&mut self.guests, guest, uses.slot);
         self.cpus[cpu] = own;
     }
 
     /// Stores a call.
-    fn store(&mut self, cpu: usize, step: Step, slot: Option<u64>)
+    fn store(&mut self, cpu: usize, uses: StepUses)
         requires cpu { cpu < length self.old.rooms.cpus.items }
         requires kept { IsKept self.old }
-        requires slot { IsLowSlot slot }
+        requires uses { AreUsed uses }
         ensures contents { contents_in self.new ≡ contents_in self.old }
-        ensures rooms { (ghost_state self.new).rooms ≡ rooms_after step slot cpu (ghost_state self.old).rooms }
+        ensures rooms { (ghost_state self.new).rooms
+            ≡ rooms_after uses.step uses.slot cpu (ghost_state self.old).rooms }
         ensures layout { self.new.layout ≡ self.old.layout }
         ensures kept { IsKept self.new }
     {
-        self.rooms.vms = left_of(self.rooms.vms, uses_vms(step));
-        self.rooms.shared = left_of(self.rooms.shared, uses_shared(step, slot));
-        store_in(&mut self.rooms.guests, slot);
+        self.rooms.vms = left_of(self.rooms.vms, uses.has_vms);
+        self.rooms.shared = left_of(self.rooms.shared, uses.has_shared);
+        store_in(&mut self.rooms.guests, uses.slot);
         self.rooms.cpus[cpu] = left_of(self.rooms.cpus[cpu], true);
     }
 
@@ -261,17 +258,17 @@ impl GhostLists {
         ensures kept { OnOk result (IsKept self.new) }
     {
         let place = cpu as usize;
-        let slot = guest_slot(&self.cpus[place], step);
-        if self.is_full(place, step, slot) {
+        let uses = uses(&self.cpus[place], step);
+        if self.is_full(place, uses) {
             return Ok(Reply::Refused(Refusal::LogFull));
         }
-        let mut used = self.take(alloc, place, step, slot)?;
-        let Ok(reply) = answer(alloc, &self.layout, cpu, slot, &mut used, step) else {
+        let mut used = self.take(alloc, place, uses)?;
+        let Ok(reply) = answer(alloc, &self.layout, cpu, uses.slot, &mut used, uses.step) else {
             drop(used);
             return Err(AllocError);
         };
-        self.put_back(place, step, slot, used);
-        self.store(place, step, slot);
+        self.put_back(place, uses, used);
+        self.store(place, uses);
         Ok(reply)
     }
 }

@@ -4,7 +4,7 @@ ghost use Rattle.page_state.specs.Tables.{need as need_of, returned as returned_
 ghost use Rattle.reference_model.specs.model.Changes.{edit_of};
 ghost use Rattle.reference_model.specs.model.Step.{shared_after, shared_need};
 
-use crate::both::both;
+use crate::pair::both;
 use crate::rows::copied_rows;
 use ghost_trees::pool::give_all;
 use ghost_trees::tree::{self, Tree};

@@ -8,13 +8,13 @@ ghost use Rattle.ghost_spec.specs.States.{ghost_state, AreKeptCpus};
 ghost use Rattle.ghost_spec.specs.Views.{cpu_in, shared_in_lists};
 
 use crate::answer::depth;
-use crate::boot;
-use crate::both::both;
 use crate::cpu::GhostCpu;
 use crate::lists::{GhostLists, GhostRooms};
+use crate::pair::both;
 use crate::parts::{empty_guests, empty_slots};
 use crate::rows::find_all;
 use crate::shared::Shared;
+use crate::shared_at_boot;
 use crate::state::Ghost;
 use page_state::{Config, Layout};
 use std::alloc::{AllocError, Global};
@@ -71,7 +71,8 @@ fn shared_at_boot(alloc: Global, layout: &Layout) -> Result<Option<Shared>, Allo
         (λ o. IfSome o (λ s. shared_in_lists s ≡ (booted (layout_of layout.now)).shared)) }
     ensures kept { IfOk result (λ o. IfSome o IsKeptShared) }
 {
-    let Some(mut shared) = boot::boot(alloc, &layout.map, layout.config, depth(layout))? else {
+    let Some(mut shared) = shared_at_boot::boot(alloc, &layout.map, layout.config, depth(layout))?
+    else {
         return Ok(None);
     };
     let Ok(()) = find_all(alloc, layout, &mut shared) else {

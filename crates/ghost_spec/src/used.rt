@@ -1,7 +1,5 @@
 //! The parts that a call uses, on lists.
 ghost use Rattle.std.specs.Prelude.{◌≡◌, ℕ, ◌-◌, IfOk, if◌then◌else◌, length, false, true};
-ghost use Rattle.reference_model.specs.model.Parts.{uses_shared as uses_shared_of, uses_vms as uses_vms_of};
-ghost use Rattle.reference_model.specs.model.Rules.{names};
 ghost use Rattle.reference_model.specs.model.State.{no_shared, no_vms, Guest};
 ghost use Rattle.reference_model.specs.model.Used.{guest_at, put_guest as put_guest_of, put_room, room_at};
 ghost use Rattle.ghost_spec.specs.Kept.{IsKeptGuest, IsKeptShared, IsLowSlot};
@@ -12,8 +10,6 @@ ghost use Rattle.ghost_spec.specs.Views.{shared_in_lists};
 use crate::cpu::GhostCpu;
 use crate::parts::{GhostGuest, GhostSlot, copied_slots};
 use crate::shared::Shared;
-use crate::uses::{uses_shared, uses_vms};
-use call_table::Step;
 use std::alloc::{AllocError, Global};
 use std::mem;
 
@@ -30,13 +26,12 @@ pub(crate) struct GhostUsed {
 pub(crate) fn used_vms(
     alloc: Global,
     vms: &[GhostSlot],
-    step: Step,
+    is_used: bool,
 ) -> Result<Vec<GhostSlot>, AllocError>
-    ensures vms { IfOk result
-        (λ v. vms_in v.items ≡ (if uses_vms_of (names step) then vms_in vms.now else no_vms)) }
-    ensures count { uses_vms_of (names step) ≡ true → IfOk result (λ v. length v.items ≡ length vms.now) }
+    ensures vms { IfOk result (λ v. vms_in v.items ≡ (if is_used then vms_in vms.now else no_vms)) }
+    ensures count { is_used ≡ true → IfOk result (λ v. length v.items ≡ length vms.now) }
 {
-    if uses_vms(step) {
+    if is_used {
         copied_slots(alloc, vms)
     } else {
         Ok(Vec::new(alloc))
@@ -44,20 +39,14 @@ pub(crate) fn used_vms(
 }
 
 /// The Shared part is taken out if a call uses it, otherwise left: the taken one is blank then.
-pub(crate) fn take_shared(
-    alloc: Global,
-    shared: &mut Shared,
-    step: Step,
-    slot: Option<u64>,
-) -> Shared
+pub(crate) fn take_shared(alloc: Global, shared: &mut Shared, is_used: bool) -> Shared
     requires { IsKeptShared shared.old }
-    ensures shared { shared_in_lists result
-        ≡ (if uses_shared_of (names step) slot then shared_in_lists shared.old else no_shared) }
+    ensures shared { shared_in_lists result ≡ (if is_used then shared_in_lists shared.old else no_shared) }
     ensures kept { IsKeptShared result }
-    ensures stays { uses_shared_of (names step) slot ≡ false → shared.new ≡ shared.old }
+    ensures stays { is_used ≡ false → shared.new ≡ shared.old }
     ensures left { IsKeptShared shared.new }
 {
-    if uses_shared(step, slot) {
+    if is_used {
         mem::replace(shared, Shared::none(alloc))
     } else {
         Shared::none(alloc)
@@ -88,27 +77,25 @@ pub(crate) fn take_guest(
 }
 
 /// The slots after a call that may use them.
-pub(crate) fn put_vms(vms: &mut Vec<GhostSlot>, new: Vec<GhostSlot>, step: Step)
-    ensures vms { vms_in vms.new.items
-        ≡ (if uses_vms_of (names step) then vms_in new.items else vms_in vms.old.items) }
-    ensures count { (uses_vms_of (names step) ≡ true → length new.items ≡ length vms.old.items)
+pub(crate) fn put_vms(vms: &mut Vec<GhostSlot>, new: Vec<GhostSlot>, is_used: bool)
+    ensures vms { vms_in vms.new.items ≡ (if is_used then vms_in new.items else vms_in vms.old.items) }
+    ensures count { (is_used ≡ true → length new.items ≡ length vms.old.items)
         → length vms.new.items ≡ length vms.old.items }
 {
-    if uses_vms(step) {
+    if is_used {
         *vms = new;
     }
 }
 
 /// The Shared part after a call that may use it.
-pub(crate) fn put_shared(shared: &mut Shared, new: Shared, step: Step, slot: Option<u64>)
+pub(crate) fn put_shared(shared: &mut Shared, new: Shared, is_used: bool)
     requires kept { IsKeptShared shared.old }
     requires new { IsKeptShared new }
     ensures shared { shared_in_lists shared.new
-        ≡ (if uses_shared_of (names step) slot then shared_in_lists new
-        else shared_in_lists shared.old) }
+        ≡ (if is_used then shared_in_lists new else shared_in_lists shared.old) }
     ensures kept { IsKeptShared shared.new }
 {
-    if uses_shared(step, slot) {
+    if is_used {
         *shared = new;
     }
 }

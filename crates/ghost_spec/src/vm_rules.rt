@@ -15,8 +15,8 @@ ghost use Rattle.ghost_spec.specs.Views.{cpu_in};
 
 use crate::cpu::GhostCpu;
 use crate::parts::{GhostSlot, GhostStand};
+use crate::step_uses::{has_stage, ticket_vm};
 use crate::used::GhostUsed;
-use crate::uses::{has_stage, ticket_vm};
 use call_table::{Refusal, Value, VmId, VmKind};
 use reference_model::{Changes, CpuChange, Loaded, SlotChange, Stage, Ticket, Update};
 

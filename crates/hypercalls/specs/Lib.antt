@@ -5,3 +5,4 @@ pub mod Steps
 pub mod Uses
 pub mod Wants
 pub mod Whole
+pub mod inner

@@ -2,12 +2,67 @@
 ghost use Rattle.std.specs.Prelude.{◌≡◌};
 ghost use Rattle.part_types.specs.View.{cpu_of};
 ghost use Rattle.hypercalls.specs.Uses.{uses_of};
+ghost use Rattle.hypercalls.specs.inner.Named.{names_by, slot_by, slot_for};
 ghost use Rattle.reference_model.specs.model.Parts.{slot_of as slot_of_vm, ticket_slot as ticket_slot_of, uses_shared as uses_shared_part, uses_vms as uses_vm_part};
 ghost use Rattle.reference_model.specs.model.Rules.{guest_slot as guest_slot_of, names};
+ghost use Rattle.reference_model.specs.model.State.{Cpu};
 
 use call_table::{Step, VmId};
 use part_types::CpuState;
 use reference_model::Stage;
+
+/// How a step finds the slot of its guest: by its VM, by the vCPU that its CPU has loaded, or by its CPU's ticket of a
+/// stage.
+#[derive(Clone, Copy)]
+enum GuestBy {
+    Vm(VmId),
+    Loaded,
+    Ticket(Stage),
+}
+
+/// What a step names: the Shared part, a Guest part, or both, or the VM part, also by a VM.
+#[derive(Clone, Copy)]
+enum Named {
+    Shared,
+    SharedAndGuest(GuestBy),
+    Guest(GuestBy),
+    Vms,
+    VmsOf(VmId),
+}
+
+/// What a step names.
+fn names_of(step: Step) -> Named
+    ensures parts { names_by result ≡ names step }
+    ensures guest { (k : Cpu) → slot_by k result ≡ guest_slot_of k step }
+{
+    match step {
+        Step::ShareHyp { .. }
+        | Step::UnshareHyp { .. }
+        | Step::DonateHyp { .. }
+        | Step::HypDonateHost { .. }
+        | Step::HostAbort { .. }
+        | Step::HostTranslate { .. }
+        | Step::HypTranslate { .. }
+        | Step::OwnerOf { .. }
+        | Step::Fund { .. }
+        | Step::Unfund => Named::Shared,
+        Step::ShareGuest { .. }
+        | Step::DonateGuest { .. }
+        | Step::GuestShareHost { .. }
+        | Step::GuestUnshareHost { .. } => Named::SharedAndGuest(GuestBy::Loaded),
+        Step::UnshareGuest { vm, .. }
+        | Step::Topup { vm }
+        | Step::ReclaimPage { vm, .. }
+        | Step::ReclaimPool { vm } => Named::SharedAndGuest(GuestBy::Vm(vm)),
+        Step::Install => Named::SharedAndGuest(GuestBy::Ticket(Stage::Booked)),
+        Step::FinishGuest => Named::SharedAndGuest(GuestBy::Ticket(Stage::Dying)),
+        Step::GuestRelax { .. } => Named::Guest(GuestBy::Loaded),
+        Step::GuestTranslate { vm, .. } => Named::Guest(GuestBy::Vm(vm)),
+        Step::MarkDying => Named::Guest(GuestBy::Ticket(Stage::Closing)),
+        Step::VmReserve { .. } | Step::VmOpen | Step::VcpuPut | Step::VmRelease => Named::Vms,
+        Step::VcpuLoad { vm, .. } | Step::Teardown { vm } => Named::VmsOf(vm),
+    }
+}
 
 /// The slot of a VM if it is below 64, else None.
 fn slot_of(vm: VmId) -> Option<u64>
@@ -32,26 +87,14 @@ fn ticket_slot(stage: Stage, cpu: &CpuState) -> Option<u64>
     }
 }
 
-/// The slot of the Guest part that a step of the CPU uses: that of its VM, or of the CPU's loaded vCPU or ticket. None
-/// if it uses none.
-pub fn guest_slot(cpu: &CpuState, step: Step) -> Option<u64>
-    ensures { result ≡ guest_slot_of (cpu_of cpu.now) step }
+/// The slot of the guest that a step of the CPU finds. None if there is none.
+fn guest_slot(cpu: &CpuState, by: GuestBy) -> Option<u64>
+    ensures { result ≡ slot_for (cpu_of cpu.now) by }
 {
-    match step {
-        Step::ShareGuest { .. }
-        | Step::DonateGuest { .. }
-        | Step::GuestShareHost { .. }
-        | Step::GuestUnshareHost { .. }
-        | Step::GuestRelax { .. } => cpu.loaded.map(|loaded| loaded.vm.slot),
-        Step::UnshareGuest { vm, .. }
-        | Step::Topup { vm }
-        | Step::ReclaimPage { vm, .. }
-        | Step::ReclaimPool { vm }
-        | Step::GuestTranslate { vm, .. } => slot_of(vm),
-        Step::Install => ticket_slot(Stage::Booked, cpu),
-        Step::MarkDying => ticket_slot(Stage::Closing, cpu),
-        Step::FinishGuest => ticket_slot(Stage::Dying, cpu),
-        _ => None,
+    match by {
+        GuestBy::Vm(vm) => slot_of(vm),
+        GuestBy::Loaded => cpu.loaded.map(|loaded| loaded.vm.slot),
+        GuestBy::Ticket(stage) => ticket_slot(stage, cpu),
     }
 }
 
@@ -59,9 +102,9 @@ pub fn guest_slot(cpu: &CpuState, step: Step) -> Option<u64>
 pub fn uses_vms(step: Step) -> bool
     ensures { result ≡ uses_vm_part (names step) }
 {
-    match step {
-        Step::VmReserve { .. } | Step::VmOpen | Step::VcpuPut | Step::VmRelease => true,
-        Step::VcpuLoad { vm, .. } | Step::Teardown { vm } => vm.slot < 64,
+    match names_of(step) {
+        Named::Vms => true,
+        Named::VmsOf(vm) => vm.slot < 64,
         _ => false,
     }
 }
@@ -70,27 +113,9 @@ pub fn uses_vms(step: Step) -> bool
 pub fn uses_shared(step: Step, slot: Option<u64>) -> bool
     ensures { result ≡ uses_shared_part (names step) slot }
 {
-    match step {
-        Step::ShareHyp { .. }
-        | Step::UnshareHyp { .. }
-        | Step::DonateHyp { .. }
-        | Step::HypDonateHost { .. }
-        | Step::HostAbort { .. }
-        | Step::HostTranslate { .. }
-        | Step::HypTranslate { .. }
-        | Step::OwnerOf { .. }
-        | Step::Fund { .. }
-        | Step::Unfund => true,
-        Step::ShareGuest { .. }
-        | Step::UnshareGuest { .. }
-        | Step::DonateGuest { .. }
-        | Step::GuestShareHost { .. }
-        | Step::GuestUnshareHost { .. }
-        | Step::Install
-        | Step::Topup { .. }
-        | Step::ReclaimPage { .. }
-        | Step::ReclaimPool { .. }
-        | Step::FinishGuest => slot.is_some(),
+    match names_of(step) {
+        Named::Shared => true,
+        Named::SharedAndGuest(_) => slot.is_some(),
         _ => false,
     }
 }
@@ -110,22 +135,20 @@ pub enum UsedParts {
 pub fn uses(cpu: &CpuState, step: &Step) -> UsedParts
     ensures { result ≡ uses_of (cpu_of cpu.now) step.now }
 {
-    let slot = guest_slot(cpu, *step);
-    if uses_vms(*step) {
-        return UsedParts::Vms;
-    }
-    let shared = uses_shared(*step, slot);
-    match slot {
-        Some(v) => {
-            if shared {
-                UsedParts::Both(v)
-            } else {
-                UsedParts::Guest(v)
-            }
-        }
-        None => {
-            if shared {
-                UsedParts::Shared
+    match names_of(*step) {
+        Named::Shared => UsedParts::Shared,
+        Named::SharedAndGuest(by) => match guest_slot(cpu, by) {
+            Some(v) => UsedParts::Both(v),
+            None => UsedParts::Nothing,
+        },
+        Named::Guest(by) => match guest_slot(cpu, by) {
+            Some(v) => UsedParts::Guest(v),
+            None => UsedParts::Nothing,
+        },
+        Named::Vms => UsedParts::Vms,
+        Named::VmsOf(vm) => {
+            if vm.slot < 64 {
+                UsedParts::Vms
             } else {
                 UsedParts::Nothing
             }

@@ -1,20 +1,20 @@
 -- An object of a line nests no other.
 use Rattle.std.proofs.Common.{◌≡◌, ℕ, List, [], ◌∷◌, Option, Some, None, Bool, true, false, drop, length, option_map, refl, ap, subst, suc}
-use Rattle.std.specs.Prelude.{⊤, codes, unwrap_or, if◌then◌else◌}
+use Rattle.std.specs.Prelude.{⊤, negsuc, codes, unwrap_or, if◌then◌else◌}
 use Rattle.std.specs.Ordering.{match_ordering, nat_cmp}
 use Rattle.std.specs.Cmp.Lexicographic.{slice_cmp}
-use Rattle.std.specs.Str.{is_utf8}
+use Rattle.std.specs.Str.{bytes_eq, is_utf8}
 use Rattle.std.specs.declared.cmp.Ordering.{Ordering}
 use Rattle.std.specs.declared.cmp.Ordering.TheVariants.{Less, Equal, Greater}
 use Rattle.std.proofs.lemmas.Option.{option_and_then_some}
-use Rattle.serde_json.specs.Data.{Data, Members, member, no_members, number, unsigned, string, object, depth, members_depth, put}
+use Rattle.serde_json.specs.Data.{Data, Members, member, no_members, number, unsigned, negative, string, object, depth, members_depth, put}
 use Rattle.hex.specs.Hex.{encode_lower}
 use Rattle.trace_words.specs.Numbers.{decimal_of}
 use Rattle.report_json.specs.declared.forms.Field.{Field}
 use Rattle.report_json.specs.declared.forms.Form.{Form}
 use Rattle.report_json.specs.declared.forms.Kind.{Kind}
-use Rattle.report_json.specs.declared.forms.Kind.TheVariants.{Number, Hexadecimal, Word, OneOf, Text}
-use Rattle.report_json.specs.Forms.{bytes_object, cut, data_of, datum, filled, form_object, has_kind, object_of, text_data}
+use Rattle.report_json.specs.declared.forms.Kind.TheVariants.{Number, Level, Hexadecimal, Word, OneOf, Text}
+use Rattle.report_json.specs.Forms.{bytes_object, cut, data_of, datum, filled, form_object, has_kind, number_data, object_of, text_data}
 
 some_is : {X : Type 0} {x y : X} → Some x ≡ Some y → x ≡ y
 some_is h = cc
@@ -52,9 +52,19 @@ map_some f (Some x) y h = (x, refl, some_is h)
 text_flat : (text : List ℕ) (d : Data) → text_data text ≡ Some d → depth d ≡ 0
 text_flat text d h = subst (λ x. depth x ≡ 0) (some_is (if_some (is_utf8 text) (Some (string text)) d h)) refl
 
-datum_flat : (kind : Kind) (text : List ℕ) (d : Data) → datum kind text ≡ Some d → depth d ≡ 0
-datum_flat Number text d h =
+number_flat : (text : List ℕ) (d : Data) → number_data text ≡ Some d → depth d ≡ 0
+number_flat text d h =
     subst (λ x. depth x ≡ 0) (map_some (λ value. number (unsigned value)) (decimal_of text) d h).2 refl
+
+level_flat : (below : Bool) (text : List ℕ) (d : Data)
+    → (if below then Some (number (negative (negsuc 0))) else number_data text) ≡ Some d
+    → depth d ≡ 0
+level_flat true text d h = subst (λ x. depth x ≡ 0) (some_is h) refl
+level_flat false text d h = number_flat text d h
+
+datum_flat : (kind : Kind) (text : List ℕ) (d : Data) → datum kind text ≡ Some d → depth d ≡ 0
+datum_flat Number text d h = number_flat text d h
+datum_flat Level text d h = level_flat (bytes_eq text (codes "-1")) text d h
 datum_flat Hexadecimal text d h = text_flat text d h
 datum_flat Word text d h = text_flat text d h
 datum_flat (OneOf words) text d h = text_flat text d h

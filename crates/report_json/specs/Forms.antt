@@ -1,15 +1,15 @@
 -- The object of a line, by the forms that lines have.
-use Rattle.std.specs.Prelude.{ℕ, ◌+◌, ◌^◌, Bool, true, false, ◌&&◌, not, nat_lt, ◌==◌, nat_eq, List, [], ◌∷◌, length, take, drop, codes, Option, Some, None, is_some, option_map, option_and_then, unwrap_or, if◌then◌else◌}
+use Rattle.std.specs.Prelude.{ℕ, ◌+◌, ◌^◌, Bool, true, false, ◌&&◌, ◌||◌, not, negsuc, nat_lt, ◌==◌, nat_eq, List, [], ◌∷◌, length, take, drop, codes, Option, Some, None, is_some, option_map, option_and_then, unwrap_or, if◌then◌else◌}
 use Rattle.std.specs.List.{list_any, starts_with}
 use Rattle.std.specs.Str.{bytes_eq, is_utf8}
 use Rattle.hex.specs.Hex.{encode_lower}
 use Rattle.memchr.specs.Find.{first_of, matches}
-use Rattle.serde_json.specs.Data.{Data, Members, number, unsigned, string, object, no_members, put}
+use Rattle.serde_json.specs.Data.{Data, Members, number, unsigned, negative, string, object, no_members, put}
 use Rattle.trace_words.specs.Numbers.{decimal_of, number_of}
 use Rattle.report_json.specs.declared.forms.Field.{Field}
 use Rattle.report_json.specs.declared.forms.Form.{Form}
 use Rattle.report_json.specs.declared.forms.Kind.{Kind}
-use Rattle.report_json.specs.declared.forms.Kind.TheVariants.{Number, Hexadecimal, Word, OneOf, Text}
+use Rattle.report_json.specs.declared.forms.Kind.TheVariants.{Number, Level, Hexadecimal, Word, OneOf, Text}
 
 -- the bytes before the first place of a text, and those after it; all bytes if it is empty
 abbrev pub cut : List ℕ → List ℕ → Option (List ℕ × List ℕ)
@@ -29,6 +29,7 @@ is_word text = not (length text == 0) && not (list_any (λ byte. byte == 0x20) t
 -- a text is of a kind
 abbrev pub has_kind : Kind → List ℕ → Bool
 has_kind Number text = is_exact text
+has_kind Level text = bytes_eq text (codes "-1") || is_exact text
 has_kind Hexadecimal text = starts_with nat_eq text (codes "0x") && is_some (number_of text)
 has_kind Word text = is_word text
 has_kind (OneOf words) text = list_any (λ word. bytes_eq word.now text) words.now
@@ -38,9 +39,19 @@ has_kind Text text = true
 abbrev pub text_data : List ℕ → Option Data
 text_data text = if is_utf8 text then Some (string text) else None
 
+-- the number of a text in decimal
+abbrev pub number_data : List ℕ → Option Data
+number_data text = option_map (λ value. number (unsigned value)) (decimal_of text)
+
+-- and of a level
+abbrev pub level_data : List ℕ → Option Data
+level_data text =
+    if bytes_eq text (codes "-1") then Some (number (negative (negsuc 0))) else number_data text
+
 -- what a text of a kind is
 abbrev pub datum : Kind → List ℕ → Option Data
-datum Number text = option_map (λ value. number (unsigned value)) (decimal_of text)
+datum Number text = number_data text
+datum Level text = level_data text
 datum Hexadecimal text = text_data text
 datum Word text = text_data text
 datum (OneOf words) text = text_data text

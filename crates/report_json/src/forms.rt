@@ -3,8 +3,10 @@
 /// The kind of a field's text.
 #[derive(Clone, Copy)]
 pub enum Kind {
-    /// A decimal number below 2^53, which each reader of JSON keeps exactly. It becomes a number, all else a string.
+    /// A decimal number below 2^53, which each reader of JSON keeps exactly. It becomes a number, all that isn't one a string.
     Number,
+    /// Such a number, or -1, which become numbers.
+    Level,
     /// `0x` and 1 to 16 hexadecimal digits.
     Hexadecimal,
     /// One or more bytes without a space.

@@ -1,5 +1,5 @@
 //! The forms of the lines of each report. A line is of the first form that it has.
-use crate::forms::Kind::{Hexadecimal, Number, OneOf, Text, Word};
+use crate::forms::Kind::{Hexadecimal, Level, Number, OneOf, Text, Word};
 use crate::forms::{Field, Form};
 
 /// A form: what `type` says, the line's start, and each field's name, kind and stop.
@@ -41,7 +41,12 @@ const VM: &[&str] = &["vm"];
 
 const SLOTS: &[&str] = &["guest", "vm"];
 
-const SLOTS_LEFT: &[&str] = &["guest_free", "vm"];
+const SLOTS_LEFT: &[&str] = &["guest_free", "guest_state"];
+
+const TABLE: &[&str] = &["table"];
+
+/// The trees of a kind of which there is one.
+const TREES: &[&str] = &["host", "hyp"];
 
 const CPU: &[&str] = &["cpu"];
 
@@ -52,7 +57,7 @@ const CLASHES: &[&str] = &["two-owners", "two-borrowers", "table-of-two"];
 
 const MAPPED: &[&str] = &["mapped-table"];
 
-const UNSHARED: &[&str] = &["no-borrower"];
+const UNSHARED: &[&str] = &["no-borrower", "unshared", "denied"];
 
 const BROKEN: &[&str] = &["malformed", "no-table"];
 
@@ -165,7 +170,79 @@ pub const REPORTS: &[Form] = &[
     form!(
         "disagree",
         "disagree ",
+        ["what", OneOf(TABLE), " "],
+        ["tree", OneOf(GUEST), " "],
+        ["slot", Number, " "],
+        ["height", Number, " "],
+        ["index", Hexadecimal, " post "],
+        ["post", Text, " spec "],
+        ["spec", Text, ""]
+    ),
+    form!(
+        "disagree",
+        "disagree ",
+        ["what", OneOf(TABLE), " "],
+        ["tree", OneOf(TREES), " "],
+        ["height", Number, " "],
+        ["index", Hexadecimal, " post "],
+        ["post", Text, " spec "],
+        ["spec", Text, ""]
+    ),
+    form!(
+        "disagree",
+        "disagree ",
         ["what", OneOf(SLOTS_LEFT), " "],
+        ["slot", Number, " post "],
+        ["post", Text, " spec "],
+        ["spec", Text, ""]
+    ),
+    form!(
+        "disagree",
+        "disagree ",
+        ["what", OneOf(POOL), " post "],
+        ["post", Text, " spec "],
+        ["spec", Text, ""]
+    ),
+    form!(
+        "disagree",
+        "disagree ",
+        ["what", OneOf(TABLE), " "],
+        ["tree", OneOf(GUEST), " "],
+        ["slot", Number, " "],
+        ["height", Number, " "],
+        ["index", Hexadecimal, " kept "],
+        ["kept", Text, " walked "],
+        ["walked", Text, ""]
+    ),
+    form!(
+        "disagree",
+        "disagree ",
+        ["what", OneOf(TABLE), " "],
+        ["tree", OneOf(TREES), " "],
+        ["height", Number, " "],
+        ["index", Hexadecimal, " kept "],
+        ["kept", Text, " walked "],
+        ["walked", Text, ""]
+    ),
+    form!(
+        "disagree",
+        "disagree ",
+        ["what", OneOf(SLOTS_LEFT), " "],
+        ["slot", Number, " kept "],
+        ["kept", Text, " walked "],
+        ["walked", Text, ""]
+    ),
+    form!(
+        "disagree",
+        "disagree ",
+        ["what", OneOf(POOL), " kept "],
+        ["kept", Text, " walked "],
+        ["walked", Text, ""]
+    ),
+    form!(
+        "disagree",
+        "disagree ",
+        ["what", OneOf(VM), " "],
         ["slot", Number, ""]
     ),
     form!(
@@ -174,7 +251,6 @@ pub const REPORTS: &[Form] = &[
         ["what", OneOf(CPU), " "],
         ["cpu", Number, ""]
     ),
-    form!("disagree", "disagree ", ["what", OneOf(POOL), ""]),
     form!("order", "order ", ["order", Text, ""]),
     form!(
         "end",
@@ -479,7 +555,7 @@ pub const DUMPS: &[Form] = &[
         "tree ",
         ["tree", Text, " root "],
         ["root", Hexadecimal, " level "],
-        ["level", Number, " pages "],
+        ["level", Level, " pages "],
         ["pages", Number, " tables "],
         ["tables", Number, " states "],
         ["states", Word, ""]
@@ -489,7 +565,7 @@ pub const DUMPS: &[Form] = &[
         "tree ",
         ["tree", Text, " root "],
         ["root", Hexadecimal, " level "],
-        ["level", Number, " pages "],
+        ["level", Level, " pages "],
         ["pages", Number, " tables "],
         ["tables", Number, ""]
     ),

@@ -1,15 +1,15 @@
 //! The values of fields.
-ghost use Rattle.std.specs.Prelude.{◌≡◌, IfOk, option_map};
+ghost use Rattle.std.specs.Prelude.{◌≡◌, IfOk, codes, option_map};
 ghost use Rattle.serde_json.specs.View.{view};
 ghost use Rattle.std.specs.List.{list_any};
 ghost use Rattle.std.specs.Str.{bytes_eq};
-ghost use Rattle.report_json.specs.Forms.{data_of, has_kind as has_kind_of, is_exact as is_exact_text, is_word as is_word_text, text_data};
+ghost use Rattle.report_json.specs.Forms.{data_of, has_kind as has_kind_of, is_exact as is_exact_text, is_word as is_word_text, level_data, number_data, text_data};
 
 use crate::forms::Kind;
 use serde_json::Value;
 use std::alloc::{AllocError, Global};
 use std::str::from_utf8;
-use trace_words::{decimal, number};
+use trace_words::{decimal, is_name, number};
 
 /// The least number that a reader of JSON may not keep exactly.
 const INEXACT: u64 = 1 << 53;
@@ -22,8 +22,34 @@ pub fn value_of(global: Global, kind: Kind, text: &[u8]) -> Result<Option<Value>
         return Ok(None);
     }
     match kind {
-        Kind::Number => Ok(decimal(text).map(|number| Value::from(number))),
+        Kind::Number => Ok(number_value(text)),
+        Kind::Level => Ok(level_value(text)),
         Kind::Hexadecimal | Kind::Word | Kind::OneOf(_) | Kind::Text => text_value(global, text),
+    }
+}
+
+/// The number that a text is in decimal.
+fn number_value(text: &[u8]) -> Option<Value>
+    ensures { option_map view result ≡ number_data text.now }
+{
+    decimal(text).map(|number| Value::from(number))
+}
+
+/// Whether a text is -1.
+fn is_below_zero(text: &[u8]) -> bool
+    ensures { result ≡ bytes_eq text.now (codes "-1") }
+{
+    is_name(text, b"-1")
+}
+
+/// The level that a text is.
+fn level_value(text: &[u8]) -> Option<Value>
+    ensures { option_map view result ≡ level_data text.now }
+{
+    if is_below_zero(text) {
+        Some(Value::from(-1i64))
+    } else {
+        number_value(text)
     }
 }
 
@@ -44,6 +70,7 @@ fn has_kind(kind: Kind, text: &[u8]) -> bool
 {
     match kind {
         Kind::Number => is_exact(text),
+        Kind::Level => is_below_zero(text) || is_exact(text),
         Kind::Hexadecimal => text.starts_with(b"0x") && number(text).is_some(),
         Kind::Word => is_word(text),
         Kind::OneOf(words) => is_one(words, text),

@@ -18,7 +18,7 @@ use ghost_oracle::raw::{RawGuest, Which};
 use std::alloc::{AllocError, Allocator, Global};
 use table_tree::Reads;
 use trace_lines::{Allows, Line, LineFault, Poke, TreeName, said};
-use trace_text::{Fault, Reported, Session, Stop};
+use trace_text::{Fault, NoOracle, Reported, Session, Stop};
 use world::{RawWorld, World};
 
 /// What is carried out of a trace: its steps and questions by a session, and its pokes on the world that they lead to.
@@ -82,7 +82,7 @@ impl<A: Allocator + Copy> Audit<A> {
     {
         match asked_poke(said) {
             Some(poke) => self.poke(poke),
-            None => self.session.carry_out_unasked(number, said),
+            None => self.session.carry_out(&mut NoOracle, number, said),
         }
     }
 

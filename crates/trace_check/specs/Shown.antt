@@ -22,6 +22,7 @@ abbrev pub shown : ReportLine → List ℕ
 shown (report.Response response) = shown_response response
 shown (report.Judged found) = text_of_judgement found
 shown (report.Audited found) = text_of_disagreement found
+shown (report.Illegal why) = text_of (report.Illegal why)
 shown (report.Fault line fault) = codes "fault " ++ text_of_fault fault
 shown (report.End steps disagreements) = text_of (report.End steps disagreements)
 
@@ -35,6 +36,7 @@ abbrev pub is_plain : ReportLine → Bool
 is_plain (report.Response response) = true
 is_plain (report.Judged found) = false
 is_plain (report.Audited found) = false
+is_plain (report.Illegal why) = false
 is_plain (report.Fault line fault) = false
 is_plain (report.End steps disagreements) = true
 
@@ -51,5 +53,6 @@ abbrev pub is_boot_or_fault : ReportLine → Bool
 is_boot_or_fault (report.Response response) = is_boot_response response
 is_boot_or_fault (report.Judged found) = false
 is_boot_or_fault (report.Audited found) = false
+is_boot_or_fault (report.Illegal why) = false
 is_boot_or_fault (report.Fault line fault) = true
 is_boot_or_fault (report.End steps disagreements) = false

@@ -14,7 +14,9 @@ use maplets::Runs;
 use std::alloc::{AllocError, Allocator, Global};
 use table_tree::Reads;
 use trace_lines::Response;
-use trace_text::{Fault, GhostOracle, MOST_LINES, ReportLine, Reported, Session, Stop, Verdict};
+use trace_text::{
+    Fault, GhostOracle, MOST_LINES, NoOracle, ReportLine, Reported, Session, Stop, Verdict,
+};
 
 /// When an oracle looks at the kept state.
 #[derive(Clone, Copy, PartialEq)]
@@ -132,7 +134,7 @@ fn run_line<A: Allocator + Copy>(
 {
     match watch {
         Watch::EachStep => session.run(&mut GhostOracle, number, line),
-        Watch::AtEnd => session.run_unasked(number, line),
+        Watch::AtEnd => session.run(&mut NoOracle, number, line),
     }
 }
 

@@ -42,6 +42,7 @@ impl fmt::Display for Expected {
             ReportLine::Response(response) => fmt::Display::fmt(&ExpectedResponse(response), f),
             ReportLine::Judged(found) => fmt::Display::fmt(&Judgement(found), f),
             ReportLine::Audited(found) => fmt::Display::fmt(&found, f),
+            ReportLine::Illegal(why) => fmt::Display::fmt(&ReportLine::Illegal(why), f),
             ReportLine::Fault { fault, .. } => write!(f, "fault {fault}"),
             ReportLine::End {
                 steps,

@@ -5,16 +5,16 @@ use Rattle.std.specs.Prelude.{IfSome}
 use Rattle.trace_reader.specs.declared.outcome.Outcome.{Outcome}
 use Rattle.trace_check.specs.declared.checking.Checked.{Checked}
 use Rattle.trace_cli.specs.Status.{HasChecked, outcome_of_check}
-use Rattle.trace_values.specs.Checked.{IsValueChecked}
+use Rattle.trace_watches.specs.Checked.{IsWatchChecked}
 
 pub checked_by : (bytes : Option (List ℕ)) (path trace given : List ℕ) (checked : Checked) (outcome : Outcome)
     → IfSome bytes (λ all. trace ≡ all)
     → given ≡ trace
-    → IsValueChecked Global path given checked
+    → IsWatchChecked Global path given checked
     → outcome ≡ outcome_of_check checked.clean → HasChecked path bytes outcome
 checked_by None path trace given checked outcome is same h told = tt
 checked_by (Some all) path trace given checked outcome is same h told = (
   checked,
-  subst (λ t. IsValueChecked Global path t checked) is (subst (λ t. IsValueChecked Global path t checked) same h),
+  subst (λ t. IsWatchChecked Global path t checked) is (subst (λ t. IsWatchChecked Global path t checked) same h),
   told,
 )

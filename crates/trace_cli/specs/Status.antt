@@ -32,8 +32,9 @@ use Rattle.trace_generate.specs.declared.options.GenerateFault.TheVariants as ge
 use Rattle.trace_generate.specs.declared.options.Options.{Options}
 use Rattle.trace_generate.specs.Machine.{IsFault}
 use Rattle.trace_generate.specs.Made.{IsTrace}
-use Rattle.trace_values.specs.Checked.{IsValueChecked, IsValueRecord}
+use Rattle.trace_values.specs.Checked.{IsValueRecord}
 use Rattle.trace_values.specs.Expansions.{IsExpansion}
+use Rattle.trace_watches.specs.Checked.{IsWatchChecked}
 use Rattle.trace_command.specs.Asked.{Asking, Replaying, Racing, Auditing, Finding, Checking, Covering, Recording, Expanding, Explaining, Generating, Drawing, Dumping, IsRead, asking_of}
 use Rattle.trace_command.specs.declared.words.Invocation.{Invocation}
 use Rattle.trace_command.specs.declared.words.UsageFault.{UsageFault}
@@ -92,7 +93,7 @@ abbrev pub HasChecked : List ℕ → Option (List ℕ) → Outcome → Type 0
 HasChecked path bytes outcome =
     IfSome bytes
     (λ all. (checked : Checked)
-    × IsValueChecked Global path all checked
+    × IsWatchChecked Global path all checked
     × (outcome ≡ outcome_of_check checked.clean))
 
 -- a text was made, or a name has a fault

@@ -13,7 +13,7 @@ use trace_outcomes::{report_order, report_outcomes};
 use trace_race::{Halted, RaceFault};
 use trace_reader::{EngineFault, Outcome, Progress};
 use trace_text::Fault;
-use trace_values::check;
+use trace_watches::check;
 
 /// Finds all replies that the steps after `start` may get, and writes them.
 pub fn outcomes_reported<R: AllocGlobal + Print + Eprint, F: io::Read + Drop, P: Progress>(

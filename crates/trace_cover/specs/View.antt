@@ -1,19 +1,19 @@
 -- What code holds, in the words of counts.
 use Rattle.std.proofs.Common.{Bor}
-use Rattle.std.specs.Prelude.{◌≡◌, ℕ, ◌+◌, List, [], ◌++◌, map, slice_index_or, Option, Some, None, Result, Ok, Err}
+use Rattle.std.specs.Prelude.{◌≡◌, ℕ, ◌+◌, List, ◌++◌, Option, Some, None, Ok, Err}
 use Rattle.trace_cover.specs.declared.steps.Seen.{Seen}
 use Rattle.trace_cover.specs.Steps.{CountsAll, seen_at}
 use Rattle.trace_reader.specs.declared.outcome.Outcome.{Outcome}
 use Rattle.trace_text.specs.declared.fault.Fault.{Fault}
 use Rattle.trace_text.specs.declared.report.ReportLine.{ReportLine}
-use Rattle.trace_text.specs.declared.session.Reported.{Reported}
 use Rattle.trace_text.specs.declared.session.Session.{Session}
 use Rattle.trace_text.specs.declared.session.Stop.{Stop}
 use Rattle.trace_text.specs.declared.session.Stop.TheVariants as stops
+use Rattle.trace_text.specs.ByPlace.{line_at}
 use Rattle.trace_text.specs.Oracles.{agreed}
 use Rattle.trace_text.specs.Replay.{IsPlayed}
 use Rattle.trace_text.specs.Session.{Standing}
-use Rattle.trace_text.specs.View.{answer_of, standing_of}
+use Rattle.trace_text.specs.View.{standing_of}
 
 -- the steps of a trace's lines are added to some, and the place of its fault to a text
 pub record AddsAll (name : List ℕ) (lines : List (List ℕ)) (before : List Seen) (said : List ℕ)
@@ -23,25 +23,6 @@ pub record AddsAll (name : List ℕ) (lines : List (List ℕ)) (before : List Se
   pub counts : CountsAll name lines steps text outcome
   pub seen : after ≡ before ++ steps
   pub says : told ≡ said ++ text
-
--- the lines of a trace, and one by its place from 0 on
-abbrev pub lines_in : List (Bor (List ℕ)) → List (List ℕ)
-lines_in lines = map (λ line. line.now) lines
-
-abbrev pub line_at : List (Bor (List ℕ)) → ℕ → List ℕ
-line_at lines place = slice_index_or (lines_in lines) place []
-
--- the line at a place was carried out by a session, with this result
-abbrev pub IsPlayedAt : {A : Type 0}
-    → List (Bor (List ℕ))
-    → ℕ
-    → Session A
-    → Result Reported Stop
-    → Session A
-    → Type 0
-IsPlayedAt lines place old result new =
-    IsPlayed agreed (place + 1) (line_at lines place) (standing_of old) (answer_of new result)
-    (standing_of new)
 
 -- a line was carried out, and its step is added; or it has a fault, and nothing is added
 abbrev pub IsCounted : ℕ → List ℕ → Standing → List Seen → Standing → List Seen → Option Fault

@@ -1,11 +1,12 @@
 //! The steps of a trace, and what each adds to the counts.
-ghost use Rattle.std.specs.Prelude.{◌≡◌, ◌+◌, ◌<◌, ◌≤◌, ◌∷◌, [], ◌++◌, IfOk, OnOk, Option, Some, None, is_some, length, map, true};
+ghost use Rattle.std.specs.Prelude.{◌≡◌, ◌+◌, ◌<◌, ◌≤◌, ◌++◌, IfOk, OnOk, Option, Some, None, is_some, length};
 ghost use Rattle.trace_cover.specs.Steps.{allowed as allowed_by, condition_before as condition_before_by, is_poke as is_poke_by, line_read, refused, seen_in, seen_of, step_in};
-ghost use Rattle.trace_cover.specs.View.{AddsAll, IsCountedAt, IsPlayedAt, line_at, lines_in};
+ghost use Rattle.trace_cover.specs.View.{AddsAll, IsCountedAt};
+ghost use Rattle.trace_text.specs.ByPlace.{lines_in};
 ghost use Rattle.trace_reader.specs.Reading.{lines_of};
 ghost use Rattle.trace_text.specs.Ready.{IsReady};
 ghost use Rattle.trace_text.specs.Session.{at_start};
-ghost use Rattle.trace_text.specs.View.{lines_reported, machine_of, standing_of};
+ghost use Rattle.trace_text.specs.View.{lines_reported, standing_of};
 
 use crate::condition::Condition;
 use crate::looking::condition_at;
@@ -14,7 +15,7 @@ use std::alloc::{AllocError, Allocator, Global};
 use trace_faults::add_place;
 use trace_lines::{Allows, Line, Response, said};
 use trace_reader::{Outcome, lines};
-use trace_text::{Fault, MOST_LINES, Reported, Session, Stop};
+use trace_text::{Fault, Reported, Session, Stop, line_run};
 
 /// A step as it is counted: its call, its refusal and the condition of its frame.
 #[derive(Clone, Copy)]
@@ -148,26 +149,6 @@ fn count_line<A: Allocator + Copy>(
         Err(Stop::Fault(fault)) => Ok(Some(fault)),
         Err(Stop::NoMemory) => Err(AllocError),
     }
-}
-
-/// Carries out a line of a trace, by its place from 0 on.
-fn line_run<A: Allocator + Copy>(
-    session: &mut Session<A>,
-    lines: &[&[u8]],
-    place: usize,
-) -> Result<Reported, Stop>
-    requires place { place < length lines.now }
-    requires few { (standing_of session.old).steps ≤ place }
-    requires ready { IsReady session.old }
-    ensures done { IsPlayedAt lines.now place session.old result session.new }
-    ensures steps { (standing_of session.new).steps ≤ place + 1 }
-    ensures ready { IsReady session.new }
-{
-    let number = place as u64 + 1;
-    if number > MOST_LINES {
-        return Err(Stop::Fault(Fault::Lines));
-    }
-    session.run_unasked(number, lines[place])
 }
 
 /// Adds the step of a line to `seen`, by the line's report; nothing if the line is no step.

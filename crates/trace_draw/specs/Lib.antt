@@ -2,6 +2,5 @@ pub mod Columns
 pub mod Courses
 pub mod Laws
 pub mod Pictures
-pub mod Played
 pub mod Snapshots
 pub mod Texts

@@ -1,7 +1,6 @@
 //! A trace that is run, and the states kept of it for a picture.
-ghost use Rattle.std.specs.Prelude.{◌≡◌, ◌+◌, ◌^◌, ◌<◌, ◌≤◌, IfOk, length, map};
+ghost use Rattle.std.specs.Prelude.{◌≡◌, ◌+◌, ◌^◌, ◌<◌, IfOk, map};
 ghost use Rattle.trace_draw.specs.Courses.{Leads};
-ghost use Rattle.trace_draw.specs.Played.{IsPlayedAt};
 ghost use Rattle.trace_text.specs.Ready.{IsReady};
 ghost use Rattle.trace_text.specs.Session.{at_start};
 ghost use Rattle.trace_text.specs.View.{standing_of};
@@ -10,7 +9,7 @@ use crate::bands::{Band, bands_of};
 use call_table::{Reply, VmKind};
 use std::alloc::{AllocError, Allocator, Global};
 use trace_lines::Response;
-use trace_text::{Fault, MOST_LINES, Reported, Session, Stop};
+use trace_text::{Fault, Reported, Session, Stop, line_run};
 use vm_table::{Slot, SlotState};
 use world::World;
 
@@ -115,26 +114,6 @@ fn filled<A: Allocator + Copy>(
     Ok(Ended::Clean)
 }
 
-/// Carries out a line of a trace, by its place from 0 on.
-pub(crate) fn line_run<A: Allocator + Copy>(
-    session: &mut Session<A>,
-    lines: &[&[u8]],
-    place: usize,
-) -> Result<Reported, Stop>
-    requires place { place < length lines.now }
-    requires few { (standing_of session.old).steps ≤ place }
-    requires ready { IsReady session.old }
-    ensures done { IsPlayedAt lines.now place session.old result session.new }
-    ensures steps { (standing_of session.new).steps ≤ place + 1 }
-    ensures ready { IsReady session.new }
-{
-    let number = place as u64 + 1;
-    if number > MOST_LINES {
-        return Err(Stop::Fault(Fault::Lines));
-    }
-    session.run_unasked(number, lines[place])
-}
-
 /// Keeps a moment after the boot and after each step.
 fn note<A: Allocator + Copy>(
     global: Global,
@@ -145,7 +124,7 @@ fn note<A: Allocator + Copy>(
     scenes: &mut Vec<Scene>,
 ) -> Result<(), AllocError> {
     let reply = match reported {
-        Reported::Line(Response::Step { reply, .. }) => Some(reply),
+        Reported::Step(Response::Step { reply, .. }, _) => Some(reply),
         Reported::Line(Response::Boot { .. }) => None,
         _ => return Ok(()),
     };

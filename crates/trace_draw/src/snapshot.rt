@@ -8,7 +8,7 @@ ghost use Rattle.trace_text.specs.Session.{at_start};
 ghost use Rattle.trace_text.specs.View.{machine_of, standing_of};
 ghost use Rattle.vm_table.specs.View.{slot_of, vms_of};
 
-use crate::course::{Ended, line_run};
+use crate::course::Ended;
 use call_table::{VmId, vm_kind_word};
 use ghost_oracle::stand_from;
 use page_state::Row;
@@ -18,7 +18,7 @@ use std::alloc::{AllocError, Allocator, Global};
 use std::fmt;
 use std::fmt::Write;
 use trace_reader::lines;
-use trace_text::{Session, Stop};
+use trace_text::{Session, Stop, line_run};
 use vm_table::{Slot, SlotState, VmTable};
 use world::World;
 

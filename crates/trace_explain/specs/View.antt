@@ -1,6 +1,6 @@
 -- What code holds, in the words of explanations.
 use Rattle.std.proofs.Common.{Bor}
-use Rattle.std.specs.Prelude.{ℕ, ◌+◌, Bool, List, [], map, slice_index_or, string_bytes, Option, Result}
+use Rattle.std.specs.Prelude.{ℕ, ◌+◌, Bool, List, map, string_bytes, Option}
 use Rattle.call_table.specs.declared.step.Step.{Step}
 use Rattle.trace_explain.specs.declared.explaining.Look.{Look}
 use Rattle.trace_explain.specs.Carried.{IsCarried}
@@ -9,33 +9,12 @@ use Rattle.trace_explain.specs.Looks.{Look as SeenLook}
 use Rattle.trace_text.specs.declared.fault.Fault.{Fault}
 use Rattle.trace_text.specs.declared.session.Reported.{Reported}
 use Rattle.trace_text.specs.declared.session.Session.{Session}
-use Rattle.trace_text.specs.declared.session.Stop.{Stop}
-use Rattle.trace_text.specs.Oracles.{agreed}
-use Rattle.trace_text.specs.Replay.{IsPlayed}
-use Rattle.trace_text.specs.View.{answer_of, lines_reported, standing_of}
+use Rattle.trace_text.specs.ByPlace.{line_at, lines_in}
+use Rattle.trace_text.specs.View.{lines_reported, standing_of}
 
 -- looks
 abbrev pub looks_in : List Look → List SeenLook
 looks_in looks = map (λ look. (look.place, string_bytes look.before)) looks
-
--- the lines of a trace, and one by its place from 0 on
-abbrev pub lines_in : List (Bor (List ℕ)) → List (List ℕ)
-lines_in lines = map (λ line. line.now) lines
-
-abbrev pub line_at : List (Bor (List ℕ)) → ℕ → List ℕ
-line_at lines place = slice_index_or (lines_in lines) place []
-
--- the line at a place was carried out by a session, with this result
-abbrev pub IsPlayedAt : {A : Type 0}
-    → List (Bor (List ℕ))
-    → ℕ
-    → Session A
-    → Result Reported Stop
-    → Session A
-    → Type 0
-IsPlayedAt lines place old result new =
-    IsPlayed agreed (place + 1) (line_at lines place) (standing_of old) (answer_of new result)
-    (standing_of new)
 
 -- the same, and a text got its shown part
 abbrev pub IsCarriedAt : {A : Type 0}

@@ -8,11 +8,12 @@ ghost use Rattle.trace_explain.specs.Carried.{HasFrames, IsBefore, ReportsFrom};
 ghost use Rattle.trace_explain.specs.Explained.{ExplainsAll, caused_line, ended, is_shown, plain_line, report_line, report_lines, step_at};
 ghost use Rattle.trace_explain.specs.Looks.{look_lines, looked, seen, seen_at, seen_by};
 ghost use Rattle.trace_explain.specs.Texts.{look_line, name_of};
-ghost use Rattle.trace_explain.specs.View.{line_at, lines_in, looks_in, IsCarriedAt, IsPlayedAt, told_fault, told_line};
+ghost use Rattle.trace_explain.specs.View.{looks_in, IsCarriedAt, told_fault, told_line};
+ghost use Rattle.trace_text.specs.ByPlace.{line_at, lines_in};
 ghost use Rattle.trace_reader.specs.Reading.{lines_of};
 ghost use Rattle.trace_text.specs.Ready.{IsReady};
 ghost use Rattle.trace_text.specs.Session.{allowed as allowed_by, at_start};
-ghost use Rattle.trace_text.specs.View.{lines_reported, machine_of, standing_of};
+ghost use Rattle.trace_text.specs.View.{machine_of, standing_of};
 
 use crate::causes::cause_of;
 use crate::looking::text_at_place;
@@ -27,7 +28,7 @@ use trace_check::shown::shown;
 use trace_faults::add_place;
 use trace_lines::{Allows, Line, Response, said};
 use trace_reader::{Outcome, lines};
-use trace_text::{Fault, MOST_LINES, ReportLine, Reported, Session, Stop};
+use trace_text::{Fault, ReportLine, Reported, Session, Stop, line_run};
 use world::World;
 
 /// A trace that was explained.
@@ -285,26 +286,6 @@ fn add_changed_to<A: Allocator>(
     let told = add_changes(text, global, cpu, before, &after);
     drop(after);
     told
-}
-
-/// Carries out a line of a trace, by its place from 0 on.
-fn line_run<A: Allocator + Copy>(
-    session: &mut Session<A>,
-    lines: &[&[u8]],
-    place: usize,
-) -> Result<Reported, Stop>
-    requires place { place < length lines.now }
-    requires few { (standing_of session.old).steps ≤ place }
-    requires ready { IsReady session.old }
-    ensures done { IsPlayedAt lines.now place session.old result session.new }
-    ensures steps { (standing_of session.new).steps ≤ place + 1 }
-    ensures ready { IsReady session.new }
-{
-    let number = place as u64 + 1;
-    if number > MOST_LINES {
-        return Err(Stop::Fault(Fault::Lines));
-    }
-    session.run_unasked(number, lines[place])
 }
 
 /// The step that a line says, with its CPU.

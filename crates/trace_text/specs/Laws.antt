@@ -38,6 +38,7 @@ abbrev pub reported_reply : ReportLine → Option (ℕ × Reply)
 reported_reply (report.Response response) = reply_of response
 reported_reply (report.Judged found) = None
 reported_reply (report.Audited found) = None
+reported_reply (report.Illegal why) = None
 reported_reply (report.Fault number fault) = None
 reported_reply (report.End steps disagreements) = None
 
@@ -187,6 +188,7 @@ abbrev pub IsAgreeing : ReportLine → Type 0
 IsAgreeing (report.Response response) = ⊤
 IsAgreeing (report.Judged found) = ⊥
 IsAgreeing (report.Audited found) = ⊥
+IsAgreeing (report.Illegal why) = ⊥
 IsAgreeing (report.Fault number fault) = ⊤
 IsAgreeing (report.End steps disagreements) = disagreements ≡ 0
 

@@ -1,4 +1,5 @@
 pub mod BrokenOff
+pub mod ByPlace
 pub mod Failures
 pub mod Laws
 pub mod Looks

@@ -9,6 +9,7 @@ use Rattle.reference_model.specs.model.Step.{Steps}
 use Rattle.ghost_spec.specs.declared.state.Ghost.{Ghost}
 use Rattle.ghost_spec.specs.States.{contents_in, ghost_state}
 use Rattle.ghost_judge.specs.declared.disagreement.Disagreement.{Disagreement}
+use Rattle.ghost_legal.specs.declared.finding.Unlawful.{Unlawful}
 use Rattle.ghost_judge.specs.Judgements.{IsFirstJudged, JudgeAgrees, told_of}
 use Rattle.ghost_oracle.specs.declared.compared.Compared.{Compared}
 use Rattle.ghost_oracle.specs.Compared.{walked_in}
@@ -25,6 +26,10 @@ Gives = Machine → Call → Reference → Verdict → Type 0
 pub record IsAgreed (v : Verdict) : Type 0 where
   pub judged : v.judged ≡ None
   pub audited : v.audited ≡ None
+
+-- it finds nothing
+abbrev pub nothing_found : Verdict
+nothing_found = record { judged = None; audited = None }
 
 -- whatever the call
 abbrev pub agreed : Gives
@@ -70,6 +75,11 @@ judged_lines (Some d) = report.Judged d ∷ []
 abbrev pub audited_lines : Option Disagreement → List ReportLine
 audited_lines None = []
 audited_lines (Some d) = report.Audited d ∷ []
+
+-- and why the state that the words say isn't legal
+abbrev pub illegal_lines : Option Unlawful → List ReportLine
+illegal_lines None = []
+illegal_lines (Some why) = report.Illegal why ∷ []
 
 -- the report lines of a verdict: the judgement's first
 abbrev pub verdict_lines : Verdict → List ReportLine

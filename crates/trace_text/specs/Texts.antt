@@ -6,6 +6,7 @@ use Rattle.page_state.specs.LayoutFaults.{fault_number}
 use Rattle.trace_lines.specs.Texts.{text_of_line_fault, text_of_response}
 use Rattle.world.specs.Boots.{boot_number}
 use Rattle.ghost_judge.specs.Texts.{text_of_disagreement, text_of_judgement}
+use Rattle.ghost_legal.specs.Texts.{text_of_unlawful}
 use Rattle.trace_text.specs.declared.fault.Fault.{Fault}
 use Rattle.trace_text.specs.declared.fault.Fault.TheVariants as faults
 use Rattle.trace_text.specs.declared.report.ReportLine.{ReportLine}
@@ -30,6 +31,7 @@ unfoldable pub text_of : ReportLine → List ℕ
 text_of (report.Response response) = text_of_response response
 text_of (report.Judged found) = text_of_judgement found
 text_of (report.Audited found) = text_of_disagreement found
+text_of (report.Illegal why) = codes "illegal " ++ text_of_unlawful why
 text_of (report.Fault line fault) = decimal line ++ codes " fault " ++ text_of_fault fault
 text_of (report.End steps disagreements) = text_of_end steps disagreements
 

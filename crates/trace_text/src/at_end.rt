@@ -8,6 +8,7 @@ ghost use Rattle.trace_text.specs.Session.{RunsLine, at_start};
 ghost use Rattle.trace_text.specs.View.{standing_of};
 
 use crate::buffered::{Stopped, play_buffered};
+use crate::oracle::NoOracle;
 use crate::player::{Player, play_trace};
 use crate::session::Session;
 use crate::sink::Sink;
@@ -96,7 +97,7 @@ impl<A: Allocator + Copy> Player for Unasked<A> {
         sink: &mut K,
         text: &mut String,
     ) -> Result<Option<Outcome>, EngineFault> {
-        let ran = self.session.run_unasked(number, line);
+        let ran = self.session.run(&mut NoOracle, number, line);
         report_answer(&self.session, sink, text, number, ran)
     }
 

@@ -3,6 +3,10 @@
 
 mod at_end;
 mod buffered;
+mod by_place;
+mod bytes_read;
+mod bytes_replayed;
+mod bytes_written;
 mod fault;
 pub mod laws;
 mod oracle;
@@ -14,11 +18,17 @@ mod trace;
 
 pub use at_end::{replay_at_end, replay_at_end_buffered};
 pub use buffered::{Stopped, finish, play_buffered, replay_buffered};
+pub use by_place::line_run;
+pub use bytes_read::Bytes;
+pub use bytes_replayed::{Replayed, replay_bytes};
+pub use bytes_written::Collected;
 pub use fault::Fault;
-pub use oracle::{GhostOracle, Oracle, Verdict};
+pub use oracle::{GhostOracle, NoOracle, Oracle, Verdict};
 pub use player::{MOST_LINES, Player, play_trace};
 pub use report::ReportLine;
 pub use session::{Reported, Session, Stop, boot_line, told_memory};
 pub use sink::Sink;
-pub use trace::{faulted, replay, replay_with, report_answer, report_audited, report_end, tell};
+pub use trace::{
+    faulted, replay, replay_with, report_answer, report_audited, report_end, report_illegal, tell,
+};
 pub use trace_reader::{Counting, EngineFault, Failed, Outcome, Source};

@@ -1,5 +1,5 @@
 //! What judges and audits the steps of a replay.
-ghost use Rattle.std.specs.Prelude.{◌≡◌, ◌<◌, ◌≤◌, ◌↔◌, IfOk, IfSome, None, length};
+ghost use Rattle.std.specs.Prelude.{◌≡◌, ◌<◌, ◌≤◌, ◌↔◌, IfOk, IfSome, None, false, true, length};
 ghost use Rattle.ghost_judge.specs.Audits.{AuditAgrees, IsFirstDifference};
 ghost use Rattle.ghost_oracle.specs.Compared.{walked_in};
 ghost use Rattle.ghost_spec.specs.Kept.{HasNextGeneration};
@@ -49,10 +49,23 @@ fn count_of(found: Option<Disagreement>) -> u64
 
 /// What is asked after each step of a replay.
 pub trait Oracle {
+    ghost use Rattle.std.specs.Prelude.{Bool};
+    ghost use Rattle.trace_text.specs.Oracles.{nothing_found};
     ghost use Rattle.trace_text.specs.declared.oracle.Verdict.{Verdict};
 
     /// What it may find at a call that leads from a machine's state to another.
     ghost gives: { Machine → Call → Reference → Verdict → Type 0 };
+
+    /// Whether it looks at steps.
+    ghost looking: { Self → Bool };
+
+    /// Whether it looks at steps. One that doesn't is asked after none, and finds nothing: no state is kept for it, and no
+    /// word read.
+    fn looks(&self) -> bool
+        ensures looks { result ≡ looking self.now }
+        ensures silent { looking self.now ≡ false
+            → (m : Machine) (c : Call) (t : Reference)
+            → gives m c t nothing_found };
 
     /// Looks at a step of a CPU: the state kept before it, the reply, and the state kept after it with a walk of every
     /// word. It consumes the state before: nothing else needs it. Err if memory is refused.
@@ -77,6 +90,12 @@ pub struct GhostOracle;
 
 impl Oracle for GhostOracle {
     ghost gives = { λ m c t v. IsAgreed v };
+
+    ghost looking = { λ _. true };
+
+    fn looks(&self) -> bool {
+        true
+    }
 
     fn check(
         &mut self,
@@ -103,6 +122,36 @@ impl Oracle for GhostOracle {
         Ok(Verdict {
             judged: judge_last(global, before, cpu, step, &reply, &after.kept)?,
             audited: after.audit(),
+        })
+    }
+}
+
+/// The oracle of a run whose steps nothing looks at.
+#[derive(Drop)]
+pub struct NoOracle;
+
+impl Oracle for NoOracle {
+    ghost gives = { λ m c t v. IsAgreed v };
+
+    ghost looking = { λ _. false };
+
+    fn looks(&self) -> bool {
+        false
+    }
+
+    fn check(
+        &mut self,
+        _global: Global,
+        before: Ghost,
+        _cpu: u64,
+        _step: Step,
+        _reply: Reply,
+        _after: &Compared,
+    ) -> Result<Verdict, AllocError> {
+        drop(before);
+        Ok(Verdict {
+            judged: None,
+            audited: None,
         })
     }
 }

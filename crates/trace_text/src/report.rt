@@ -5,6 +5,7 @@ ghost use Rattle.trace_text.specs.Texts.{text_of, text_of_end};
 use crate::fault::Fault;
 use ghost_judge::disagreement::Disagreement;
 use ghost_judge::text::Judgement;
+use ghost_legal::Unlawful;
 use std::fmt;
 use trace_lines::Response;
 
@@ -17,6 +18,8 @@ pub enum ReportLine {
     Judged(Disagreement),
     /// What the audit after a step found. It follows the judgement's line.
     Audited(Disagreement),
+    /// Why the state that the words say isn't legal. It follows the audit's line.
+    Illegal(Unlawful),
     /// The fault of a line. It ends the report.
     Fault { line: u64, fault: Fault },
     /// The numbers of step lines and of disagreements. It ends the report.
@@ -32,6 +35,7 @@ impl fmt::Display for ReportLine {
             ReportLine::Response(response) => fmt::Display::fmt(response, f),
             ReportLine::Judged(found) => fmt::Display::fmt(&Judgement(*found), f),
             ReportLine::Audited(found) => fmt::Display::fmt(found, f),
+            ReportLine::Illegal(why) => write!(f, "illegal {why}"),
             ReportLine::Fault { line, fault } => write!(f, "{line} fault {fault}"),
             ReportLine::End {
                 steps,

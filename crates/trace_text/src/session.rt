@@ -1,11 +1,10 @@
 //! The settings and the world of a trace so far, and the effect of a line.
-ghost use Rattle.std.specs.Prelude.{◌≡◌, ◌+◌, ◌<◌, ◌≤◌, ◌^◌, List, [], Option, Some, None, is_some, option_copied, option_map, IfOk, IfSome, OnOk, OnErr, MatchOption};
+ghost use Rattle.std.specs.Prelude.{◌≡◌, ◌+◌, ◌<◌, ◌≤◌, ◌^◌, [], Option, Some, None, is_some, true, option_copied, option_map, IfOk, IfSome, OnOk, MatchOption};
 ghost use Rattle.page_state.specs.Regions.{memory_of};
 ghost use Rattle.trace_text.specs.Session.{Answers, Boots, DoesLine, IsMemoryOf, IsWorldOf, MakesStep, OnMachine, RunsLine, Starts, Tells, allowed, at_start};
 ghost use Rattle.hypercalls.specs.Stands.{state_of};
 ghost use Rattle.hypercalls.specs.Whole.{call_of, IsStep};
 ghost use Rattle.trace_text.specs.Looks.{Looks, session_tables, world_tables};
-ghost use Rattle.trace_text.specs.Oracles.{agreed};
 ghost use Rattle.trace_text.specs.Ready.{IsReady, IsStateAt};
 ghost use Rattle.table_tree.specs.Reading.{count_of};
 ghost use Rattle.ghost_oracle.specs.Counted.{HasRead};
@@ -23,6 +22,7 @@ use guest_component::Body;
 use maplets::Maplets;
 use page_state::{MemoryMap, Page, PageRange, Region};
 use std::alloc::{AllocError, Allocator, Global};
+use std::mem;
 use table_tree::Reads;
 use trace_lines::{Allows, Line, LineFault, Query, Response, Setting, Settings, TreeName, said};
 use world::World;
@@ -161,7 +161,8 @@ impl<A: Allocator + Copy> Session<A> {
         }
     }
 
-    /// Carries out the line of this number, and answers its report. For a line of over 256 bytes any 257 serve.
+    /// Carries out the line of this number, and answers its report. The oracle is asked after a step, if it looks at steps.
+    /// For a line of over 256 bytes any 257 serve.
     pub fn run<O: Oracle>(
         &mut self,
         oracle: &mut O,
@@ -173,7 +174,7 @@ impl<A: Allocator + Copy> Session<A> {
         ensures done { RunsLine O.gives number line.now (standing_of self.old) (answer_of self.new result)
             (standing_of self.new) }
         ensures steps { (standing_of self.new).steps ≤ (standing_of self.old).steps + 1 }
-        ensures looks { Looks self.old self.new }
+        ensures looks { O.looking oracle.old ≡ true → Looks self.old self.new }
         ensures ready { IsReady self.new }
     {
         match said(self.allows(), &self.settings, line) {
@@ -183,60 +184,25 @@ impl<A: Allocator + Copy> Session<A> {
         }
     }
 
-    fn carry_out<O: Oracle>(
+    /// Carries out a line. A poke has no place here.
+    pub fn carry_out<O: Oracle>(
         &mut self,
         oracle: &mut O,
         number: u64,
         said: Line,
     ) -> Result<Reported, Stop>
-        requires few { self.old.steps < 2 ^ 62 }
+        requires few { (standing_of self.old).steps < 2 ^ 62 }
         requires ready { IsReady self.old }
         ensures done { DoesLine O.gives number said (standing_of self.old) (answer_of self.new result)
             (standing_of self.new) }
-        ensures steps { self.new.steps ≤ self.old.steps + 1 }
-        ensures looks { Looks self.old self.new }
+        ensures steps { (standing_of self.new).steps ≤ (standing_of self.old).steps + 1 }
+        ensures looks { O.looking oracle.old ≡ true → Looks self.old self.new }
         ensures ready { IsReady self.new }
     {
         match said {
             Line::Setting(setting) => self.tell(setting),
             Line::Boot => self.boot(),
             Line::Step { cpu, step } => self.step(oracle, number, cpu, step),
-            Line::Query(query) => self.ask(query),
-            Line::Poke(_) => Err(Stop::Fault(Fault::Line(LineFault::Place))),
-            Line::Start => self.start(),
-        }
-    }
-
-    /// Carries out the line of this number as `run` does, but no oracle looks at its step. Of a line of over 256 bytes any 257
-    /// serve.
-    pub fn run_unasked(&mut self, number: u64, line: &[u8]) -> Result<Reported, Stop>
-        requires few { (standing_of self.old).steps < 2 ^ 62 }
-        requires ready { IsReady self.old }
-        ensures done { RunsLine agreed number line.now (standing_of self.old) (answer_of self.new result)
-            (standing_of self.new) }
-        ensures steps { (standing_of self.new).steps ≤ (standing_of self.old).steps + 1 }
-        ensures ready { IsReady self.new }
-    {
-        match said(self.allows(), &self.settings, line) {
-            Ok(Some(said)) => self.carry_out_unasked(number, said),
-            Ok(None) => Ok(Reported::Nothing),
-            Err(fault) => Err(Stop::Fault(Fault::Line(fault))),
-        }
-    }
-
-    /// Carries out a line as a session does whose steps no oracle looks at. A poke has no place here.
-    pub fn carry_out_unasked(&mut self, number: u64, said: Line) -> Result<Reported, Stop>
-        requires few { (standing_of self.old).steps < 2 ^ 62 }
-        requires ready { IsReady self.old }
-        ensures done { DoesLine agreed number said (standing_of self.old) (answer_of self.new result)
-            (standing_of self.new) }
-        ensures steps { (standing_of self.new).steps ≤ (standing_of self.old).steps + 1 }
-        ensures ready { IsReady self.new }
-    {
-        match said {
-            Line::Setting(setting) => self.tell(setting),
-            Line::Boot => self.boot(),
-            Line::Step { cpu, step } => self.make(number, cpu, step),
             Line::Query(query) => self.ask(query),
             Line::Poke(_) => Err(Stop::Fault(Fault::Line(LineFault::Place))),
             Line::Start => self.start(),
@@ -304,7 +270,7 @@ impl<A: Allocator + Copy> Session<A> {
         }
     }
 
-    /// Makes one step, and asks the oracle.
+    /// Makes one step, and asks the oracle if it looks at steps.
     fn step<O: Oracle>(
         &mut self,
         oracle: &mut O,
@@ -317,7 +283,7 @@ impl<A: Allocator + Copy> Session<A> {
         ensures done { OnMachine (MakesStep O.gives number cpu step) (standing_of self.old)
             (answer_of self.new result) (standing_of self.new) }
         ensures steps { self.new.steps ≤ self.old.steps + 1 }
-        ensures looks { Looks self.old self.new }
+        ensures looks { O.looking oracle.old ≡ true → Looks self.old self.new }
         ensures ready { IsReady self.new }
     {
         let Some(world) = self.world.as_mut() else {
@@ -328,45 +294,19 @@ impl<A: Allocator + Copy> Session<A> {
         }
         let remembered = self.state.take();
         let reads = &mut self.reads;
-        let Ok(made) = checked(self.global, oracle, world, remembered, cpu, step, reads) else {
+        let Ok(made) = step_made(self.global, oracle, world, remembered, cpu, step, reads) else {
             return Err(Stop::NoMemory);
         };
         self.steps += 1;
         self.disagreements += made.verdict.count();
         // The state before goes to `drop`, as in `checked`.
-        drop(self.state.replace(made.after));
+        drop(mem::replace(&mut self.state, made.after));
         let line = Response::Step {
             line: number,
             cpu,
             reply: made.reply,
         };
         Ok(Reported::Step(line, made.verdict))
-    }
-
-    /// Makes one step, at which no oracle looks.
-    fn make(&mut self, number: u64, cpu: u64, step: Step) -> Result<Reported, Stop>
-        requires few { self.old.steps < 2 ^ 62 }
-        requires ready { IsReady self.old }
-        ensures done { OnMachine (MakesStep agreed number cpu step) (standing_of self.old)
-            (answer_of self.new result) (standing_of self.new) }
-        ensures steps { self.new.steps ≤ self.old.steps + 1 }
-        ensures ready { IsReady self.new }
-    {
-        let Some(world) = self.world.as_mut() else {
-            return Err(Stop::Fault(Fault::Line(LineFault::Place)));
-        };
-        if world.cpus() <= cpu {
-            return Err(Stop::Fault(Fault::Cpu));
-        }
-        let told = world.step(cpu, step);
-        // What was remembered is no state of this world any more.
-        drop(self.state.take());
-        self.steps = self.steps + 1;
-        Ok(Reported::Line(Response::Step {
-            line: number,
-            cpu,
-            reply: told,
-        }))
     }
 
     /// Answers a query.
@@ -417,8 +357,8 @@ impl<A: Allocator + Copy> Session<A> {
 struct Made {
     reply: Reply,
     verdict: Verdict,
-    /// What the world keeps after it.
-    after: Ghost,
+    /// What the world keeps after it, if the oracle has looked.
+    after: Option<Ghost>,
 }
 
 /// The state of a world, which may be remembered.
@@ -453,7 +393,7 @@ fn checked<A: Allocator + Copy, O: Oracle>(
     ensures given { IfOk result
         (λ made. O.gives (machine_of world.old) (call_of world.old.parts cpu step made.reply)
         (state_of world.new.parts) made.verdict) }
-    ensures after { IfOk result (λ made. IsStateAt world.new made.after) }
+    ensures after { IfOk result (λ made. IfSome made.after (IsStateAt world.new)) }
     ensures reads { OnOk result (HasRead (count_of reads.old) (world_tables world.new) (count_of reads.new)) }
 {
     let before = state_before(global, world, remembered)?;
@@ -473,7 +413,43 @@ fn checked<A: Allocator + Copy, O: Oracle>(
     Ok(Made {
         reply,
         verdict,
-        after: kept,
+        after: Some(kept),
+    })
+}
+
+/// Makes a step, and asks the oracle if it looks at steps.
+fn step_made<A: Allocator + Copy, O: Oracle>(
+    global: Global,
+    oracle: &mut O,
+    world: &mut World<A>,
+    remembered: Option<Ghost>,
+    cpu: u64,
+    step: Step,
+    reads: &mut Reads,
+) -> Result<Made, AllocError>
+    requires cpu { cpu < world.old.parts.layout.config.cpus }
+    requires remembered { IfSome remembered (IsStateAt world.old) }
+    ensures step { IfOk result (λ made. IsStep world.old.parts cpu step made.reply world.new.parts) }
+    ensures given { IfOk result
+        (λ made. O.gives (machine_of world.old) (call_of world.old.parts cpu step made.reply)
+        (state_of world.new.parts) made.verdict) }
+    ensures after { IfOk result (λ made. IfSome made.after (IsStateAt world.new)) }
+    ensures reads { O.looking oracle.old ≡ true
+        → OnOk result (HasRead (count_of reads.old) (world_tables world.new) (count_of reads.new)) }
+{
+    if oracle.looks() {
+        return checked(global, oracle, world, remembered, cpu, step, reads);
+    }
+    // What was remembered is no state of this world any more.
+    drop(remembered);
+    let reply = world.step(cpu, step);
+    Ok(Made {
+        reply,
+        verdict: Verdict {
+            judged: None,
+            audited: None,
+        },
+        after: None,
     })
 }
 

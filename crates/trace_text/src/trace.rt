@@ -1,6 +1,6 @@
 //! Replaying a trace.
 ghost use Rattle.std.specs.Prelude.{◌≡◌, ◌<◌, ◌^◌, [], ◌∷◌, IfOk, OnErr, OnOk, map};
-ghost use Rattle.trace_text.specs.Oracles.{agreed, audited_lines, judged_lines, verdict_lines};
+ghost use Rattle.trace_text.specs.Oracles.{agreed, audited_lines, illegal_lines, judged_lines, verdict_lines};
 ghost use Rattle.trace_text.specs.Ready.{IsReady};
 ghost use Rattle.trace_text.specs.Session.{RunsLine, at_start};
 ghost use Rattle.std.specs.Io.KnownBytes.{Appends};
@@ -17,6 +17,7 @@ use crate::report::ReportLine;
 use crate::session::{Reported, Session, Stop};
 use crate::sink::Sink;
 use ghost_judge::disagreement::Disagreement;
+use ghost_legal::Unlawful;
 use maplets::Runs;
 use std::alloc::{Allocator, Global};
 use trace_lines::Response;
@@ -237,6 +238,24 @@ pub fn report_audited<K: Sink>(
 {
     match found {
         Some(found) => tell(sink, text, ReportLine::Audited(found)),
+        None => Ok(()),
+    }
+}
+
+/// Writes why the state that the words say isn't legal, if it isn't.
+pub fn report_illegal<K: Sink>(
+    sink: &mut K,
+    text: &mut String,
+    found: Option<Unlawful>,
+) -> Result<(), EngineFault>
+    ensures ok { OnOk result
+        (Appends (K.contents sink.old) (K.contents sink.new)
+        (text_of_report (illegal_lines found))) }
+    ensures front { OnErr result (WritesFront (illegal_lines found) (K.contents sink.old) (K.contents sink.new)) }
+    ensures counted { ReportsWrite (K.failures sink.old) (K.failures sink.new) result }
+{
+    match found {
+        Some(why) => tell(sink, text, ReportLine::Illegal(why)),
         None => Ok(()),
     }
 }

@@ -3,11 +3,13 @@ ghost use Rattle.std.specs.Prelude.{◌≡◌, ◌<◌};
 
 use crate::expect::expect_told;
 use crate::sample::{memory, started};
-use call_table::{Refusal, Reply, Step, Value};
-use ghost_judge::disagreement::{Disagreement, TreeOf};
+use call_table::{Refusal, Reply, Step, Value, VmKind};
+use ghost_judge::disagreement::{Disagreement, GuestHead, PartDifference, TreeOf};
 use ghost_judge::judge::{differs, judge};
 use ghost_spec::lists::GhostLists;
+use ghost_spec::parts::GhostPhase;
 use ghost_spec::state::{Ghost, has_next_generation};
+use ghost_trees::tree::Table;
 use page_state::{Entry, Frame, Kind, Owner, Page, PageRange, Prot, Row, State, Usage};
 use std::alloc::Global;
 use std::process::Abort;
@@ -26,6 +28,7 @@ fn booted(rt: &impl Abort, alloc: Global) -> Ghost
 enum Change {
     Nothing,
     Pool,
+    Table,
     Guest,
     Slot,
     Cpu,
@@ -38,6 +41,35 @@ const HELD: PageRange = PageRange {
     count: 1,
 };
 
+/// A table of the hypervisor that the boot state hasn't.
+const TABLE: Table = Table {
+    block: (0, 5),
+    frame: 0x4063f,
+};
+
+/// The last free frame is missing.
+const MISSING: Disagreement = Disagreement::SharedPart(PartDifference::Free {
+    kept: None,
+    walked: Some(0x4063f),
+});
+
+/// That table is there.
+const LINKED: Disagreement = Disagreement::SharedPart(PartDifference::Table {
+    tree: TreeOf::Hyp,
+    block: (0, 5),
+    kept: Some(0x4063f),
+    walked: None,
+});
+
+/// An Empty guest of a generation.
+fn empty(generation: u64) -> GuestHead {
+    GuestHead {
+        phase: GhostPhase::Empty,
+        generation,
+        kind: VmKind::Plain,
+    }
+}
+
 /// Makes a change.
 fn make(rt: &impl Abort, lists: &mut GhostLists, change: Change) {
     assert!(rt; lists.guests.len() == 64 && lists.vms.len() == 64);
@@ -47,6 +79,7 @@ fn make(rt: &impl Abort, lists: &mut GhostLists, change: Change) {
         Change::Pool => {
             lists.shared.free.pop();
         }
+        Change::Table => lists.shared.hyp.tables.push(TABLE).expect(rt, "memory"),
         Change::Guest => lists.guests[3].generation = 9,
         Change::Slot => lists.vms[3].generation = 9,
         Change::Cpu => lists.cpus[1].hand = Some(HELD),
@@ -84,8 +117,18 @@ fn tells_the_part_that_differs(rt: HostRuntime) {
     let alloc = rt.alloc();
     expect_change(&rt, alloc, Change::Nothing, None);
     expect_change(&rt, alloc, Change::Room, None);
-    expect_change(&rt, alloc, Change::Pool, Some(Disagreement::Free));
-    expect_change(&rt, alloc, Change::Guest, Some(Disagreement::GuestFree(3)));
+    expect_change(&rt, alloc, Change::Pool, Some(MISSING));
+    expect_change(&rt, alloc, Change::Table, Some(LINKED));
+    let older = PartDifference::Head {
+        kept: empty(9),
+        walked: empty(0),
+    };
+    expect_change(
+        &rt,
+        alloc,
+        Change::Guest,
+        Some(Disagreement::GuestPart(3, older)),
+    );
     expect_change(&rt, alloc, Change::Slot, Some(Disagreement::Vm(3)));
     expect_change(&rt, alloc, Change::Cpu, Some(Disagreement::Cpu(1)));
 }
@@ -143,7 +186,7 @@ fn judges_replies(rt: HostRuntime) {
         said: PERM,
         spec: DONE,
     });
-    let free = Some(Disagreement::Free);
+    let free = Some(MISSING);
     expect_judged(&rt, alloc, SHARE, PERM, Change::Nothing, wrong);
     expect_judged(&rt, alloc, CARVED, PERM, Change::Nothing, None);
     expect_judged(&rt, alloc, CARVED, PERM, Change::Pool, free);
@@ -181,7 +224,7 @@ fn judges_want_of_memory(rt: HostRuntime) {
         said: SHORT,
         spec: Reply::Done(Value::Row(row)),
     });
-    let free = Some(Disagreement::Free);
+    let free = Some(MISSING);
     expect_judged(&rt, alloc, SHARE, SHORT, Change::Nothing, None);
     expect_judged(&rt, alloc, SHARE, SHORT, Change::Pool, free);
     expect_judged(&rt, alloc, CARVED, SHORT, Change::Nothing, refused);

@@ -176,6 +176,12 @@ struct Doubting {
 impl Oracle for Doubting {
     ghost gives = { λ m c t v. Unit {0} };
 
+    ghost looking = { λ _. true };
+
+    fn looks(&self) -> bool {
+        true
+    }
+
     fn check(
         &mut self,
         _global: Global,
@@ -188,7 +194,7 @@ impl Oracle for Doubting {
         let doubts = self.doubts;
         self.doubts = !doubts;
         Ok(Verdict {
-            judged: doubts.then_some(Disagreement::Free),
+            judged: doubts.then_some(Disagreement::Vm(2)),
             audited: doubts.then_some(Disagreement::Cpu(cpu)),
         })
     }
@@ -200,7 +206,7 @@ fn oracle_asked(rt: HostRuntime) {
         b"0 share_hyp 0x40100\nfree shared\n1 share_hyp 0x40100\n0 unshare_hyp 0x40100\n1 share_hyp 0x40101\n";
     let trace = joined(rt.alloc(), BOOT, steps).expect(&rt, "memory");
     let wanted: &[u8] =
-        b"boot host 3 hyp 3 free 58\n7 0 ok\nfree 56\n9 1 perm\ndisagree free\ndisagree cpu 1\n10 0 ok\n11 1 ok\ndisagree free\ndisagree cpu 1\nend steps 4 disagreements 4\n";
+        b"boot host 3 hyp 3 free 58\n7 0 ok\nfree 56\n9 1 perm\ndisagree vm 2\ndisagree cpu 1\n10 0 ok\n11 1 ok\ndisagree vm 2\ndisagree cpu 1\nend steps 4 disagreements 4\n";
     let mut written = Vec::new(rt.alloc());
     let mut source = Counting::new(Cursor::new(trace.as_slice()));
     let mut sink = Counting::new(&mut written);

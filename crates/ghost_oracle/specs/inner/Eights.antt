@@ -5,6 +5,7 @@ use Rattle.table_tree.specs.declared.table.Table.{Table}
 use Rattle.table_tree.specs.declared.table.Slot.{Slot}
 use Rattle.table_tree.specs.declared.table.Slot.TheVariants.{Word}
 use Rattle.table_tree.specs.Meaning.{slot_at}
+use Rattle.table_tree.specs.Shape.{HoldsWord}
 use Rattle.ghost_oracle.specs.declared.pending.Pending.{Pending}
 use Rattle.ghost_oracle.specs.inner.Pending.{pending_with}
 
@@ -18,6 +19,17 @@ pub record AreSlots {A : Type 0} (t : Table A) (i : ℕ) (a b c d e f g h : Slot
   pub f_is : f ≡ slot_at t (i + 5)
   pub g_is : g ≡ slot_at t (i + 6)
   pub h_is : h ≡ slot_at t (i + 7)
+
+-- they hold words
+pub record AreWords {A : Type 0} (a b c d e f g h : Slot A) : Type 0 where
+  pub a_is : HoldsWord a
+  pub b_is : HoldsWord b
+  pub c_is : HoldsWord c
+  pub d_is : HoldsWord d
+  pub e_is : HoldsWord e
+  pub f_is : HoldsWord f
+  pub g_is : HoldsWord g
+  pub h_is : HoldsWord h
 
 -- they hold `next`, `next + step`, and so on
 pub record AreNext {A : Type 0} (next step : ℕ) (a b c d e f g h : Slot A) : Type 0 where
@@ -70,6 +82,10 @@ module _ {A : Type 0} where
   -- they are those of a table from `i` on
   abbrev pub AreSlotsFrom : Table A → ℕ → EightSlots A → Type 0
   AreSlotsFrom t i x = AreSlots t i x.0.now x.1.now x.2.now x.3.now x.4.now x.5.now x.6.now x.7.now
+
+  -- they hold words
+  abbrev pub HoldWords : EightSlots A → Type 0
+  HoldWords x = AreWords x.0.now x.1.now x.2.now x.3.now x.4.now x.5.now x.6.now x.7.now
 
   -- they hold `next`, `next + step`, and so on
   abbrev pub HoldNext : ℕ → ℕ → EightSlots A → Type 0

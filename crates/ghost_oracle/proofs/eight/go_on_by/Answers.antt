@@ -5,8 +5,8 @@ use Rattle.ghost_oracle.specs.inner.Pending.{pending_with}
 use Rattle.ghost_oracle.proofs.Eights.{next_slot, next_more, next_room, looked_more, words_more, goes_to}
 use Rattle.ghost_oracle.proofs.eight.go_on_by.Goals as goal
 
-pub are_next-requires : goal.are_next-requires
-are_next-requires g c =
+pub are_next-requires-clause-room : goal.are_next-requires-clause-room
+are_next-requires-clause-room g c =
     next_room c.loop-c.next c.args.pending.now.next c.args.step c.args.from c.loop-c.c c.loop-c.invariant.next
     c.loop-c.auto.c c.loop-c-test.true
     (c.requires.room c.if-goes_on.true)

@@ -2,7 +2,8 @@ use Rattle.std.proofs.Common.{◌≡◌, ◌∙◌, ◌+◌, ◌++◌, ℕ, Bool
 use Rattle.std.proofs.lemmas.List.{get_or-map, length-map}
 use Rattle.trace_cover.proofs.Going.{ends_at_fault, ends_at_poke, ends_clean, one_further}
 use Rattle.trace_cover.specs.Steps.{is_poke, line_read}
-use Rattle.trace_cover.specs.View.{AddsAll, IsCountedAt, lines_in}
+use Rattle.trace_cover.specs.View.{AddsAll, IsCountedAt}
+use Rattle.trace_text.specs.ByPlace.{lines_in}
 use Rattle.trace_faults.specs.Spots.{place_line}
 use Rattle.trace_reader.specs.declared.outcome.Outcome.TheVariants.{Clean}
 use Rattle.trace_text.specs.declared.fault.Fault.{Fault}

@@ -1,7 +1,8 @@
 use Rattle.std.proofs.Common.{◌+◌, Option, subst, arith}
 use Rattle.std.proofs.lemmas.List.{length-map}
 use Rattle.trace_explain.specs.Explained.{is_shown}
-use Rattle.trace_explain.specs.View.{IsCarriedAt, lines_in}
+use Rattle.trace_explain.specs.View.{IsCarriedAt}
+use Rattle.trace_text.specs.ByPlace.{lines_in}
 use Rattle.trace_explain.proofs.Leading.{ends_at_fault, ends_clean}
 use Rattle.trace_explain.proofs.explaining.explain_lines.Goals as goal
 use Rattle.trace_text.specs.declared.fault.Fault.{Fault}

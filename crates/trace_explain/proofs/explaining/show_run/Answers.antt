@@ -1,6 +1,7 @@
 use Rattle.std.proofs.Common.{◌+◌, ◌++◌, ◌∙◌, List, [], ℕ, Bor, ap, sym}
 use Rattle.std.proofs.lemmas.List.{get_or-map}
-use Rattle.trace_explain.specs.View.{line_at, looks_in, told_line}
+use Rattle.trace_explain.specs.View.{looks_in, told_line}
+use Rattle.trace_text.specs.ByPlace.{line_at}
 use Rattle.trace_explain.proofs.Carrying.{block_made, has_frames, report_of_step}
 use Rattle.trace_explain.proofs.explaining.show_run.Goals as goal
 use Rattle.trace_text.specs.View.{lines_reported, standing_of}

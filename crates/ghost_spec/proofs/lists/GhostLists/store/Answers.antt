@@ -1,4 +1,4 @@
-use Rattle.std.proofs.Common.{◌≡◌, ◌-◌, ℕ, get_or, ap, ◌∙◌}
+use Rattle.std.proofs.Common.{◌≡◌, ◌-◌, ℕ, Bool, get_or, ap, ◌∙◌, if◌then◌else◌}
 use Rattle.std.proofs.lemmas.List.{get_or_default}
 use Rattle.reference_model.specs.model.Rules.{names}
 use Rattle.reference_model.specs.model.State.{put_at}
@@ -16,8 +16,9 @@ returns-clause-rooms c =
     c.left_of.ensures
     ∙ ap (λ (n : ℕ). n - 1)
     (c.index.ensures ∙ get_or_default r.cpus.items c.args.cpu c.index.result.now log c.requires.cpu) in
-    stored-is (names c.args.step) c.args.slot c.args.cpu (rooms_in log r) _
-    (rw c.uses_vms.ensures at c.left_of-self.ensures) (rw c.uses_shared.ensures at c.left_of-self-2.ensures)
+    stored-is (names c.args.uses.step) c.args.uses.slot c.args.cpu (rooms_in log r) _
+    (c.left_of-self.ensures ∙ ap (λ (b : Bool). if b then r.vms - 1 else r.vms) c.requires.uses.vms)
+    (c.left_of-self-2.ensures ∙ ap (λ (b : Bool). if b then r.shared - 1 else r.shared) c.requires.uses.shared)
     (c.store_in.ensures.rooms log)
     (put-items log r.cpus.items c.args.cpu c.left_of.result c.requires.cpu
     ∙ ap (put_at (rooms_in log r).cpu c.args.cpu) room)

@@ -1,12 +1,13 @@
-use Rattle.std.proofs.Common.{refl, sym, ap, subst, ◌∙◌}
+use Rattle.std.proofs.Common.{Bool, refl, sym, ap, subst, ◌∙◌, if◌then◌else◌}
 use Rattle.std.proofs.lemmas.List.{get_or-map}
 use Rattle.std.proofs.lemmas.Result.{IfOk-from_err}
 use Rattle.page_state.proofs.Common.{same4}
 use Rattle.reference_model.specs.model.Parts.{uses_shared}
 use Rattle.reference_model.specs.model.Rules.{names}
-use Rattle.reference_model.specs.model.State.{Vms, Shared, Guest, Cpu, no_cpu}
+use Rattle.reference_model.specs.model.State.{Vms, Shared, Guest, Cpu, no_vms, no_shared, no_cpu}
 use Rattle.reference_model.specs.model.Used.{Used, used_of, put_back}
 use Rattle.ghost_spec.specs.Kept.{IsKeptCpu}
+use Rattle.ghost_spec.specs.Used.{vms_in}
 use Rattle.ghost_spec.specs.Views.{cpu_in, shared_in_lists}
 use Rattle.ghost_spec.proofs.Predictions.{contents-same, if-stays}
 use Rattle.ghost_spec.proofs.lists.GhostLists.take.Goals as goal
@@ -23,7 +24,10 @@ returns-clause-taken c =
     record {
       used =
           same4 make
-          (rw c.as_slice.ensures.value at c.in_ok-used_vms.ensures.vms) c.take_shared.ensures.shared
+          ((rw c.as_slice.ensures.value at c.in_ok-used_vms.ensures.vms)
+          ∙ ap (λ (b : Bool). if b then vms_in c.args.self.now.vms.items else no_vms) c.requires.uses.vms)
+          (c.take_shared.ensures.shared
+          ∙ ap (λ (b : Bool). if b then shared_in_lists c.args.self.now.shared else no_shared) c.requires.uses.shared)
           c.take_guest.ensures.guest
           (sym own);
       kept = record {
@@ -31,15 +35,15 @@ returns-clause-taken c =
         guest = c.take_guest.ensures.kept;
         own = subst IsKeptCpu (sym c.index.ensures) (c.requires.kept.cpus c.args.cpu c.index.result.now c.requires.cpu);
       };
-      count = λ t. rw c.as_slice.ensures.value at (c.in_ok-used_vms.ensures.count t) ∙ c.requires.kept.vms_count;
+      count = λ t. rw c.as_slice.ensures.value at (c.in_ok-used_vms.ensures.count (c.requires.uses.vms ∙ t)) ∙ c.requires.kept.vms_count;
     }
 
 pub returns-clause-others : goal.returns-clause-others
 unfolding put_back
 returns-clause-others c x =
     contents-same refl
-    (if-stays (uses_shared (names c.args.step) c.args.slot) x.shared _ _
-    (λ t. ap shared_in_lists (c.take_shared.ensures.stays t)))
+    (if-stays (uses_shared (names c.args.uses.step) c.args.uses.slot) x.shared _ _
+    (λ t. ap shared_in_lists (c.take_shared.ensures.stays (c.requires.uses.shared ∙ t))))
     (c.take_guest.ensures.others x.guest) refl
 
 pub returns-clause-left : goal.returns-clause-left
@@ -85,4 +89,4 @@ pub take_guest-requires-clause-kept : goal.take_guest-requires-clause-kept
 take_guest-requires-clause-kept c = c.requires.kept.guests
 
 pub take_guest-requires-clause-slot : goal.take_guest-requires-clause-slot
-take_guest-requires-clause-slot c = c.requires.slot
+take_guest-requires-clause-slot c = c.requires.uses.low

@@ -6,11 +6,11 @@ pub returns-clause-front : goal.returns-clause-front
 returns-clause-front g c =
     when_err c.report_answer.result _ _
     (λ front. record {
-      answer = answer_of c.run_unasked-ran.new.self c.run_unasked-ran.result;
+      answer = answer_of c.run-ran.new.self c.run-ran.result;
       after =
-          record c.args.self.now { session = c.run_unasked-ran.new.self };
+          record c.args.self.now { session = c.run-ran.new.self };
       runs =
-          c.run_unasked-ran.ensures.done;
+          c.run-ran.ensures.done;
       writes = front;
     })
     c.report_answer.ensures.front

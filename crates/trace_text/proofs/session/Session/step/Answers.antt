@@ -11,7 +11,7 @@ pub returns-clause-done : goal.returns-clause-done
 returns-clause-done g c =
     let old = standing_of c.args.self.now in
     let before = c.in-Some.world.now in
-    let after = c.checked.new.world in
+    let after = c.step_made.new.world in
     on_machine
     (MakesStep g.O.Oracle.gives c.args.number c.args.cpu c.args.step) _ c.args.self.now.world before _ _ refl
     (search rules) (
@@ -44,18 +44,19 @@ returns-clause-done g c =
 pub returns-in_default-clause-ready : goal.returns-in_default-clause-ready
 returns-in_default-clause-ready g c = c.requires.ready
 
-pub checked-requires-clause-cpu : goal.checked-requires-clause-cpu
-checked-requires-clause-cpu g c = omega arith
+pub step_made-requires-clause-cpu : goal.step_made-requires-clause-cpu
+step_made-requires-clause-cpu g c = omega arith
 
 pub returns-clause-ready : goal.returns-clause-ready
 returns-clause-ready g c = record {
   remembered =
-      subst (λ state. IfSome state (IsStateAt c.checked.new.world)) (sym c.replace.ensures.after) c.in-Ok.ensures.after;
+      subst (λ state. IfSome state (IsStateAt c.step_made.new.world)) (sym c.replace.ensures.after)
+      c.in-Ok.ensures.after;
   few = omega (arith, c.requires.ready.few, c.count.ensures.few);
 }
 
-pub returns-in_default-checked-clause-done : goal.returns-in_default-checked-clause-done
-returns-in_default-checked-clause-done g c =
+pub returns-in_default-step_made-clause-done : goal.returns-in_default-step_made-clause-done
+returns-in_default-step_made-clause-done g c =
     on_machine
     (MakesStep g.O.Oracle.gives c.args.number c.args.cpu c.args.step) _ c.args.self.now.world c.in-Some.world.now _
     _ refl
