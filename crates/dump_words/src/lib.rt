@@ -11,6 +11,3 @@ pub use given::{BadWord, Given, NotGiven, read_words};
 pub use profiles::profile_word;
 pub use roots::{RootWord, guest_word, root_word};
 pub use trees::{skip_word, tree_word};
-
-#[cfg(test)]
-mod tests;

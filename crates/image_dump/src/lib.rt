@@ -17,6 +17,3 @@ pub use dump::{Dumped, NotDumped, Shape, dump_trees};
 pub use image::{Form, dump_image, dump_status};
 pub use line::DumpLine;
 pub use skip::Skip;
-
-#[cfg(test)]
-mod tests;

@@ -17,6 +17,3 @@ pub use finding::Finding;
 pub use tables::{add_mapped, add_met_twice};
 pub use unborrowed::{add_unborrowed, add_unshared};
 pub use words::add_words;
-
-#[cfg(test)]
-mod tests;

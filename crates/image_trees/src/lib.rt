@@ -9,6 +9,3 @@ mod walk;
 pub use records::{Records, denied_frame, with_states};
 pub use root::{Root, Tree, Unwalked};
 pub use walk::walk_tree;
-
-#[cfg(test)]
-mod tests;

@@ -13,6 +13,3 @@ pub use core_file::{core_segments, raw_segments};
 pub use pages::{page_buffer, read_page};
 pub use refused::{Fault, Refused, Why};
 pub use segment::Segment;
-
-#[cfg(test)]
-mod tests;

@@ -18,6 +18,3 @@ pub use profile::{
     linux_hypervisor, model,
 };
 pub use word::{Access, Decoded, Execute, Guest, Mapping, Memory};
-
-#[cfg(test)]
-mod tests;

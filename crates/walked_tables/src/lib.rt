@@ -15,6 +15,3 @@ pub use reached::{Reached, Stopped};
 pub use roots::{are_whole, root_pages};
 pub use said::Said;
 pub use walk::walked;
-
-#[cfg(test)]
-mod tests;

@@ -1,21 +1,13 @@
 //! A raw image with trees of the host, the hypervisor and a guest in the model's words.
 ghost use Rattle.std.specs.Prelude.{◌≡◌, ◌≤◌};
 
-use crate::{Dumped, Shape, Skip, dump_trees};
+use crate::sample::add_table;
+use image_dump::{Dumped, Shape, Skip, dump_trees};
 use image_trees::Root;
 use memory_image::raw_segments;
 use std::alloc::{AllocError, Global};
 use std::test::Fail;
 use table_words::{Profile, Release, linux_host, linux_hypervisor, model};
-
-/// Adds a page whose first words are the given ones, and the others zeros.
-fn add_table(bytes: &mut Vec<u8>, first: &[u64]) -> Result<(), AllocError> {
-    for i in 0..512usize {
-        let word = if i < first.len() { first[i] } else { 0 };
-        bytes.extend_from_slice(&word.to_le_bytes())?;
-    }
-    Ok(())
-}
 
 /// Page 0 is the host's table, page 1 the hypervisor's, page 2 guest 0's, each of level 3. Pages 0 to 2 are the hypervisor's, page
 /// 3 is shared with it, page 4 is the guest's; `poked` is the host's word of page 5.

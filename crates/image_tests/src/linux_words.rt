@@ -1,11 +1,11 @@
 //! Words of Linux with their meanings. If nothing else is said, a word is what the release's own functions make
 //! (hyp_set_prot_attr, stage2_set_prot_attr, kvm_init_valid_leaf_pte, kvm_init_table_pte), compiled as a program.
-use crate::{
+use descriptor::{Desc, Frame, Kind, Level, Owner, Prot, State};
+use std::process::Abort;
+use table_words::{
     Access, Decoded, Execute, Guest, Mapping, Memory, Profile, Release, beyond_model, decode,
     entry, linux_guest, linux_host, linux_hypervisor, model,
 };
-use descriptor::{Desc, Frame, Kind, Level, Owner, Prot, State};
-use std::process::Abort;
 
 /// Compares what a word of level 3 says.
 fn expect_page(rt: &impl Abort, profile: &Profile, word: u64, wanted: Decoded) {

@@ -1,6 +1,8 @@
 //! Two runs of a tree, and the findings from their claims and another tree's.
-use crate::{Claim, Finding, add_clashes, add_mapped, add_met_twice, add_unborrowed, add_unshared};
 use descriptor::State;
+use image_findings::{
+    Claim, Finding, add_clashes, add_mapped, add_met_twice, add_unborrowed, add_unshared,
+};
 use std::test::Fail;
 use walked_tables::Reached;
 

@@ -1,5 +1,5 @@
 //! Words, right and wrong.
-use crate::{RootWord, guest_word, profile_word, root_word, skip_word, tree_word};
+use dump_words::{RootWord, guest_word, profile_word, root_word, skip_word, tree_word};
 use image_dump::Skip;
 use std::test::Fail;
 use table_words::{Release, linux_host, linux_hypervisor};

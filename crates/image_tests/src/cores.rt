@@ -1,5 +1,7 @@
 //! A small core, as it is and with one byte of it changed.
-use crate::{Fault, Refused, Segment, Why, core_segments, page_buffer, raw_segments, read_page};
+use memory_image::{
+    Fault, Refused, Segment, Why, core_segments, page_buffer, raw_segments, read_page,
+};
 use std::alloc::{AllocError, Global};
 use std::test::Fail;
 

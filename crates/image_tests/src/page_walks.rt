@@ -2,16 +2,14 @@
 ghost use Rattle.std.specs.Prelude.{AllPairs};
 ghost use Rattle.walked_tables.specs.Reached.{AreOtherFrames};
 
-use crate::{Reached, Said, Stopped, TablePage, are_whole, root_pages, walked};
+use crate::sample::{memory, run};
 use descriptor::{Frame, Owner};
-use page_state::{Page, PageRange};
 use run_list::Run;
 use std::alloc::{AllocError, Global};
 use std::process::Abort;
 use std::test::Fail;
-use table_words::{
-    Access, Decoded, Execute, Mapping, Memory, Release, linux_host, linux_hypervisor,
-};
+use table_words::{Decoded, Release, linux_host, linux_hypervisor};
+use walked_tables::{Reached, Said, Stopped, TablePage, are_whole, root_pages, walked};
 
 /// A table whose words are the given ones and zeros.
 fn table(alloc: Global, first: &[u64]) -> Result<Vec<u64>, AllocError> {
@@ -37,29 +35,6 @@ fn walk(
     assert!(rt; are_whole(roots.as_slice()), "whole roots");
     assert!(rt; roots.len() <= 16, "few roots");
     walked(alloc, &profile, pages, 7, 1, roots.as_slice(), met)
-}
-
-/// The host's own memory, or memory that it borrows: 7.3's words have no state.
-fn memory(frame: u64) -> Decoded {
-    Decoded::Leaf(Mapping {
-        frame: Frame(frame),
-        access: Access::ReadWrite,
-        execute: Execute::Everybody,
-        memory: Memory::FromStage1,
-        state: None,
-        guarded: false,
-        aged: false,
-    })
-}
-
-fn run(first: u64, count: u64, decoded: Decoded) -> Run<Said> {
-    Run {
-        pages: PageRange {
-            first: Page(first),
-            count,
-        },
-        value: Said(decoded),
-    }
 }
 
 #[test]

@@ -2,24 +2,14 @@
 ghost use Rattle.std.specs.Prelude.{◌≤◌, ◌<◌, ◌+◌, ◌^◌};
 ghost use Rattle.walked_tables.specs.ByFrames.{most_pages};
 
-use crate::{Root, Unwalked, walk_tree};
+use crate::sample::{add_table, memory, run};
 use descriptor::{Frame, Owner};
+use image_trees::{Root, Unwalked, walk_tree};
 use memory_image::raw_segments;
-use page_state::{Page, PageRange};
-use run_list::Run;
 use std::alloc::{AllocError, Global};
 use std::test::Fail;
-use table_words::{Access, Decoded, Execute, Mapping, Memory, Release, linux_host};
-use walked_tables::{Reached, Said};
-
-/// Adds a page whose first words are the given ones, and the others zeros.
-fn add_table(bytes: &mut Vec<u8>, first: &[u64]) -> Result<(), AllocError> {
-    for i in 0..512usize {
-        let word = if i < first.len() { first[i] } else { 0 };
-        bytes.extend_from_slice(&word.to_le_bytes())?;
-    }
-    Ok(())
-}
+use table_words::{Decoded, Release, linux_host};
+use walked_tables::Reached;
 
 /// Pages 0x50000 and 0x50001 are the root, 0x50002 is below the first, 0x50003 is empty. `last` is the first word of page 0x50001.
 fn small_image(alloc: Global, last: u64) -> Result<Vec<u8>, AllocError> {
@@ -41,29 +31,6 @@ fn small_image(alloc: Global, last: u64) -> Result<Vec<u8>, AllocError> {
     add_table(&mut bytes, &below)?;
     add_table(&mut bytes, &[])?;
     Ok(bytes)
-}
-
-/// The host's memory.
-fn memory(frame: u64) -> Decoded {
-    Decoded::Leaf(Mapping {
-        frame: Frame(frame),
-        access: Access::ReadWrite,
-        execute: Execute::Everybody,
-        memory: Memory::FromStage1,
-        state: None,
-        guarded: false,
-        aged: false,
-    })
-}
-
-fn run(first: u64, count: u64, decoded: Decoded) -> Run<Said> {
-    Run {
-        pages: PageRange {
-            first: Page(first),
-            count,
-        },
-        value: Said(decoded),
-    }
 }
 
 fn root(count: u64) -> Root
