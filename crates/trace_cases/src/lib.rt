@@ -13,6 +13,3 @@ mod races;
 mod ways;
 
 pub use checking::{check, record};
-
-#[cfg(test)]
-mod tests;

@@ -14,6 +14,3 @@ pub use condition::Condition;
 pub use rows::Row;
 pub use steps::{Seen, add_steps};
 pub use telling::{Covered, cover};
-
-#[cfg(test)]
-mod tests;

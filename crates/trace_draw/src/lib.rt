@@ -9,8 +9,6 @@ pub mod laws;
 mod picture;
 mod places;
 mod snapshot;
-#[cfg(test)]
-mod tests;
 
 pub use course::Ended;
 pub use picture::{Drawing, draw};

@@ -12,6 +12,3 @@ mod words;
 pub use causes::cause_of;
 pub use explaining::{Explained, explain};
 pub use place::Place;
-
-#[cfg(test)]
-mod tests;

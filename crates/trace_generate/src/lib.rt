@@ -10,8 +10,6 @@ mod options;
 mod refusal;
 mod seen;
 mod suggest;
-#[cfg(test)]
-mod tests;
 mod walk;
 mod wanting;
 

@@ -15,6 +15,3 @@ pub use checking::{check, record, unexpanded};
 pub use expanding::{Expansion, expand};
 pub use faults::{Spot, add_spot};
 pub use values::{bytes_of, note_at};
-
-#[cfg(test)]
-mod tests;

@@ -12,6 +12,3 @@ mod words;
 
 pub use checking::check;
 pub use listing::WatchLine;
-
-#[cfg(test)]
-mod tests;

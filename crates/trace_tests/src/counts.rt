@@ -1,7 +1,7 @@
 //! Counts of small traces.
-use crate::{add_steps, cover};
 use std::str::from_utf8;
 use std::test::Fail;
+use trace_cover::{add_steps, cover};
 use trace_reader::Outcome;
 
 #[test]

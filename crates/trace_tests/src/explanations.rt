@@ -1,6 +1,6 @@
 //! Explanations of a small trace.
-use crate::explain;
 use std::test::Fail;
+use trace_explain::explain;
 use trace_reader::Outcome;
 
 #[test]

@@ -1,6 +1,6 @@
 //! Pictures and snapshots of a small trace.
-use crate::{Ended, draw, draw_text};
 use std::test::Fail;
+use trace_draw::{Ended, draw, draw_text};
 
 /// A frame that is shared, and a line that is none.
 const TRACE: &[u8] =

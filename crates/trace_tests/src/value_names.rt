@@ -1,7 +1,7 @@
 //! Checks of traces with names.
-use crate::{Expansion, check, expand};
 use std::test::Fail;
 use trace_check::Watch;
+use trace_values::{Expansion, check, expand};
 
 #[test]
 fn a_name_stands_for_its_value(rt: HostRuntime) -> Result<(), Fail> {

@@ -1,6 +1,6 @@
 //! Checks of a trace that is audited, and of one whose steps may be made in any order.
-use crate::check;
 use std::test::Fail;
+use trace_cases::check;
 use trace_check::Watch;
 
 #[test]

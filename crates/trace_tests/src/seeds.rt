@@ -1,7 +1,7 @@
 //! A generated trace has every call, and each seed has its own.
-use crate::{Options, generate};
 use call_table::CallName;
 use std::test::Fail;
+use trace_generate::{Options, generate};
 use trace_reader::Silent;
 
 /// Whether a step line has a call of this name.

@@ -1,7 +1,7 @@
 //! Checks of traces with watches.
-use crate::check;
 use std::test::Fail;
 use trace_check::Watch;
+use trace_watches::check;
 
 #[test]
 fn the_first_step_that_breaks_a_watch_is_missed(rt: HostRuntime) -> Result<(), Fail> {
