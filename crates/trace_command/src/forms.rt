@@ -36,8 +36,14 @@ const VERSION: &str = "3.0.0 (rattle-kit-13f)";
 const PROGRAM: &str = "./run";
 
 /// The text that help shows after the words.
-const HELP: &str =
+const EXAMPLES: &str =
     "Examples:\n  ./run replay examples/first_share.trace\n  ./run replay examples/first_share.trace --heap 262144\n  ./run race examples/raced/one_vcpu.trace\n  ./run outcomes examples/raced/one_vcpu.trace\n  ./run audit examples/audited/broken_word.trace\n  ./run check examples/expected_replies.trace\n  ./run cover examples/first_share.trace examples/refusals.trace\n  ./run explain examples/first_share.trace\n  ./run generate 1 1000 --cpus 4 --hostile 10\n  ./run draw examples/protected_vm.trace\n\nFILE is a path, or - for standard input.\n\nExit status:\n  0  the report ends without a fault or a disagreement; what a trace expects is met, or nothing is missing\n  1  the report has a fault or a disagreement, an expectation is missed, something never came, or reading, writing, memory or the start of a thread failed\n  2  FILE can't be opened, or has a fault that cover meets, the words are refused, or help was asked for\n\nThe lines of a trace, its report and each fault are explained in docs/TRACES.md, the objects of --json in docs/JSON.md.";
+
+/// The text that help shows after the words. No contract speaks of it; it is a call since a function that names so long a
+/// text takes minutes to prove.
+fn examples() -> &'static str {
+    EXAMPLES
+}
 
 /// A required positional value.
 fn needed<'a>(global: Global, id: &'a str, help: &'a str) -> Arg<'a>
@@ -115,7 +121,7 @@ fn subcommand<'a>(global: Global, name: &'a str, about: &'a str) -> Command<'a>
     ensures app { app_of result ≡ new_app name.now }
     ensures local { (fields_of result).has_globals ≡ false }
 {
-    Command::new(global, name).about(about).after_help(HELP)
+    Command::new(global, name).about(about).after_help(examples())
 }
 
 /// A subcommand that takes this too.
@@ -446,7 +452,7 @@ pub(crate) fn form<'a>(global: Global) -> Result<Command<'a>, AllocError>
     let form = named
         .about("Run traces of hypercalls on a model of protected KVM's page ownership")
         .version(VERSION)
-        .after_help(HELP)
+        .after_help(examples())
         .subcommand_required(true)
         .arg_required_else_help(true);
     let form = with_form(form, replay(global)?)?;
