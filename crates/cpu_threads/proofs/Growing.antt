@@ -136,11 +136,11 @@ seen_grows step reply v w s k = by (uses s.call k) refl
     used e =
         listed step (cpu_of v.own) k
         (subst (λ (z : Step × Option ℕ). is_used (names z.0) z.1 (part_of k) ≡ true)
-        (λ i. (s.called.asked i, s.called.slot i)) e)
+        (λ i. ((s.call_is i).step, (s.call_is i).slot)) e)
 
     by : (b : Bool) → uses s.call k ≡ b → Told v w s.call k
     by true e = let g = grows s.call v w (used_by step v) s.tries s.taken k (used e) in (g.0, λ _. g.1)
-    by false e = (([], s.added.others k e ∙ sym (append-nil (seen_at v.seen k))), λ t. absurd (true≢false (sym t ∙ e)))
+    by false e = (([], s.others k e ∙ sym (append-nil (seen_at v.seen k))), λ t. absurd (true≢false (sym t ∙ e)))
 
 pub takes_each : TakesEach
 takes_each step reply v w s =

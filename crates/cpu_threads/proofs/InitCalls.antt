@@ -11,7 +11,6 @@ use Rattle.call_table.specs.declared.step.Step.TheVariants.{VmReserve, Fund, Ins
 use Rattle.call_table.specs.declared.step.VmId.{VmId}
 use Rattle.call_table.specs.declared.step.VmKind.{VmKind}
 use Rattle.reference_model.specs.model.History.{IsStored}
-use Rattle.part_types.specs.declared.parts.CpuState.{CpuState}
 use Rattle.part_types.specs.Logs.{StoredCalls}
 use Rattle.part_table.specs.Known.{Known}
 use Rattle.cpu_threads.specs.Inits.{InitsVm, IsCallOf, IsMade, IsRefusedAt}
@@ -28,9 +27,9 @@ one_more step reply v w stored is =
     let h = is.stored stored in
     let c : Call = h.stores.call in (
       c ∷ [],
-      ap (λ (g : StoredCalls). g.calls) h.stores.added.own
-          ∙ ap (λ (k : CpuState). k.log.calls ++ c ∷ []) h.met.same.own,
-      λ i. (h.stores.called.asked i, h.stores.reply_is i) ∷ [],
+      ap (λ (g : StoredCalls). g.calls) h.stores.own
+          ∙ ap (λ (k : Known). k.own.log.calls ++ c ∷ []) h.met.same,
+      λ i. ((h.stores.call_is i).step, (h.stores.call_is i).reply) ∷ [],
     )
 
 map_two : {X Y : Type 0} (f : X → Y) (xs ys : List X) → map f (xs ++ ys) ≡ map f xs ++ map f ys

@@ -337,12 +337,12 @@ pub judged_of : {A J : Type 0} (takes : J → Asked → J → Type 0)
     → IsJudged A takes step reply v w from to
 judged_of takes law step reply v w from to m = record {
   made = m;
-  agrees = if_some m.makes.told.asked.states (λ s r.
+  agrees = if_some m.told.asked.states (λ s r.
       subst (λ (z : Step × Reply). JudgeAgrees (contents_in s.0) z.0 z.1 (contents_in s.1) (told_of s.0 v.cpu z.0))
-      (λ i. (m.makes.called.asked i, m.reply_is i))
+      (λ i. ((m.call_is i).step, (m.call_is i).reply))
       (agrees
-      (layout_of v.layout) law m.call v.cpu m.makes.before m.makes.after v.own w.own s.0 s.1 m.makes.called.by
-      m.makes.left m.makes.only m.makes.does r.0 r.1)) m.makes.told.states;
+      (layout_of v.layout) law m.call v.cpu m.before m.after v.own w.own s.0 s.1 (ap (λ (c : Call). c.cpu) m.call_is)
+      m.left m.only m.does r.0 r.1)) m.told.states;
 }
 
 -- what a judge was asked, by two records

@@ -88,9 +88,10 @@ module _ (l : Layout) (s t : Reference) (c : Call) (v : Value) (opens : c.step �
 pub open_answers : (v : Value) (u w : Known) → StoresInTheEnd VmOpen (Done v) u w → (vm : VmId) × (v ≡ Vm vm)
 open_answers v u w h =
     let c : Call = h.stores.call in
-    let e = h.stores.added.history in
+    let e = h.stores in
     let l : Layout = layout_of w.layout in
     let leads =
     subst (λ (cs : List Call). Runs (Steps l) (boot l) cs e.left.history.end) e.ends.1 e.left.history.run.leads in
     let last = runs_last (Steps l) e.ends.0 (boot l) e.left.history.end c leads in
-    step_opens l last.0 e.left.history.end c v h.stores.called.asked h.stores.reply_is last.1
+    step_opens l last.0 e.left.history.end c v (ap (λ (d : Call). d.step) e.call_is)
+    (ap (λ (d : Call). d.reply) e.call_is) last.1

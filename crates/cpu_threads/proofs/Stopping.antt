@@ -1,9 +1,9 @@
 -- Where a try stops that stores no call.
 use Rattle.std.proofs.Common.{◌≡◌, ◌≢◌, ℕ, List, [], ◌∷◌, ◌++◌, length, refl, sym, ap, ◌∙◌, subst, ⊎_elim, inl, inr}
-use Rattle.std.specs.Prelude.{Option}
+use Rattle.std.specs.Prelude.{Option, None}
 use Rattle.std.proofs.lemmas.List.Elements.{All-cons, All-nil}
 use Rattle.part_types.specs.Logs.{StoredCalls}
-use Rattle.part_table.specs.Answered.{MeetsAnother, used_by}
+use Rattle.part_table.specs.Answered.{used_by}
 use Rattle.part_table.specs.Known.{AddsTries, Known, Try}
 use Rattle.part_table.specs.Tried.{EndsIn, FoundAway, FoundFull, FoundRoom}
 use Rattle.part_table.proofs.Added.{timed}
@@ -40,21 +40,15 @@ module _ (Last : Option StoredCalls → Type 0) where
 
 met_at : (v w : Known) (ts : List Try)
     → AddsTries ts v w
-    → (ks : List ℕ)
-    → StopAt FoundAway ks ts
-    → MeetsAnother v w
-met_at v w ts tried ks s = record {
-  part = s.last.0;
-  before = s.before;
-  after = [];
-  tried =
-      tried
-      ∙ ap (λ (l : List Try). v.tries ++ timed (length v.own.log.calls) l)
-      (s.all ∙ ap (λ (o : Option StoredCalls). s.before ++ (s.last.0, o) ∷ []) s.found);
-}
+    → (ks : List ℕ) (s : StopAt FoundAway ks ts)
+    → AddsTries (s.before ++ (s.last.0, None) ∷ []) v w
+met_at v w ts tried ks s =
+    tried
+    ∙ ap (λ (l : List Try). v.tries ++ timed (length v.own.log.calls) l)
+    (s.all ∙ ap (λ (o : Option StoredCalls). s.before ++ (s.last.0, o) ∷ []) s.found)
 
 pub stops_at_another : StopsAtAnother
-stops_at_another step v w f = let s = stop_at FoundAway (used_by step v) f.tries f.away in
+stops_at_another step v w f = let s = stop_at FoundAway (used_by step v) f.tries f.found.1 in
     (s, met_at v w f.tries f.tried (used_by step v) s)
 
 pub stops_at_full_log : StopsAtFullLog
@@ -62,4 +56,4 @@ stops_at_full_log step v w f = ⊎_elim
     (λ (h : (v.own.log.room ≡ 0) × (f.tries ≡ [])). inl h)
     (λ (h : (v.own.log.room ≢ 0) × EndsIn FoundFull (used_by step v) f.tries). inr
     (stop_at FoundFull (used_by step v) f.tries h.1))
-    f.full
+    f.found

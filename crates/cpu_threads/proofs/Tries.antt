@@ -1,5 +1,5 @@
 -- Tries, one after another, and passes that are handed out.
-use Rattle.std.proofs.Common.{◌≡◌, ◌≢◌, ℕ, ◌<◌, List, [], ◌∷◌, ◌++◌, append-nil, length, length-set, refl, sym, ap, ◌∙◌, subst, arith}
+use Rattle.std.proofs.Common.{◌≡◌, ℕ, ◌<◌, List, [], ◌∷◌, ◌++◌, append-nil, length, length-set, refl, sym, ap, ◌∙◌, subst, arith}
 use Rattle.std.specs.Prelude.{Option, Some, None, IfSome, flat_map, slice_get, slice_set}
 use Rattle.std.proofs.lemmas.List.{append_assoc, map-append}
 use Rattle.std.proofs.lemmas.List.Elements.{All-nil, All-push}
@@ -7,58 +7,53 @@ use Rattle.std.proofs.lemmas.List.Concat.{flat_map-append}
 use mathlib.Core.Logic.{dite}
 use native.Mathlib.Decide.{ℕ_discrete}
 use Rattle.call_table.specs.declared.step.Step.{Step}
-use Rattle.part_types.specs.declared.parts.CpuState.{CpuState}
-use Rattle.part_types.specs.View.{cpu_of}
-use Rattle.hypercalls.specs.Uses.{uses_of}
-use Rattle.part_table.specs.Answered.{FindsAway, used_by}
-use Rattle.part_table.specs.Parts.{in_order}
+use Rattle.part_table.specs.Answered.{FindsAway, StoresNothing}
 use Rattle.part_table.specs.Passes.{AreFirst, IsPassOf, Opened, Pass, first_pass}
 use Rattle.part_table.specs.Known.{IsSame, Known, Try}
-use Rattle.part_table.specs.Tried.{EndsIn, FoundAway}
 use Rattle.part_table.proofs.Added.{timed}
 use Rattle.part_table.proofs.Lists.{get_set_else}
 use Rattle.cpu_threads.specs.Machines.{AreFresh, AreTheirs, HandsOut, MeetsOnly}
 use Rattle.cpu_threads.proofs.Ends.{get_bound, get_set_here}
 
 pub same_on : (u v w : Known) → IsSame u v → IsSame v w → IsSame u w
-same_on u v w a b =
-    record { layout = b.layout ∙ a.layout; cpu = b.cpu ∙ a.cpu; own = b.own ∙ a.own; seen = b.seen ∙ a.seen }
+same_on u v w a b = b ∙ ap (λ (k : Known). record k { tries = w.tries }) a
 
 -- before the first try
-pub meets_none : (step : Step) (v : Known) → MeetsOnly step v v
+pub meets_none : (step : Step) (v : Known) → StoresNothing (MeetsOnly step v) v v
 meets_none step v =
     record {
-      same = record { layout = refl; cpu = refl; own = refl; seen = refl };
-      rounds = [];
-      tried =
-          sym (append-nil v.tries);
-      away =
-          All-nil (λ ts. (v.own.log.room ≢ 0) × EndsIn FoundAway (used_by step v) ts);
+      same = refl;
+      tries = [];
+      tried = sym (append-nil v.tries);
+      found = ([], refl, All-nil (FindsAway step v));
     }
 
 -- one try more that met another pass
-pub meets_more : (step : Step) (v w x : Known) → MeetsOnly step v w → FindsAway step w x → MeetsOnly step v x
-meets_more step v w x m f = record {
-  same = same_on v w x m.same f.same;
-  rounds = m.rounds ++ f.tries ∷ [];
-  tried =
-      let n : ℕ = length v.own.log.calls in
-      let met : List Try = flat_map (λ ts. ts) m.rounds in
-      f.tried
-      ∙ (ap (λ (k : CpuState). w.tries ++ timed (length k.log.calls) f.tries) m.same.own
-      ∙ (ap (λ ts. ts ++ timed n f.tries) m.tried
-      ∙ (append_assoc v.tries (timed n met) (timed n f.tries)
-      ∙ ap (λ ts. v.tries ++ ts)
-      (sym (map-append (λ (t : Try). (n, t)) met f.tries)
-      ∙ ap (timed n)
-      (ap (λ ts. met ++ ts) (sym (append-nil f.tries))
-      ∙ sym (flat_map-append (λ ts. ts) m.rounds (f.tries ∷ [])))))));
-  away = All-push (λ ts. (v.own.log.room ≢ 0) × EndsIn FoundAway (used_by step v) ts) m.rounds f.tries m.away
-      (subst
-      (λ (k : CpuState). (k.log.room ≢ 0)
-      × EndsIn FoundAway (in_order (uses_of (cpu_of k) step)) f.tries) m.same.own
-      (f.room, f.away));
-}
+pub meets_more : (step : Step) (v w x : Known)
+    → StoresNothing (MeetsOnly step v) v w
+    → StoresNothing (FindsAway step w) w x
+    → StoresNothing (MeetsOnly step v) v x
+meets_more step v w x m f =
+    let n : ℕ = length v.own.log.calls in
+    let met : List Try = flat_map (λ us. us) m.found.0 in
+    record {
+      same = same_on v w x m.same f.same;
+      tries = m.tries ++ f.tries;
+      tried =
+          f.tried
+          ∙ (ap (λ (k : Known). w.tries ++ timed (length k.own.log.calls) f.tries) m.same
+          ∙ (ap (λ ts. ts ++ timed n f.tries) m.tried
+          ∙ (append_assoc v.tries (timed n m.tries) (timed n f.tries)
+          ∙ ap (λ ts. v.tries ++ ts) (sym (map-append (λ (t : Try). (n, t)) m.tries f.tries)))));
+      found = (
+        m.found.0 ++ f.tries ∷ [],
+        ap (λ ts. ts ++ f.tries) m.found.1
+            ∙ (ap (λ ts. met ++ ts) (sym (append-nil f.tries))
+            ∙ sym (flat_map-append (λ us. us) m.found.0 (f.tries ∷ []))),
+        All-push (FindsAway step v) m.found.0 f.tries m.found.2
+            (subst (λ (k : Known). FindsAway step k f.tries) m.same f.found),
+      );
+    }
 
 -- what lies at a CPU's place is its pass, or nothing
 pub handed : (t : Opened) (passes : List (Option Pass)) (cpu : ℕ) (o : Option Pass)

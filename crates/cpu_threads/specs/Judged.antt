@@ -106,5 +106,5 @@ module _ {A : Type 0} where
 pub record IsJudged (A : Type 0) {J : Type 0} (takes : J → Asked → J → Type 0) (step : Step)
     (reply : Reply) (v w : Known) (from to : J) : Type 0 where
   pub made : IsMade (AsksOnce {A = A} takes) step reply v w from to
-  pub agrees : IfSome made.makes.told.asked.states
+  pub agrees : IfSome made.told.asked.states
       (λ s. JudgeAgrees (contents_in s.0) step reply (contents_in s.1) (told_of s.0 v.cpu step))

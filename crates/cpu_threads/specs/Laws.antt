@@ -18,13 +18,13 @@ use Rattle.part_types.specs.Logs.{StoredCalls}
 use Rattle.ghost_spec.specs.States.{contents_in}
 use Rattle.ghost_judge.specs.Judgements.{IsAsPredicted, told_of}
 use Rattle.part_table.specs.declared.slot.Slot.{Slot}
-use Rattle.part_table.specs.Answered.{FindsAway, FindsLogFull, MeetsAnother, MakesCall, used_by}
+use Rattle.part_table.specs.Answered.{FindsAway, FindsLogFull, MakesCall, StoresNothing, used_by}
 use Rattle.part_table.specs.Before.{before_own}
 use Rattle.part_table.specs.Endings.{IsEndFor, IsEndOf}
 use Rattle.part_table.specs.Parts.{parts, part_of, uses}
 use Rattle.part_table.specs.Passes.{Opened, Pass}
 use Rattle.part_table.specs.Beginnings.{GoesOn, own_in}
-use Rattle.part_table.specs.Known.{AreFronts, Known, StartsWith, Try, seen_at}
+use Rattle.part_table.specs.Known.{AddsTries, AreFronts, Known, StartsWith, Try, seen_at}
 use Rattle.part_table.specs.Tried.{FoundAway, FoundFull, FoundRoom}
 use Rattle.cpu_threads.specs.Ends.{AreFreshAt, HasAll, IsAtHome, LacksOne, OfGiven}
 use Rattle.cpu_threads.specs.Inits.{InitsVm}
@@ -99,14 +99,15 @@ pub record StopAt (Last : Option StoredCalls → Type 0) (ks : List ℕ)
 -- a try of a step that finds a part with another pass stops there, and has recorded it
 abbrev pub StopsAtAnother : Type 0
 StopsAtAnother =
-    (step : Step) (v w : Known) (f : FindsAway step v w)
-    → StopAt FoundAway (used_by step v) f.tries × MeetsAnother v w
+    (step : Step) (v w : Known) (f : StoresNothing (FindsAway step v) v w)
+    → (s : StopAt FoundAway (used_by step v) f.tries)
+    × AddsTries (s.before ++ (s.last.0, None) ∷ []) v w
 
 -- a try of a step that finds a log full: the CPU's own, and no part is tried, or that of the part
 -- at which it stops
 abbrev pub StopsAtFullLog : Type 0
 StopsAtFullLog =
-    (step : Step) (v w : Known) (f : FindsLogFull step v w)
+    (step : Step) (v w : Known) (f : StoresNothing (FindsLogFull step v) v w)
     → ((v.own.log.room ≡ 0) × (f.tries ≡ [])) ⊎ StopAt FoundFull (used_by step v) f.tries
 
 -- a judge that keeps all questions is asked about a stored call once, with its CPU, its step and
@@ -131,7 +132,7 @@ ShowsModel A {J = J} takes =
     (step : Step) (reply : Reply) (v w : Known) (from to : J)
     (h : IsJudged A takes step reply v w from to)
     → reply ≢ Refused NoMemory
-    → IfSome h.made.makes.told.asked.states
+    → IfSome h.made.told.asked.states
     (λ s. IsAsPredicted reply (contents_in s.1) (told_of s.0 v.cpu step))
 
 -- a CPU's list has these steps and replies more, in this order

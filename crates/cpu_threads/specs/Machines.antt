@@ -8,14 +8,13 @@ use Rattle.page_state.specs.LayoutFaults.{IsAccepted}
 use Rattle.page_state.specs.LayoutView.{layout_of}
 use Rattle.page_state.specs.Regions.{Memory}
 use Rattle.reference_model.specs.model.Boot.{IsCarveEnough}
-use Rattle.part_table.specs.Answered.{FindsLogFull, MakesCall, used_by}
+use Rattle.part_table.specs.Answered.{FindsAway, FindsLogFull, MakesCall, StoresNothing}
 use Rattle.part_table.specs.declared.rule.Begun.{Begun}
 use Rattle.part_table.specs.Parts.{log_of, parts}
 use Rattle.part_table.specs.Passes.{AreFirst, IsPassOf, Opened, Pass, first_pass}
-use Rattle.part_table.specs.Known.{AddsTries, IsSame, Known, Try, own_at_boot}
+use Rattle.part_table.specs.Known.{Known, Try, own_at_boot}
 use Rattle.part_table.specs.Beginnings.{own_in}
 use Rattle.part_table.specs.Slots.{slots_of}
-use Rattle.part_table.specs.Tried.{EndsIn, FoundAway}
 use Rattle.hypercalls.specs.declared.parts.Parts.{Parts}
 use Rattle.hypercalls.specs.Booted.{IsConfig, layout_for}
 
@@ -73,22 +72,22 @@ pub record IsBootedMachine (m : Memory) (c : Config) (it : Machine) : Type 0 whe
   pub begun : BeginsAtBoot it.table
   pub passes : AreFirst it.table c.cpus it.passes
 
--- Tries of a step, one after another, each of which found a part that another pass had, with room
--- in the CPU's own log. None changed anything else
-pub record MeetsOnly (step : Step) (v w : Known) : Type 0 where
-  pub same : IsSame v w
-  pub rounds : List (List Try)
-  pub tried : AddsTries (flat_map (λ ts. ts) rounds) v w
-  pub away : All (λ ts. (v.own.log.room ≢ 0) × EndsIn FoundAway (used_by step v) ts) rounds
+-- the tries of a step that was tried again and again, or not yet: each time another pass had a part
+-- that it uses
+abbrev pub MeetsOnly : Step → Known → List Try → Type 0
+MeetsOnly step v ts =
+    (rounds : List (List Try))
+    × (ts ≡ flat_map (λ us. us) rounds)
+    × All (FindsAway step v) rounds
 
 -- a step is tried while another pass is in its way, and then the call is stored
 pub record StoresInTheEnd (step : Step) (reply : Reply) (v w : Known) : Type 0 where
   pub last : Known
-  pub met : MeetsOnly step v last
+  pub met : StoresNothing (MeetsOnly step v) v last
   pub stores : MakesCall step reply last w
 
 -- a step is tried while another pass is in its way, and then a log is found full
 pub record FullInTheEnd (step : Step) (v w : Known) : Type 0 where
   pub last : Known
-  pub met : MeetsOnly step v last
-  pub full : FindsLogFull step last w
+  pub met : StoresNothing (MeetsOnly step v) v last
+  pub full : StoresNothing (FindsLogFull step last) last w

@@ -29,8 +29,8 @@ use Rattle.part_table.proofs.Left.{left_by, one_cpu, stands}
 use Rattle.part_table.proofs.Beginning.{goes_longer}
 use Rattle.part_table.proofs.Fronts.{fronts_longer, fronts_missed, fronts_took}
 use Rattle.part_table.specs.Beginnings.{own_in}
-use Rattle.part_table.specs.Rule.{Hands, held_at, seen_with, StandsAfter, Knows, Rooted, IsLawful, taking, missing, releasing, took, Standing, returned, stored, entered, storing, tail, known_of}
-use Rattle.part_table.specs.Known.{at, seen_at, AreFronts, StartsWith, Try, Extends}
+use Rattle.part_table.specs.Rule.{Extends, Hands, held_at, seen_with, StandsAfter, Knows, Rooted, IsLawful, taking, missing, releasing, took, Standing, returned, stored, entered, storing, tail, known_of}
+use Rattle.part_table.specs.Known.{at, seen_at, AreFronts, StartsWith, Try}
 use Rattle.part_table.proofs.Pairs.{at_same, at_other, set_at, at_bound, part_same, still_held, seats, picked_more, picked_same, picked_longer, runs_more, after_seen, unused_seen}
 
 pub either_bool : (b : Bool) → (b ≡ true) ⊎ (b ≡ false)

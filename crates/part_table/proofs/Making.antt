@@ -11,15 +11,29 @@ use Rattle.part_types.specs.declared.parts.CpuState.{CpuState}
 use Rattle.part_table.specs.declared.slot.Slot.{Slot}
 use Rattle.part_table.specs.declared.tries.Tried.{Tried}
 use Rattle.part_table.specs.declared.tries.Tried.TheVariants.{Stored, Contended, LogFull}
-use Rattle.part_table.specs.Answered.{used_by}
+use Rattle.part_table.specs.Answered.{next_call, used_by}
 use Rattle.part_table.specs.Does.{Does, IsCalled, IsLeft, both_at, only_at}
-use Rattle.part_table.specs.Made.{IsMade, Makes}
+use Rattle.part_table.specs.Made.{IsMade}
 use Rattle.part_table.specs.Parts.{numbers_for, log_of, uses}
 use Rattle.part_table.specs.Rule.{Seated, known_of}
 use Rattle.part_table.specs.Known.{AddsTries, Known, Try}
-use Rattle.part_table.specs.Trying.{MakesFor, MakesOf, reply_of}
+use Rattle.part_table.specs.Trying.{Makes, MakesFor, MakesOf, reply_of}
 use Rattle.part_table.proofs.Added.{timed}
 use Rattle.part_table.proofs.Holding.{only_here, at_first, at_second}
+
+-- a step's call with this reply is the pass's next call
+pub called_next : (step : Step) (reply : Reply) (v : Known) (c : Call)
+    → reply ≡ c.reply
+    → IsCalled v.cpu v.own step c
+    → c ≡ next_call v step reply
+called_next step reply v c e called =
+    λ i. record {
+      cpu = called.by i;
+      number = called.number i;
+      step = called.asked i;
+      reply = sym e i;
+      slot = called.slot i;
+    }
 
 module _ {A T : Type 0}
     (tells : TheLayout
@@ -88,7 +102,17 @@ module _ {A T : Type 0}
           → reply ≡ reply_of t
           → MakesOf tells step (used_by step v) t v w from to
           → IsMade tells step reply v w from to
-      of (Stored c) e h = record { call = c; reply_is = sym e; makes = h }
+      of (Stored c) e h = record {
+        call = c;
+        call_is = called_next step reply v c e h.called;
+        before = h.before;
+        after = h.after;
+        left = h.left;
+        only = h.only;
+        does = h.does;
+        tried = h.tried;
+        told = h.told;
+      }
       of Contended e h = absurd (subst IsStored e s)
       of LogFull e h = absurd (subst IsStored e s)
 

@@ -49,5 +49,5 @@ pub made_as_taken : {A T : Type 0}
     (tells : TheLayout → (ℕ → Option (Slot A)) → CpuState → Call → (ℕ → Option (Slot A)) → CpuState → T → T → Type 0)
     → MadeAsTaken tells
 made_as_taken tells step reply v w from to s m =
-    as_taken m.makes.before s.call v w (used_by step v) s.tries s.taken
-    (same_tries v w s.tries (tries_of m.makes.before (used_by step v)) s.tried m.makes.tried)
+    as_taken m.before s.call v w (used_by step v) s.tries s.taken
+    (same_tries v w s.tries (tries_of m.before (used_by step v)) s.tried m.tried)

@@ -23,13 +23,14 @@ use Rattle.call_table.specs.declared.step.Step.{Step}
 use Rattle.part_table.specs.Parts.{numbers_for, uses, log_of, IsPart, IsOwn}
 use Rattle.part_table.specs.Does.{Does, IsCalled, IsLeft, none_at, only_at, both_at}
 use Rattle.part_table.proofs.Left.{left_by, list_left, one_cpu, own_left, stands}
-use Rattle.part_table.specs.Rule.{Hands, IsIdle, Seated, tail, held_at, seen_with, taking, missing, releasing, storing, known_of, Standing, AtRest}
-use Rattle.part_table.specs.Known.{seen_at, StartsWith, IsSame, Adds, AddsTries, Extends, Known, Try}
+use Rattle.part_table.specs.Rule.{Extends, Hands, IsIdle, Seated, tail, held_at, seen_with, taking, missing, releasing, storing, known_of, Standing, AtRest}
+use Rattle.part_table.specs.Known.{seen_at, StartsWith, IsSame, AddsTries, Known, Try}
 use Rattle.part_table.specs.Tried.{AllTaken, EndsIn, FoundFull, FoundRoom}
-use Rattle.part_table.specs.Answered.{Answers, FindsAway, FindsLogFull, MeetsAnother, MakesCall, used_by}
-use Rattle.part_table.specs.Trying.{CanTry, IsAtRest, Tells, TriesOf, WhereStored, reply_of}
+use Rattle.part_table.specs.Answered.{Answers, FindsAway, FindsLogFull, MakesCall, StoresNothing, used_by}
+use Rattle.part_table.specs.Trying.{Adds, CanTry, IsAtRest, Tells, TriesOf, WhereStored, reply_of}
 use Rattle.part_table.proofs.Added.{same_tries, timed}
 use Rattle.part_table.proofs.Holding.{only_here, at_first, at_second}
+use Rattle.part_table.proofs.Making.{called_next}
 use Rattle.part_table.proofs.Pairs.{at_same, at_other, unused_seen, part_same}
 
 module _ {A : Type 0} where
@@ -101,7 +102,7 @@ module _ {A : Type 0} where
       → n ≡ with_missed m k
       → tells_none (k ∷ ks) Contended m n
   away_first m k ks e = subst (tells_none (k ∷ ks) Contended m) (sym e) (
-    record { layout = refl; cpu = refl; own = refl; seen = refl },
+    refl,
     ((k, None) ∷ [], refl, (None, [], refl, inl (refl, refl))),
   )
 
@@ -110,7 +111,7 @@ module _ {A : Type 0} where
       → (log_of x).room ≡ 0
       → tells_none (k ∷ ks) LogFull m n
   full_first m k ks x e full = subst (tells_none (k ∷ ks) LogFull m) (sym e) (
-    record { layout = refl; cpu = refl; own = refl; seen = refl },
+    refl,
     ((k, Some (log_of x)) ∷ [], refl, (Some (log_of x), [], refl, inl ((log_of x, refl, full), refl))),
   )
 
@@ -169,7 +170,7 @@ module _ {A : Type 0} where
       → (log_of x).room ≢ 0
       → tells_none (1 ∷ g ∷ []) Contended m n
   away_second m g x e room = subst (tells_none (1 ∷ g ∷ []) Contended m) (sym e) (
-    record { layout = refl; cpu = refl; own = refl; seen = refl },
+    refl,
     (
       (1, Some (log_of x)) ∷ (g, None) ∷ [],
       append_assoc m.0.tries (timed (length m.0.own.log.calls) ((1, Some (log_of x)) ∷ []))
@@ -184,7 +185,7 @@ module _ {A : Type 0} where
       → (log_of y).room ≡ 0
       → tells_none (1 ∷ g ∷ []) LogFull m n
   full_second m g x y e room full = subst (tells_none (1 ∷ g ∷ []) LogFull m) (sym e) (
-    record { layout = refl; cpu = refl; own = refl; seen = refl },
+    refl,
     (
       (1, Some (log_of x)) ∷ (g, Some (log_of y)) ∷ [],
       two_tries m.0 g x y,
@@ -472,10 +473,15 @@ module _ (step : Step) (reply : Reply) (v w : Known) where
       of (Stored c) e h =
           record {
             call = c;
-            called = h.1.0;
-            reply_is = sym e;
+            call_is = called_next step reply v c e h.1.0;
             room = h.0;
-            added = h.1.2;
+            layout = h.1.2.layout;
+            cpu = h.1.2.cpu;
+            own = h.1.2.own;
+            left = h.1.2.history.left;
+            ends = h.1.2.history.ends;
+            seen = h.1.2.history.seen;
+            others = h.1.2.others;
             tries = h.1.3.0;
             tried = h.1.3.1;
             taken = h.1.3.2;
@@ -484,21 +490,24 @@ module _ (step : Step) (reply : Reply) (v w : Known) where
       of LogFull e h = absurd (subst IsStored e s)
 
   -- what Contended tells
-  away_of : Replies step reply v w → reply ≡ Refused contended → FindsAway step v w
+  away_of : Replies step reply v w → reply ≡ Refused contended → StoresNothing (FindsAway step v) v w
   away_of a s = of a.0 a.1 a.2
     where
-      of : (t : Tried) → reply ≡ reply_of t → ComesTo step t v w → FindsAway step v w
+      of : (t : Tried) → reply ≡ reply_of t → ComesTo step t v w → StoresNothing (FindsAway step v) v w
       of (Stored c) e h = absurd (subst IsStored (sym e ∙ s) h.1.1)
-      of Contended e h = record { same = h.1.0; room = h.0; tries = h.1.1.0; tried = h.1.1.1; away = h.1.1.2 }
+      of Contended e h = record { same = h.1.0; tries = h.1.1.0; tried = h.1.1.1; found = (h.0, h.1.1.2) }
       of LogFull e h = let never : Refused contended ≡ Refused log_full = sym s ∙ e in cc
 
   -- a part that another pass has is told by Contended alone
-  met_of : Replies step reply v w → MeetsAnother v w → reply ≡ Refused contended
-  met_of a m = of a.0 a.1 a.2
+  met_of : Replies step reply v w
+      → (part : ℕ) (before after : List Try)
+      → AddsTries (before ++ (part, None) ∷ after) v w
+      → reply ≡ Refused contended
+  met_of a part before after tried = of a.0 a.1 a.2
     where
       apart : (ts : List Try) → AddsTries ts v w → NoneAway ts → ⊥
       apart ts is none =
-          none m.part m.before m.after (same_tries v w ts (m.before ++ (m.part, None) ∷ m.after) is m.tried)
+          none part before after (same_tries v w ts (before ++ (part, None) ∷ after) is tried)
 
       of : (t : Tried) → reply ≡ reply_of t → ComesTo step t v w → reply ≡ Refused contended
       of (Stored c) e h = absurd (apart h.1.3.0 h.1.3.1 (taken_none_away c v w (used_by step v) h.1.3.0 h.1.3.2))
@@ -512,23 +521,23 @@ module _ (step : Step) (reply : Reply) (v w : Known) where
           by_part part = apart part.1.1.0 part.1.1.1 (full_none_away (used_by step v) part.1.1.0 part.1.1.2)
 
   -- what LogFull tells
-  full_of : Replies step reply v w → reply ≡ Refused log_full → FindsLogFull step v w
+  full_of : Replies step reply v w → reply ≡ Refused log_full → StoresNothing (FindsLogFull step v) v w
   full_of a s = of a.0 a.1 a.2
     where
-      by_own : (v.own.log.room ≡ 0) × IsSame v w × (w.tries ≡ v.tries) → FindsLogFull step v w
+      by_own : (v.own.log.room ≡ 0) × IsSame v w × (w.tries ≡ v.tries) → StoresNothing (FindsLogFull step v) v w
       by_own h =
           record {
             same = h.1;
             tries = [];
             tried = h.2
                 ∙ sym (Rattle.std.proofs.Common.append-nil v.tries);
-            full = inl (h.0, refl);
+            found = inl (h.0, refl);
           }
 
-      by_part : (v.own.log.room ≢ 0) × Tells step (used_by step v) LogFull v w → FindsLogFull step v w
-      by_part h = record { same = h.1.0; tries = h.1.1.0; tried = h.1.1.1; full = inr (h.0, h.1.1.2) }
+      by_part : (v.own.log.room ≢ 0) × Tells step (used_by step v) LogFull v w → StoresNothing (FindsLogFull step v) v w
+      by_part h = record { same = h.1.0; tries = h.1.1.0; tried = h.1.1.1; found = inr (h.0, h.1.1.2) }
 
-      of : (t : Tried) → reply ≡ reply_of t → ComesTo step t v w → FindsLogFull step v w
+      of : (t : Tried) → reply ≡ reply_of t → ComesTo step t v w → StoresNothing (FindsLogFull step v) v w
       of (Stored c) e h = absurd (subst IsStored (sym e ∙ s) h.1.1)
       of Contended e h = let never : Refused log_full ≡ Refused contended = sym s ∙ e in cc
       of LogFull e h = ⊎_elim by_own by_part h

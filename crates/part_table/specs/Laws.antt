@@ -29,6 +29,6 @@ MadeAsTaken {A = A} {T = T} tells =
     (m : IsMade tells step reply v w from to)
     → All
     (λ k. (x : Slot A)
-    × (m.makes.before k ≡ Some x)
+    × (m.before k ≡ Some x)
     × (seen_at w.seen k ≡ (log_of x).calls ++ s.call ∷ []))
     (used_by step v)

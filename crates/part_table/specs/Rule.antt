@@ -22,9 +22,9 @@ use Rattle.part_table.specs.declared.rule.Begun.{Begun}
 use Rattle.part_table.specs.declared.rule.Opening.{Opening}
 use Rattle.part_table.specs.declared.rule.View.{View}
 use Rattle.part_table.specs.declared.slot.Slot.{Slot}
-use Rattle.part_table.specs.Parts.{parts, part_of, log_of, IsPart, IsOwn}
+use Rattle.part_table.specs.Parts.{parts, part_of, uses, log_of, IsPart, IsOwn}
 use Rattle.part_table.specs.Does.{IsLeft, none_at}
-use Rattle.part_table.specs.Known.{at, seen_at, AreFronts, Known, StartsWith, Try, Extends}
+use Rattle.part_table.specs.Known.{at, seen_at, AreFronts, Known, StartsWith, Try}
 use Rattle.part_table.specs.Beginnings.{GoesOn, begun_in, no_layout, no_own, own_in}
 
 -- parts by number; none: no longer held
@@ -244,6 +244,14 @@ seen_with (e ∷ es) seen = (e.0, seen_of e.1 (at seen [] e.0)) ∷ seen_with es
 abbrev pub storing : {A : Type 0} → CpuState → Hands A → View A → ℕ → View A
 storing own after v k =
     record v { own = own; seen = seen_with after v.seen; held = (k, None) ∷ after }
+
+-- there is a legal history that ends with the call. It leads to the pass's own state, with its
+-- list, and the calls that the pass has seen of each part that the call used are the history's
+-- calls of that part
+pub record Extends (c : Call) (w : Known) : Type 0 where
+  pub left : IsLeft {A = Unit {0}} (layout_of w.layout) w.cpu w.own none_at
+  pub ends : (before : List Call) × (left.log ≡ before ++ c ∷ [])
+  pub seen : (k : ℕ) → uses c k ≡ true → seen_at w.seen k ≡ calls_on (part_of k) left.log
 
 -- a part goes home with the call stored
 abbrev pub stored : {A : Type 0}

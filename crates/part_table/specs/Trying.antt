@@ -1,6 +1,6 @@
 -- The requirements and results of a try of a call: the state of a pass between its calls, the
 -- requirements of its exchanges and of its step, and the outcome of each try.
-use Rattle.std.specs.Prelude.{◌≡◌, ◌≢◌, ℕ, ◌<◌, List, [], ◌∷◌, ◌++◌, Option, Some, None, true}
+use Rattle.std.specs.Prelude.{◌≡◌, ◌≢◌, ℕ, ◌<◌, List, [], ◌∷◌, ◌++◌, map, Option, Some, None, option_map, true, false}
 use Rattle.atomic_table.specs.Seated.{TableId}
 use Rattle.page_state.specs.declared.layout.Layout.{Layout as TheLayout}
 use Rattle.page_state.specs.LayoutView.{layout_of}
@@ -11,16 +11,16 @@ use Rattle.call_table.specs.declared.reply.Reply.TheVariants.{Refused}
 use Rattle.call_table.specs.declared.step.Step.{Step}
 use Rattle.reference_model.specs.model.History.{IsStored}
 use Rattle.part_types.specs.declared.parts.CpuState.{CpuState}
+use Rattle.part_types.specs.Lent.{with_call}
 use Rattle.part_table.specs.declared.rule.View.{View}
 use Rattle.part_table.specs.declared.slot.Slot.{Slot}
 use Rattle.part_table.specs.declared.tries.Tried.{Tried}
 use Rattle.part_table.specs.declared.tries.Tried.TheVariants.{Stored, Contended, LogFull}
 use Rattle.part_table.specs.Answered.{used_by}
 use Rattle.part_table.specs.Does.{Does, IsCalled, IsLeft}
-use Rattle.part_table.specs.Known.{Adds, AddsTries, IsSame, Known, StartsWith, Try, seen_at}
-use Rattle.part_table.specs.Made.{Makes}
+use Rattle.part_table.specs.Known.{AddsTries, IsSame, Known, StartsWith, Try, seen_at}
 use Rattle.part_table.specs.Parts.{log_of, numbers_for, parts, uses}
-use Rattle.part_table.specs.Rule.{AtRest, Hands, IsIdle, Seated, Standing, held_at, taking}
+use Rattle.part_table.specs.Rule.{AtRest, Extends, Hands, IsIdle, Seated, Standing, held_at, taking}
 use Rattle.part_table.specs.Tried.{AllTaken, EndsIn, FoundAway, FoundFull}
 
 module _ {A : Type 0} where
@@ -71,6 +71,15 @@ module _ {A : Type 0} where
     pub used : (j : ℕ) (x : Slot A) → held_at v.held j ≡ Some x → uses c j ≡ true
     pub does : Does (layout_of v.layout) c (held_at v.held) v.own (held_at after) own
 
+-- what a stored call leaves of it: the call is added to the pass's own list, and there is a legal
+-- history that it ends. What the pass has seen of parts that the call didn't use stays
+pub record Adds (c : Call) (v w : Known) : Type 0 where
+  pub layout : w.layout ≡ v.layout
+  pub cpu : w.cpu ≡ v.cpu
+  pub own : w.own.log ≡ with_call c v.own.log
+  pub others : (k : ℕ) → uses c k ≡ false → seen_at w.seen k ≡ seen_at v.seen k
+  pub history : Extends c w
+
 -- the tries of one call that uses these parts, by its outcome
 abbrev pub TriesOf : List ℕ → Tried → Known → Known → Type 0
 TriesOf ks (Stored c) v w = (ts : List Try) × AddsTries ts v w × AllTaken c v w ks ts
@@ -108,9 +117,20 @@ module _ {A T : Type 0}
     → T
     → Type 0)
     (step : Step) where
+  -- the step of the call was made on these parts, by number, as they were taken, and reported
+  pub record Makes (ks : List ℕ) (v w : Known) (c : Call) (from to : T) : Type 0 where
+    pub before : ℕ → Option (Slot A)
+    pub after : ℕ → Option (Slot A)
+    pub called : IsCalled v.cpu v.own step c
+    pub left : IsLeft (layout_of v.layout) v.cpu v.own before
+    pub only : (k : ℕ) (x : Slot A) → before k ≡ Some x → uses c k ≡ true
+    pub does : Does (layout_of v.layout) c before v.own after w.own
+    pub tried : AddsTries (map (λ k. (k, option_map log_of (before k))) ks) v w
+    pub told : tells v.layout before v.own c after w.own from to
+
   -- what a maker reports of a try: a call that is stored was made; otherwise it reported nothing
   abbrev pub MakesOf : List ℕ → Tried → Known → Known → T → T → Type 0
-  MakesOf ks (Stored c) v w from to = Makes tells step ks v w c from to
+  MakesOf ks (Stored c) v w from to = Makes ks v w c from to
   MakesOf ks Contended v w from to = to ≡ from
   MakesOf ks LogFull v w from to = to ≡ from
 

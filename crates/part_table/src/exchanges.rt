@@ -1,8 +1,7 @@
 //! The exchanges: a part is taken, goes home as it is recorded, or goes home with a call stored.
 ghost use Rattle.std.specs.Prelude.{◌≡◌, ◌<◌, ◌∷◌, [], true, None, Some, IfSome, IfNone};
-ghost use Rattle.part_table.specs.Known.{Extends};
 ghost use Rattle.part_table.specs.Parts.{parts};
-ghost use Rattle.part_table.specs.Rule.{IsInHand, IsInSlot, IsInSlotAsHeld, held_at, known_of, releasing, missing, storing, tail};
+ghost use Rattle.part_table.specs.Rule.{Extends, IsInHand, IsInSlot, IsInSlotAsHeld, held_at, known_of, releasing, missing, storing, tail};
 ghost use Rattle.part_table.specs.Trying.{CanStore, HasTaken};
 
 use crate::rule::{Deed, Enter, Law, Opening, Return, Store, Take, View};

@@ -22,10 +22,10 @@ use Rattle.part_types.specs.declared.parts.CpuState.{CpuState}
 use Rattle.part_types.specs.View.{cpu_of}
 use Rattle.hypercalls.specs.Uses.{parts_of}
 use Rattle.part_table.proofs.Before.{own_behind, own_front}
-use Rattle.part_table.specs.Answered.{used_by}
+use Rattle.part_table.specs.Answered.{MakesCall}
 use Rattle.part_table.specs.Before.{before_own}
 use Rattle.part_table.specs.Does.{only_cpu}
-use Rattle.part_table.specs.Known.{Adds, IsSame, Known, StartsWith}
+use Rattle.part_table.specs.Known.{IsSame, Known, StartsWith}
 use Rattle.part_table.specs.Parts.{in_order, part_of}
 use Rattle.race_outcomes.proofs.OwnSlots.{same_slots}
 use Rattle.race_outcomes.proofs.Runs.{told_by}
@@ -102,34 +102,34 @@ module _ (key : TheLayout) (cpu : ℕ) where
   only_here : (c : ℕ) (own : CpuState) → only_cpu c own c ≡ Some own
   only_here c own = ap (λ b. cond b (Some own) None) (let e : eqb c c ≡ true = search (arith) in e)
 
-  added_at : (c : Call) (v w : Known) → Adds c v w → IsAt v → IsAt w
-  added_at c v w a at =
+  made_at : (step : Step) (reply : Reply) (v w : Known) → MakesCall step reply v w → IsAt v → IsAt w
+  made_at step reply v w a at =
       let is : w.layout ≡ key = a.layout ∙ at.layout in
       let by : w.cpu ≡ cpu = a.cpu ∙ at.cpu_is in
-      let here = a.history.left.cpus w.cpu w.own (only_here w.cpu w.own) in
+      let here = a.left.cpus w.cpu w.own (only_here w.cpu w.own) in
       record {
         layout = is;
         cpu_is = by;
-        log = a.history.left.log;
-        state = a.history.left.history.end;
+        log = a.left.log;
+        state = a.left.history.end;
         runs =
             subst
-            (λ (k : TheLayout). Runs (Steps (layout_of k)) (boot (layout_of k)) a.history.left.log
-            a.history.left.history.end)
-            is a.history.left.history.run.leads;
-        calls = ap (λ k. calls_by k a.history.left.log) (sym by) ∙ sym here.0;
-        own = here.1.content ∙ ap (λ k. a.history.left.history.end.contents.cpu k) by;
+            (λ (k : TheLayout). Runs (Steps (layout_of k)) (boot (layout_of k)) a.left.log
+            a.left.history.end)
+            is a.left.history.run.leads;
+        calls = ap (λ k. calls_by k a.left.log) (sym by) ∙ sym here.0;
+        own = here.1.content ∙ ap (λ k. a.left.history.end.contents.cpu k) by;
       }
 
   same_at : (v w : Known) → IsSame v w → IsAt v → IsAt w
   same_at v w s at = record {
-    layout = s.layout ∙ at.layout;
-    cpu_is = s.cpu ∙ at.cpu_is;
+    layout = ap (λ (k : Known). k.layout) s ∙ at.layout;
+    cpu_is = ap (λ (k : Known). k.cpu) s ∙ at.cpu_is;
     log = at.log;
     state = at.state;
     runs = at.runs;
-    calls = at.calls ∙ ap (λ (k : CpuState). k.log.calls) (sym s.own);
-    own = ap cpu_of s.own ∙ at.own;
+    calls = at.calls ∙ ap (λ (k : Known). k.own.log.calls) (sym s);
+    own = ap (λ (k : Known). cpu_of k.own) s ∙ at.own;
   }
 
   module _ (whole : List Call) where
@@ -147,10 +147,10 @@ module _ (key : TheLayout) (cpu : ℕ) where
           let none : is_log_full a.1 ≡ false = stored_reply a.1 k.0 in
           let one : stored_answers (a ∷ []) ≡ a ∷ [] = rw none refl in
           let more : w.own.log.calls ≡ v.own.log.calls ++ s.stores.call ∷ [] =
-          ap (λ g. g.calls) s.stores.added.own
-          ∙ ap (λ (k : CpuState). k.log.calls ++ s.stores.call ∷ []) s.met.same.own in
+          ap (λ g. g.calls) s.stores.own
+          ∙ ap (λ (k : Known). k.own.log.calls ++ s.stores.call ∷ []) s.met.same in
           record {
-            at = λ at. added_at s.stores.call s.last w s.stores.added (same_at v s.last s.met.same at);
+            at = λ at. made_at a.0 a.1 s.last w s.stores (same_at v s.last s.met.same at);
             calls = (s.stores.call ∷ [], more);
             count =
                 ap length more ∙ length-append v.own.log.calls (s.stores.call ∷ [])
@@ -162,7 +162,7 @@ module _ (key : TheLayout) (cpu : ℕ) where
           let same = (c.full k.0).0 in
           let none : stored_answers (a ∷ []) ≡ [] =
           ap (λ (r : Reply). stored_answers ((a.0, r) ∷ [])) k.0 in
-          let own : w.own.log.calls ≡ v.own.log.calls = ap (λ (k : CpuState). k.log.calls) same.own in
+          let own : w.own.log.calls ≡ v.own.log.calls = ap (λ (k : Known). k.own.log.calls) same in
           record {
             at = same_at v w same;
             calls = ([], own ∙ sym (append-nil v.own.log.calls));

@@ -50,16 +50,18 @@ pub one_stored : (step : Step) (reply : Reply) (v w : Known)
     → map told w.own.log.calls ≡ map told v.own.log.calls ++ (step, reply) ∷ []
 one_stored step reply v w s =
     let calls : w.own.log.calls ≡ v.own.log.calls ++ s.stores.call ∷ [] =
-    ap (λ l. l.calls) s.stores.added.own
-    ∙ ap (λ (k : CpuState). k.log.calls ++ s.stores.call ∷ []) s.met.same.own in
+    ap (λ l. l.calls) s.stores.own
+    ∙ ap (λ (k : Known). k.own.log.calls ++ s.stores.call ∷ []) s.met.same in
     let one : told s.stores.call ≡ (step, reply) =
-    ap (λ x. (x, s.stores.call.reply)) s.stores.called.asked ∙ ap (λ x. (step, x)) s.stores.reply_is in
+    ap told s.stores.call_is in
     ap (map told) calls
     ∙ (map-append told v.own.log.calls (s.stores.call ∷ []) ∙ ap (λ x. map told v.own.log.calls ++ x ∷ []) one)
 
 -- where a log is full nothing is added
 none_stored : (step : Step) (v w : Known) → FullInTheEnd step v w → map told w.own.log.calls ≡ map told v.own.log.calls
-none_stored step v w f = ap (λ (k : CpuState). map told k.log.calls) (f.full.same.own ∙ f.met.same.own)
+none_stored step v w f =
+    ap (λ (k : Known). map told k.own.log.calls) f.full.same
+    ∙ ap (λ (k : Known). map told k.own.log.calls) f.met.same
 
 abbrev kept : List (Step × Reply) → List (Step × Reply)
 kept answers = filter (λ a. is_stored a.1) answers
@@ -106,16 +108,16 @@ counted l log step reply v w c = elim (kept_cases reply c.answered) [
   | inl k ↦
       let s : StoresInTheEnd step reply v w = c.stored k.0 in (
         1,
-        ap (λ l. length l.calls) s.stores.added.own
-            ∙ (ap (λ (k : CpuState). length (k.log.calls ++ s.stores.call ∷ [])) s.met.same.own
+        ap (λ l. length l.calls) s.stores.own
+            ∙ (ap (λ (k : Known). length (k.own.log.calls ++ s.stores.call ∷ [])) s.met.same
             ∙ length-append v.own.log.calls (s.stores.call ∷ [])),
-        s.stores.added.cpu ∙ s.met.same.cpu,
+        s.stores.cpu ∙ ap (λ (k : Known). k.cpu) s.met.same,
       )
   | inr k ↦
       let same = (c.full k.0).0 in
       let own : length w.own.log.calls ≡ length v.own.log.calls =
-      ap (λ (k : CpuState). length k.log.calls) same.own in
-      (0, omega (arith, own), same.cpu)
+      ap (λ (k : Known). length k.own.log.calls) same in
+      (0, omega (arith, own), ap (λ (k : Known). k.cpu) same)
 ]
 
 -- Calls behind others of the same parts and CPUs are full where these are, for a CPU whose own list has its calls of

@@ -8,7 +8,6 @@ use Rattle.call_table.specs.declared.reply.Refusal.TheVariants.{LogFull}
 use Rattle.call_table.specs.declared.reply.Reply.{Reply}
 use Rattle.call_table.specs.declared.reply.Reply.TheVariants.{Refused}
 use Rattle.call_table.specs.declared.step.Step.{Step}
-use Rattle.part_types.specs.declared.parts.CpuState.{CpuState}
 use Rattle.part_table.specs.Known.{Known, StartsWith}
 use Rattle.cpu_threads.specs.Machines.{StoresInTheEnd}
 use Rattle.trace_race.specs.Laws.{FullAfter}
@@ -31,20 +30,20 @@ module _ (l : Layout) (log : List Call) where
     | inl k ↦
         let s : StoresInTheEnd a.0 a.1 v w = c.stored k.0 in
         record {
-          cpu = s.stores.added.cpu ∙ s.met.same.cpu;
+          cpu = s.stores.cpu ∙ ap (λ (k : Known). k.cpu) s.met.same;
           calls = (
             s.stores.call ∷ [],
-            ap (λ g. g.calls) s.stores.added.own
-                ∙ ap (λ (k : CpuState). k.log.calls ++ s.stores.call ∷ []) s.met.same.own,
+            ap (λ g. g.calls) s.stores.own
+                ∙ ap (λ (k : Known). k.own.log.calls ++ s.stores.call ∷ []) s.met.same,
           );
           told_is = let one : kept (a ∷ []) ≡ a ∷ [] = rw k.1 refl in
               one_stored a.0 a.1 v w s ∙ ap (λ xs. map told v.own.log.calls ++ xs) (sym one);
         }
     | inr k ↦
         let same = (c.full k.0).0 in
-        let own : w.own.log.calls ≡ v.own.log.calls = ap (λ (k : CpuState). k.log.calls) same.own in
+        let own : w.own.log.calls ≡ v.own.log.calls = ap (λ (k : Known). k.own.log.calls) same in
         record {
-          cpu = same.cpu;
+          cpu = ap (λ (k : Known). k.cpu) same;
           calls = ([], own ∙ sym (append-nil v.own.log.calls));
           told_is = let none : kept (a ∷ []) ≡ [] = rw k.1 refl in
               ap (map told) own

@@ -1,6 +1,6 @@
 -- Where a call found a log full, the log is full in the history at whose end the machine is.
 use Rattle.std.proofs.Common.{◌≡◌, ◌≢◌, ℕ, suc, ◌+◌, ◌<◌, ◌≤◌, refl, sym, ap, subst, ◌∙◌, inl, inr, ⊎_elim, List, [], ◌∷◌, ◌++◌, length, length-append, append-nil, Option, Some, slice_get, arith}
-use Rattle.std.specs.Prelude.{Contains, flat_map}
+use Rattle.std.specs.Prelude.{Contains}
 use Rattle.std.proofs.lemmas.List.{append_assoc}
 use Rattle.std.proofs.lemmas.List.Elements.{All-contains, Contains-append_left, Contains-append_right}
 use Rattle.page_state.specs.declared.layout.Layout.{Layout as TheLayout}
@@ -59,10 +59,10 @@ module _ (most : ℕ) where
   -- nothing but tries
   same_later : (v w : Known) (ts : List (ℕ × Try)) → IsSame v w → w.tries ≡ v.tries ++ ts → IsLater most v w
   same_later v w ts same tried = record {
-    cpu = same.cpu;
+    cpu = ap (λ (k : Known). k.cpu) same;
     tried = (ts, tried);
-    calls = ([], ap (λ (k : CpuState). k.log.calls) same.own ∙ sym (append-nil v.own.log.calls));
-    size = λ s. subst (λ (k : CpuState). IsOfSize most k.log) (sym same.own) s;
+    calls = ([], ap (λ (k : Known). k.own.log.calls) same ∙ sym (append-nil v.own.log.calls));
+    size = λ s. subst (λ (k : Known). IsOfSize most k.own.log) (sym same) s;
   }
 
   size_more : (c : Call) (g h : StoredCalls) → h ≡ with_call c g → g.room ≢ 0 → IsOfSize most g → IsOfSize most h
@@ -75,18 +75,18 @@ module _ (most : ℕ) where
   stored_later : (step : Step) (reply : Reply) (v w : Known) → StoresInTheEnd step reply v w → IsLater most v w
   stored_later step reply v w s =
       later_on v s.last w
-      (same_later v s.last (timed (length v.own.log.calls) (flat_map (λ ts. ts) s.met.rounds)) s.met.same s.met.tried)
+      (same_later v s.last (timed (length v.own.log.calls) s.met.tries) s.met.same s.met.tried)
       record {
-        cpu = s.stores.added.cpu;
+        cpu = s.stores.cpu;
         tried = (timed (length s.last.own.log.calls) s.stores.tries, s.stores.tried);
-        calls = (s.stores.call ∷ [], ap (λ (g : StoredCalls). g.calls) s.stores.added.own);
-        size = size_more s.stores.call s.last.own.log w.own.log s.stores.added.own s.stores.room;
+        calls = (s.stores.call ∷ [], ap (λ (g : StoredCalls). g.calls) s.stores.own);
+        size = size_more s.stores.call s.last.own.log w.own.log s.stores.own s.stores.room;
       }
 
   full_later : (step : Step) (v w : Known) → FullInTheEnd step v w → IsLater most v w
   full_later step v w f =
       later_on v f.last w
-      (same_later v f.last (timed (length v.own.log.calls) (flat_map (λ ts. ts) f.met.rounds)) f.met.same f.met.tried)
+      (same_later v f.last (timed (length v.own.log.calls) f.met.tries) f.met.same f.met.tried)
       (same_later f.last w (timed (length f.last.own.log.calls) f.full.tries) f.full.same f.full.tried)
 
   call_later : (step : Step) (reply : Reply) (v w : Known) → Calls step reply v w → IsLater most v w
@@ -97,7 +97,7 @@ module _ (most : ℕ) where
 
   made_later : (v w : Known) (answers : List (Step × Reply)) → Makes v answers w → IsLater most v w
   made_later v w [] made =
-      same_later v w [] (subst (IsSame v) (sym made) (record { layout = refl; cpu = refl; own = refl; seen = refl }))
+      same_later v w [] (subst (IsSame v) (sym made) refl)
       (ap (λ (k : Known). k.tries) made ∙ sym (append-nil v.tries))
   made_later v w (a ∷ more) made =
       later_on v made.0 w (call_later a.0 a.1 v made.0 made.1) (made_later made.0 w more made.2)
@@ -211,11 +211,11 @@ module _ {A : Type 0} (l : TheLayout) (found : List (Slot A)) (cpus : List CpuSt
       ⊎_elim
           (λ (h : (f.last.own.log.room ≡ 0) × (f.full.tries ≡ [])). own_full step v is size
           (later_on l.config.log v w last (full_later l.config.log step v w f) later)
-          (sym (ap (λ (k : CpuState). k.log.room) f.met.same.own) ∙ h.0))
+          (sym (ap (λ (k : Known). k.own.log.room) f.met.same) ∙ h.0))
           (λ
           (h : (f.last.own.log.room ≢ 0) × EndsIn FoundFull (used_by step f.last) f.full.tries). part_full step v
-          f.last w f.full.tries is f.met.same.own f.full.tried later h.1)
-          f.full.full,
+          f.last w f.full.tries is (ap (λ (k : Known). k.own) f.met.same) f.full.tried later h.1)
+          f.full.found,
     );
   }
 

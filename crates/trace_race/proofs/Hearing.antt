@@ -4,7 +4,6 @@ use Rattle.page_state.proofs.Cases.{by_lt}
 use Rattle.call_table.specs.declared.reply.Reply.{Reply}
 use Rattle.call_table.specs.declared.step.Step.{Step}
 use Rattle.reference_model.specs.model.History.{IsStored}
-use Rattle.part_types.specs.declared.parts.CpuState.{CpuState}
 use Rattle.part_table.specs.Known.{Known}
 use Rattle.cpu_threads.specs.Machines.{FullInTheEnd, StoresInTheEnd}
 use Rattle.trace_race.specs.Made.{Calls}
@@ -33,12 +32,13 @@ module _ (Heard : ℕ → Type 0) where
       (λ k.
       let s : StoresInTheEnd step reply v w = c.stored k.0 in
       let calls : w.own.log.calls ≡ v.own.log.calls ++ s.stores.call ∷ [] =
-      ap (λ g. g.calls) s.stores.added.own
-      ∙ ap (λ (k : CpuState). k.log.calls ++ s.stores.call ∷ []) s.met.same.own in
+      ap (λ g. g.calls) s.stores.own
+      ∙ ap (λ (k : Known). k.own.log.calls ++ s.stores.call ∷ []) s.met.same in
       hears_one v w (ap length calls ∙ length-append v.own.log.calls (s.stores.call ∷ [])) (heard k.0))
       (λ k.
       let f : FullInTheEnd step v w = c.full k.0 in
-      hears_none v w (ap (λ (k : CpuState). length k.log.calls) (f.full.same.own ∙ f.met.same.own)))
+      hears_none v w (ap (λ (k : Known). length k.own.log.calls) f.full.same
+      ∙ ap (λ (k : Known). length k.own.log.calls) f.met.same))
       (kept_cases reply c.answered)
 
   pub hears_on : (u v w : Known) → HearsEach Heard u v → HearsEach Heard v w → HearsEach Heard u w

@@ -3,8 +3,8 @@ use Rattle.std.specs.Prelude.{Some, None}
 use Rattle.part_table.specs.declared.slot.Slot.{Slot}
 use Rattle.part_table.specs.Parts.{log_of, parts}
 use Rattle.part_table.specs.Does.{both_at}
-use Rattle.part_table.specs.Rule.{Seated, held_at, known_of}
-use Rattle.part_table.specs.Known.{Extends, StartsWith, seen_at}
+use Rattle.part_table.specs.Rule.{Extends, Seated, held_at, known_of}
+use Rattle.part_table.specs.Known.{StartsWith, seen_at}
 use Rattle.part_table.proofs.Holding.{one_gone, two_gone, two_held, both_each, both_like, second_held}
 use Rattle.part_table.proofs.Making.{made_by, tried_two}
 use Rattle.part_table.proofs.Pairs.{at_same, by_front}

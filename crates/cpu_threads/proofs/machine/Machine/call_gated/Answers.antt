@@ -3,6 +3,7 @@ use Rattle.std.proofs.lemmas.Bool.{false≢true}
 use Rattle.call_table.specs.declared.reply.Refusal.TheVariants.{Contended}
 use Rattle.call_table.specs.declared.reply.Reply.TheVariants.{Refused}
 use Rattle.part_types.specs.declared.parts.CpuState.{CpuState}
+use Rattle.part_table.specs.Known.{Known}
 use Rattle.part_table.specs.Passes.{IsPassOf, Opened}
 use Rattle.cpu_threads.specs.Machines.{Machine}
 use Rattle.cpu_threads.proofs.Tries.{meets_more, meets_none}
@@ -19,7 +20,8 @@ try_step-reply-requires g c =
     }
 
 pub returns-then-not-is_contended-clause-cpu : goal.returns-then-not-is_contended-clause-cpu
-returns-then-not-is_contended-clause-cpu g c = c.try_step-reply.ensures.cpu ∙ c.loop.invariant.1.same.cpu
+returns-then-not-is_contended-clause-cpu g c =
+    c.try_step-reply.ensures.cpu ∙ ap (λ (k : Known). k.cpu) c.loop.invariant.1.same
 
 pub returns-then-not-is_contended-clause-stored : goal.returns-then-not-is_contended-clause-stored
 returns-then-not-is_contended-clause-stored g c s =
@@ -54,4 +56,4 @@ pub returns-then-not-is_contended-clause-gate_taken : goal.returns-then-not-is_c
 returns-then-not-is_contended-clause-gate_taken g c s =
     let same = c.loop.invariant.1.same in
     subst (λ (z : ℕ × CpuState). g.G.Gate.heard_taken c.args.gate.now z.0 (length z.1.log.calls + 1))
-    (λ i. (same.cpu i, same.own i)) (c.try_step-reply.ensures.heard s)
+    (λ i. ((same i).cpu, (same i).own)) (c.try_step-reply.ensures.heard s)

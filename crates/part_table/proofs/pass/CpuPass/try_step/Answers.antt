@@ -22,7 +22,7 @@ returns-then-room-eq0-clause-answers g c =
     ap (λ (p : Pass). p.knows.own.log.room) (sym c.self.view_is)
     ∙ (ap (λ (k : CpuState). k.log.room) c.self.invariant.4 ∙ (sym c.room.ensures ∙ c.if-room-eq0.true)) in
     answers_of c.args.step _ c.args.self.now.knows c.args.self.now.knows
-    (LogFull, refl, inl (full, record { layout = refl; cpu = refl; own = refl; seen = refl }, refl))
+    (LogFull, refl, inl (full, refl, refl))
 
 pub invariant_of-self : goal.invariant_of-self
 invariant_of-self g c =
