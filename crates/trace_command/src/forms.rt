@@ -121,7 +121,9 @@ fn subcommand<'a>(global: Global, name: &'a str, about: &'a str) -> Command<'a>
     ensures app { app_of result ≡ new_app name.now }
     ensures local { (fields_of result).has_globals ≡ false }
 {
-    Command::new(global, name).about(about).after_help(examples())
+    Command::new(global, name)
+        .about(about)
+        .after_help(examples())
 }
 
 /// A subcommand that takes this too.
