@@ -252,6 +252,7 @@ pub const REPORTS: &[Form] = &[
         ["cpu", Number, ""]
     ),
     form!("order", "order ", ["order", Text, ""]),
+    form!("illegal", "illegal ", ["why", Text, ""]),
     form!(
         "end",
         "end steps ",

@@ -1,4 +1,6 @@
 mod Enough
 mod Poking
 mod Replays
+mod Seen
 mod Setting
+mod Told

@@ -5,12 +5,15 @@ use Rattle.page_state.specs.LayoutView.{layout_of}
 use Rattle.table_tree.specs.Said.{block_of}
 use Rattle.ghost_judge.specs.declared.disagreement.Disagreement.{Disagreement}
 use Rattle.ghost_judge.specs.Audits.{AuditAgrees, IsFirstDifference}
+use Rattle.ghost_legal.specs.declared.finding.Unlawful.{Unlawful}
+use Rattle.ghost_legal.specs.Unlawful.{IsUnlawful, MakesLegal}
+use Rattle.ghost_spec.specs.declared.lists.GhostLists.{GhostLists}
 use Rattle.ghost_spec.specs.declared.state.Ghost.{Ghost}
-use Rattle.ghost_spec.specs.States.{contents_in}
+use Rattle.ghost_spec.specs.States.{contents_in, ghost_state}
 use Rattle.ghost_oracle.specs.declared.raw.RawParts.{RawParts}
 use Rattle.ghost_oracle.specs.declared.raw.Which.{Which}
 use Rattle.ghost_oracle.specs.declared.trees.Source.TheVariants.{Maplets, Words}
-use Rattle.ghost_oracle.specs.Found.{scratch_rows}
+use Rattle.ghost_oracle.specs.Found.{scratch_rows, walked_state}
 use Rattle.ghost_oracle.specs.Poked.{Beside, IsBeside, IsPokedTree, parts_trees, raw_beside_of, raw_trees}
 use Rattle.ghost_oracle.specs.Seen.{SeenTree}
 use Rattle.ghost_oracle.specs.RawFound.{IsRawFound, HasSameRawRows}
@@ -22,12 +25,13 @@ use Rattle.trace_lines.specs.declared.place.Allows.{Allows}
 use Rattle.trace_lines.specs.Places.{after_poke, before_boot, of_audit}
 use Rattle.trace_lines.specs.Said.{said}
 use Rattle.trace_reader.specs.declared.outcome.Outcome.{Outcome}
+use Rattle.trace_reader.specs.declared.outcome.Outcome.TheVariants as outcomes
 use Rattle.trace_text.specs.declared.fault.Fault.TheVariants as faults
 use Rattle.trace_text.specs.declared.report.ReportLine.{ReportLine}
 use Rattle.trace_text.specs.declared.report.ReportLine.TheVariants as report
 use Rattle.trace_text.specs.declared.session.Stop.{Stop}
 use Rattle.trace_text.specs.declared.session.Stop.TheVariants as stops
-use Rattle.trace_text.specs.Oracles.{agreed, audited_lines}
+use Rattle.trace_text.specs.Oracles.{agreed, audited_lines, illegal_lines}
 use Rattle.trace_text.specs.Replay.{outcome_of}
 use Rattle.trace_text.specs.Reports as reports
 use Rattle.trace_text.specs.Session.{Answer, DoesLine, Standing, at_start}
@@ -48,6 +52,29 @@ pub record Audited (A : Type 0) : Type 0 where
 abbrev pub found_lines : ℕ → Option Disagreement → List ReportLine
 found_lines steps found =
     audited_lines found ++ report.End steps (length (audited_lines found)) ∷ []
+
+-- with legality asked for: behind the difference why the walked state isn't legal, if it isn't
+abbrev pub told_lines : ℕ → Option Disagreement → Option Unlawful → List ReportLine
+told_lines steps found why =
+    audited_lines found
+    ++ (illegal_lines why ++ report.End steps (length (audited_lines found)) ∷ [])
+
+-- a walked state that isn't legal is no clean outcome
+abbrev pub told_outcome : Option Unlawful → Outcome → Outcome
+told_outcome None outcome = outcome
+told_outcome (Some why) outcome = outcomes.Disagreed
+
+-- why lists, those of a walk, make no legal state, which is none exactly if they make one
+pub record TellsWalk (is_walk : GhostLists → Type 0) (why : Option Unlawful) : Type 0 where
+  pub walked : GhostLists
+  pub walked_is : is_walk walked
+  pub none : (why ≡ None) ↔ MakesLegal walked
+  pub some : IfSome why (IsUnlawful walked)
+
+-- lists are what a walk of all words of a machine finds, with the rows from scratch
+pub record IsWalkOf (m : Machine) (walked : GhostLists) : Type 0 where
+  pub layout : layout_of walked.layout ≡ m.layout
+  pub state : ghost_state walked ≡ walked_state m.layout m.state
 
 module _ {A : Type 0} where
   -- before the first line
@@ -152,6 +179,20 @@ module _ {A : Type 0} where
   abbrev pub IsAudited : Audited A → Option Disagreement → Type 0
   IsAudited a found = MatchOption a.poked (found ≡ None) (λ world. ComparesWalk world.parts found)
 
+  -- lists are what a walk of all words of a poked world finds, with the rows from scratch
+  pub record IsRawWalk (parts : RawParts A) (walked : GhostLists) : Type 0 where
+    pub found : IsRawFound Words parts walked
+    pub rows : (f : ℕ)
+        → (contents_in walked).shared.row f
+        ≡ scratch_rows (layout_of parts.layout) (contents_in walked) f
+
+  -- why the walked state isn't legal: before the boot there is none
+  abbrev pub IsTold : Audited A → Option Unlawful → Type 0
+  IsTold a why =
+      MatchOption a.poked
+      (MatchOption a.session.machine (why ≡ None) (λ m. TellsWalk (IsWalkOf m) why))
+      (λ world. TellsWalk (IsRawWalk world.parts) why)
+
   -- the lines that end its report
   abbrev pub end_lines : Audited A → Option Disagreement → List ReportLine
   end_lines a found = found_lines a.session.steps found
@@ -163,20 +204,37 @@ module _ {A : Type 0} where
       × (lines ≡ end_lines a found)
       × (outcome ≡ outcome_of (length (audited_lines found)))
 
+  -- and with legality asked for
+  abbrev pub EndsTold : Audited A → List ReportLine → Outcome → Type 0
+  EndsTold a lines outcome =
+      (found : Option Disagreement)
+      × (why : Option Unlawful)
+      × IsAudited a found
+      × IsTold a why
+      × (lines ≡ told_lines a.session.steps found why)
+      × (outcome ≡ told_outcome why (outcome_of (length (audited_lines found))))
+
+  -- with it, or without
+  abbrev pub EndsBy : Bool → Audited A → List ReportLine → Outcome → Type 0
+  EndsBy true = EndsTold
+  EndsBy false = Ends
+
 -- the written text is the report of an audit of the trace of these bytes, with the trees' tables in
--- `A`
+-- `A`, and with legality asked for if `legal`
 abbrev pub IsAuditReported : (A : Type 0)
+    → Bool
     → Option (List ℕ)
     → Option (List ℕ)
     → Option (List ℕ)
     → Outcome
     → Type 0
-IsAuditReported A = reports.IsWritten (RunsLine {A = A}) Ends nothing_audited
+IsAuditReported A legal = reports.IsWritten (RunsLine {A = A}) (EndsBy legal) nothing_audited
 
 -- and a beginning of one
 abbrev pub IsAuditBegun : (A : Type 0)
+    → Bool
     → Option (List ℕ)
     → Option (List ℕ)
     → Option (List ℕ)
     → Type 0
-IsAuditBegun A = reports.IsWriteBegun (RunsLine {A = A}) Ends nothing_audited
+IsAuditBegun A legal = reports.IsWriteBegun (RunsLine {A = A}) (EndsBy legal) nothing_audited

@@ -1,5 +1,5 @@
 -- Laws of audits.
-use Rattle.std.specs.Prelude.{◌≡◌, ◌⊎◌, ℕ, List, [], ◌∷◌, All, Some, None, Ok, IfSome}
+use Rattle.std.specs.Prelude.{◌≡◌, ◌⊎◌, ℕ, List, [], ◌∷◌, All, Option, Some, None, Ok, IfSome}
 use Rattle.page_state.specs.LayoutView.{layout_of}
 use Rattle.ghost_judge.specs.declared.disagreement.Disagreement.{Disagreement}
 use Rattle.ghost_judge.specs.Audits.{AuditAgrees, IsFirstDifference}
@@ -10,6 +10,9 @@ use Rattle.ghost_oracle.specs.Found.{scratch_rows}
 use Rattle.ghost_oracle.specs.Poked.{Beside, IsBeside, parts_trees, raw_beside_of, raw_trees}
 use Rattle.ghost_oracle.specs.RawFound.{IsRawFound, HasSameRawRows}
 use Rattle.ghost_oracle.specs.Seen.{SeenTree}
+use Rattle.ghost_legal.specs.declared.finding.Unlawful.{Unlawful}
+use Rattle.ghost_legal.specs.Unlawful.{IsUnlawful, MakesLegal}
+use Rattle.ghost_spec.specs.declared.lists.GhostLists.{GhostLists}
 use Rattle.ghost_spec.specs.declared.state.Ghost.{Ghost}
 use Rattle.ghost_spec.specs.States.{contents_in}
 use Rattle.trace_lines.specs.Asked.{asked}
@@ -26,7 +29,7 @@ use Rattle.trace_text.specs.Session.{at_start}
 use Rattle.trace_text.specs.View.{machine_of}
 use Rattle.world.specs.declared.World.{World}
 use Rattle.world.specs.declared.raw.RawWorld.{RawWorld}
-use Rattle.trace_audit.specs.Audited.{Audited, Ends, RunsLine, nothing_audited}
+use Rattle.trace_audit.specs.Audited.{Audited, Ends, EndsTold, IsAudited, IsRawWalk, RunsLine, found_lines, nothing_audited, told_lines}
 
 -- the words of a line ask for no poke
 abbrev pub HasNoPoke : List ℕ → Type 0
@@ -80,6 +83,35 @@ AuditReports A =
     × AreFoundIn world.parts kept walked
     × (ReportsNone a.session.steps lines kept walked
     ⊎ ReportsFirst a.session.steps lines kept walked)
+
+-- with legality asked for, the end of a report has no line of it, and the walked lists make a legal
+-- state
+pub record ReportsLegal (steps : ℕ) (found : Option Disagreement) (lines : List ReportLine)
+    (walked : GhostLists) : Type 0 where
+  pub lines_are : lines ≡ found_lines steps found
+  pub legal : MakesLegal walked
+
+-- or it says why they make none
+pub record ReportsIllegal (steps : ℕ) (found : Option Disagreement) (lines : List ReportLine)
+    (walked : GhostLists) : Type 0 where
+  pub why : Unlawful
+  pub lines_are : lines ≡ told_lines steps found (Some why)
+  pub illegal : MakesLegal walked → ⊥
+  pub told : IsUnlawful walked why
+
+-- the end of the report of a poked world has such a line exactly if what a walk of all its words
+-- finds isn't legal. All else is as without the question
+abbrev pub LegalReports : Type 0 → Type 0
+LegalReports A =
+    (a : Audited A) (world : RawWorld A) (lines : List ReportLine) (outcome : Outcome)
+    → a.poked ≡ Some world
+    → EndsTold a lines outcome
+    → (found : Option Disagreement)
+    × (walked : GhostLists)
+    × IsAudited a found
+    × IsRawWalk world.parts walked
+    × (ReportsLegal a.session.steps found lines walked
+    ⊎ ReportsIllegal a.session.steps found lines walked)
 
 -- a poked world has all trees but one of others, and the state beside the trees is as `kept` says
 pub record KeepsAllBut {A : Type 0} (trees : Which → SeenTree) (kept : Beside → Type 0)

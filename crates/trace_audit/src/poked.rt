@@ -2,17 +2,18 @@
 ghost use Rattle.std.specs.Prelude.{◌≡◌, ◌+◌, ◌<◌, ◌≤◌, ◌^◌, IfOk, None, OnOk, replicate};
 ghost use Rattle.ghost_oracle.specs.Counted.{HasRead};
 ghost use Rattle.ghost_oracle.specs.Poked.{IsBeside, parts_trees, raw_beside_of, raw_trees};
-ghost use Rattle.trace_audit.specs.Audited.{ComparesWalk, Does, IsAudited, Pokes, RunsLine, Sets, allowed, nothing_audited};
+ghost use Rattle.trace_audit.specs.Audited.{ComparesWalk, Does, IsAudited, IsRawWalk, IsTold, IsWalkOf, Pokes, RunsLine, Sets, TellsWalk, allowed, nothing_audited};
 ghost use Rattle.trace_audit.specs.Paths.{poke_in, which_of as which_named};
 ghost use Rattle.trace_audit.specs.View.{audited_of};
 ghost use Rattle.table_tree.specs.Reading.{count_of};
 ghost use Rattle.trace_text.specs.Looks.{session_tables};
 ghost use Rattle.trace_text.specs.Ready.{IsReady};
-ghost use Rattle.trace_text.specs.View.{answer_of, standing_of};
+ghost use Rattle.trace_text.specs.View.{answer_of, machine_of, standing_of};
 
 use crate::path::path_on;
 use ghost_judge::audit::audit_lists;
 use ghost_judge::disagreement::Disagreement;
+use ghost_legal::{Unlawful, illegal_lists};
 use ghost_oracle::pokes::no_pokes;
 use ghost_oracle::raw::{RawGuest, Which};
 use std::alloc::{AllocError, Allocator, Global};
@@ -144,6 +145,19 @@ impl<A: Allocator + Copy> Audit<A> {
             None => self.session.audited(reads),
         }
     }
+
+    /// Why the state that a walk of all words finds isn't legal. None if it is, and before the boot.
+    pub(crate) fn unlawful(&self) -> Result<Option<Unlawful>, AllocError>
+        ensures { IfOk result (IsTold (audited_of self.now)) }
+    {
+        match &self.poked {
+            Some(world) => poked_unlawful(self.global, world),
+            None => match self.session.world() {
+                Some(world) => world_unlawful(self.global, world),
+                None => Ok(None),
+            },
+        }
+    }
 }
 
 /// The poke that a line asks for.
@@ -217,4 +231,37 @@ fn compared<A: Allocator>(
     drop(walked);
     drop(kept);
     Ok(found)
+}
+
+/// Why what a walk of all words of a poked world finds is no legal state.
+fn poked_unlawful<A: Allocator>(
+    global: Global,
+    world: &RawWorld<A>,
+) -> Result<Option<Unlawful>, AllocError>
+    ensures { IfOk result (TellsWalk (IsRawWalk world.now.parts)) }
+{
+    let walked = world.recompute(global)?;
+    // As in `compared`.
+    let Ok(why) = illegal_lists(global, &walked) else {
+        drop(walked);
+        return Err(AllocError);
+    };
+    drop(walked);
+    Ok(why)
+}
+
+/// The same of a world without a poke.
+fn world_unlawful<A: Allocator>(
+    global: Global,
+    world: &World<A>,
+) -> Result<Option<Unlawful>, AllocError>
+    ensures { IfOk result (TellsWalk (IsWalkOf (machine_of world.now))) }
+{
+    let walked = world.recompute(global, &mut Reads::new())?;
+    let Ok(why) = illegal_lists(global, walked.lists()) else {
+        drop(walked);
+        return Err(AllocError);
+    };
+    drop(walked);
+    Ok(why)
 }

@@ -15,7 +15,7 @@ use Rattle.trace_text.specs.Oracles.{agreed}
 use Rattle.trace_text.specs.Replay.{IsReport}
 use Rattle.trace_text.specs.Reports as reports
 use Rattle.trace_text.specs.Session.{at_start}
-use Rattle.trace_audit.specs.Audited.{Ends, RunsLine, nothing_audited}
+use Rattle.trace_audit.specs.Audited.{EndsBy, RunsLine, nothing_audited}
 use Rattle.trace_race.specs.declared.buffered.Halted.{Halted}
 use Rattle.trace_race.specs.Courses.{course_of, nothing_asked}
 use Rattle.trace_race.specs.Raced.{IsRaceReport}
@@ -57,11 +57,11 @@ HasRaceReport ordered bytes outcome =
     IfSome bytes
     (λ all. (text : List ℕ) × IsRaceReport ordered (lines_of all) text outcome)
 
-abbrev pub HasAuditReport : Option (List ℕ) → Outcome → Type 0
-HasAuditReport bytes outcome =
+abbrev pub HasAuditReport : Bool → Option (List ℕ) → Outcome → Type 0
+HasAuditReport legal bytes outcome =
     IfSome bytes
     (λ all. (lines : List ReportLine)
-    × reports.IsReport (RunsLine {A = Global}) Ends 1 nothing_audited
+    × reports.IsReport (RunsLine {A = Global}) (EndsBy legal) 1 nothing_audited
     (lines_of all) lines outcome)
 
 -- all replies that the steps after `start` of a trace of these bytes may get
@@ -146,7 +146,7 @@ HasDrawn false bytes outcome = IfSome bytes (λ all. EndsAsDrawn all outcome)
 abbrev pub HasReport : Task → List ℕ → Option (List ℕ) → Outcome → Type 0
 HasReport (tasks.Replay heap looks output) path bytes outcome = HasReplayReport bytes outcome
 HasReport (tasks.Race ordered output) path bytes outcome = HasRaceReport ordered bytes outcome
-HasReport (tasks.Audit output) path bytes outcome = HasAuditReport bytes outcome
+HasReport (tasks.Audit legal output) path bytes outcome = HasAuditReport legal bytes outcome
 HasReport (tasks.Outcomes limit output) path bytes outcome = HasOutcomes limit bytes outcome
 HasReport (tasks.Check looks output) path bytes outcome = HasChecked path bytes outcome
 HasReport tasks.Record path bytes outcome = HasRecorded bytes outcome
@@ -283,8 +283,8 @@ module _ {F I E : Type 0} (bytes : F → Option (List ℕ)) (opens : List ℕ �
       HasFileStatus bytes opens (tasks.Replay heap looks output) file status
   HasAskedStatus (Racing file ordered output) status =
       HasFileStatus bytes opens (tasks.Race ordered output) file status
-  HasAskedStatus (Auditing file output) status =
-      HasFileStatus bytes opens (tasks.Audit output) file status
+  HasAskedStatus (Auditing file legal output) status =
+      HasFileStatus bytes opens (tasks.Audit legal output) file status
   HasAskedStatus (Finding file limit None output) status =
       HasFileStatus bytes opens (tasks.Outcomes limit output) file status
   HasAskedStatus (Finding file limit (Some report) output) status =

@@ -121,7 +121,11 @@ fn done<
             ordered,
             output,
         } => done_with(rt, files, file, Task::Race { ordered, output }),
-        Invocation::Audit { file, output } => done_with(rt, files, file, Task::Audit { output }),
+        Invocation::Audit {
+            file,
+            legal,
+            output,
+        } => done_with(rt, files, file, Task::Audit { legal, output }),
         Invocation::Outcomes {
             file,
             limit,

@@ -127,36 +127,38 @@ fn raced_to<
     }
 }
 
-/// Audits a trace.
+/// Audits a trace. If `legal`, the report says why the state that the words say isn't legal.
 pub fn audited<R: AllocGlobal + Print + Eprint, F: io::Read + Drop>(
     rt: &R,
     path: &str,
+    legal: bool,
     output: Output,
     file: F,
 ) -> Result<Outcome, Halted>
-    ensures { IfOk result (HasAuditReport (F.remaining file)) }
+    ensures { IfOk result (HasAuditReport legal (F.remaining file)) }
 {
     match output {
-        Output::Report => audited_to(rt, path, file, io::writer(rt)),
-        Output::Json => audited_to(rt, path, file, json_lines(rt)),
-        Output::Nothing => audited_to(rt, path, file, io::sink()),
+        Output::Report => audited_to(rt, path, legal, file, io::writer(rt)),
+        Output::Json => audited_to(rt, path, legal, file, json_lines(rt)),
+        Output::Nothing => audited_to(rt, path, legal, file, io::sink()),
     }
 }
 
 fn audited_to<R: AllocGlobal + Eprint, F: io::Read + Drop, W: io::Write + Drop>(
     rt: &R,
     path: &str,
+    legal: bool,
     file: F,
     writer: W,
 ) -> Result<Outcome, Halted>
-    ensures { IfOk result (HasAuditReport (F.remaining file)) }
+    ensures { IfOk result (HasAuditReport legal (F.remaining file)) }
 {
     let Ok(writer) = KeptWriter::new(rt.alloc(), writer) else {
         return Err(no_memory());
     };
     let mut trace = Vec::new(rt.alloc());
     let file = KeptReader::new(file, &mut trace);
-    match audit_buffered(rt.alloc(), rt.alloc(), file, writer) {
+    match audit_buffered(rt.alloc(), rt.alloc(), file, writer, legal) {
         Ok((outcome, writer)) => {
             let fault = fault_reported(writer.last_line());
             report_beside(rt, path, trace.as_slice(), fault, false)?;

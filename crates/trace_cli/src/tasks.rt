@@ -27,6 +27,8 @@ pub enum Task {
         output: Output,
     },
     Audit {
+        /// Whether the report says why the state that the words say isn't legal.
+        legal: bool,
         output: Output,
     },
     /// Find all replies that the steps after `start` may get, if no step has more points than this.
@@ -56,7 +58,7 @@ impl Task {
     /// Whether the lines of the trace are carried out as they are read, which may take a while, and something is to be written.
     pub fn shows(self) -> bool {
         match self {
-            Task::Replay { output, .. } | Task::Race { output, .. } | Task::Audit { output } =>
+            Task::Replay { output, .. } | Task::Race { output, .. } | Task::Audit { output, .. } =>
                 output != Output::Nothing,
             _ => false,
         }
@@ -152,7 +154,7 @@ fn answered<
             output,
         } => replayed(rt, path, heap, looks, output, file),
         Task::Race { ordered, output } => raced(rt, path, ordered, output, file),
-        Task::Audit { output } => audited(rt, path, output, file),
+        Task::Audit { legal, output } => audited(rt, path, legal, output, file),
         Task::Outcomes { limit, output } => outcomes_reported(
             rt, path, limit, output, file, progress,
         ),

@@ -133,7 +133,7 @@ module _ (name file : Text) (plain : strip_byte 45 file ≡ None) where
   unfolding clap_on_literals
   audit_none = ap (λ k. or_else k []) (one_none (leaf audit) refl file plain refl)
 
-  audit_asked : asked_by (name ∷ codes "audit" ∷ file ∷ []) ≡ Some (Auditing file Report)
+  audit_asked : asked_by (name ∷ codes "audit" ∷ file ∷ []) ≡ Some (Auditing file false Report)
   unfolding clap_on_literals
   audit_asked =
       ap (λ (w : Walk). asked_in (codes "audit", finished (leaf audit).rules w.held))

@@ -42,7 +42,8 @@ pub data Asking : Type 0 where
   Replaying : Text → Option ℕ → Looks → Output → Asking
   -- the file, whether the report has the order, and how it is written
   Racing : Text → Bool → Output → Asking
-  Auditing : Text → Output → Asking
+  -- the file, whether legality is asked for, and how the report is written
+  Auditing : Text → Bool → Output → Asking
   -- the file, the points of a step, the report that was observed, and how the own one is written
   Finding : Text → ℕ → Option Text → Output → Asking
   Checking : List Text → Looks → Output → Asking
@@ -76,7 +77,7 @@ dump_asked d = record {
 abbrev pub asking_of : Invocation → Asking
 asking_of (invocation.Replay file heap looks output) = Replaying file.now heap looks output
 asking_of (invocation.Race file ordered output) = Racing file.now ordered output
-asking_of (invocation.Audit file output) = Auditing file.now output
+asking_of (invocation.Audit file legal output) = Auditing file.now legal output
 asking_of (invocation.Outcomes file limit observed output) =
     Finding file.now limit (option_map (λ report. report.now) observed) output
 asking_of (invocation.Check files looks output) =
@@ -168,7 +169,9 @@ racing rows =
     (first_of (codes "FILE") rows)
 
 abbrev pub auditing : List Row → Option Asking
-auditing rows = option_map (λ file. Auditing file (output_in rows)) (first_of (codes "FILE") rows)
+auditing rows =
+    option_map (λ file. Auditing file (is_set (codes "legal") rows) (output_in rows))
+    (first_of (codes "FILE") rows)
 
 -- a trace and a report that are both standard input
 abbrev pub are_both_input : Text → Option Text → Bool
@@ -383,7 +386,7 @@ pub record Takes (words : List Text) (r : Result Invocation UsageFault) : Type 0
   pub audit : (name file : Text)
       → words ≡ name ∷ codes "audit" ∷ file ∷ []
       → IsPlain file
-      → Gives (Auditing file Report) r
+      → Gives (Auditing file false Report) r
   pub check : (name file : Text)
       → words ≡ name ∷ codes "check" ∷ file ∷ []
       → IsPlain file

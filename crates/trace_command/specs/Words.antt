@@ -62,7 +62,7 @@ abbrev pub race : App
 race = reporting (with_rule (with_rule (new_app (codes "race")) file) (flag (codes "order")))
 
 abbrev pub audit : App
-audit = reporting (with_rule (new_app (codes "audit")) file)
+audit = reporting (with_rule (with_rule (new_app (codes "audit")) file) (flag (codes "legal")))
 
 abbrev pub outcomes : App
 outcomes =

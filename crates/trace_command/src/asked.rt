@@ -351,6 +351,7 @@ fn audit_asked<'a>(inner: &ArgMatches<'a>) -> Result<Invocation<'a>, Unread>
 {
     Ok(Invocation::Audit {
         file: file(inner)?,
+        legal: is_set(inner, "legal"),
         output: output(inner),
     })
 }

@@ -234,6 +234,12 @@ fn audit<'a>(global: Global) -> Result<Command<'a>, AllocError>
         "Run a trace, overwrite the table words that it pokes, and compare the kept maps with a walk of all tables",
     );
     let form = with(form, file(global))?;
+    let legal = flag(
+        global,
+        "legal",
+        "also say why the state that the walk finds isn't legal, with status 1 if it isn't",
+    );
+    let form = with(form, legal)?;
     reporting(global, form)
 }
 

@@ -50,6 +50,8 @@ pub enum Invocation<'a> {
     /// Run the steps of a trace, set the words that it pokes, and audit once.
     Audit {
         file: &'a str,
+        /// Whether it is also said why the state that the words say isn't legal.
+        legal: bool,
         output: Output,
     },
     /// Find all that the steps after `start` may reply, in any order of the CPUs.

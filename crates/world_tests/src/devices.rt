@@ -113,7 +113,7 @@ fn ran<R: AllocGlobal + Threads + Wait + Sync>(
     let global: Global = rt.alloc();
     match program {
         Program::Replay => Some(replay(global, global, &mut source, &mut sink)),
-        Program::Audit => Some(audit(global, global, &mut source, &mut sink)),
+        Program::Audit => Some(audit(global, global, &mut source, &mut sink, false)),
         Program::Race => match race(rt, global, &mut source, &mut sink, &Open, false) {
             Ok(outcome) => Some(Ok(outcome)),
             Err(RaceFault::Engine(fault)) => Some(Err(fault)),

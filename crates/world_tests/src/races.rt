@@ -79,8 +79,23 @@ end steps 1 disagreements 1\n";
 #[test]
 fn audits_a_broken_word(rt: HostRuntime) {
     let writer = Vec::new(rt.alloc());
-    let ended = audit_buffered(rt.alloc(), rt.alloc(), Cursor::new(BROKEN), writer);
+    let ended = audit_buffered(rt.alloc(), rt.alloc(), Cursor::new(BROKEN), writer, false);
     assert!(rt;
         matches!(&ended, Ok((Outcome::Disagreed, written)) if written.as_slice() == BROKEN_TOLD)
+    );
+}
+
+/// With legality asked for: the shared frame is in no condition, since its host's word says nothing.
+const ILLEGAL_TOLD: &[u8] = b"boot host 3 hyp 3 free 58\n7 0 ok
+disagree host 0x40100 kept leaf 0x40100 rwx normal shared_owned walked malformed
+illegal no condition 0x40100: host malformed, hyp leaf 0x40100 rw normal shared_borrowed, row owner 0 lent 1:0x4040100 use plain
+end steps 1 disagreements 1\n";
+
+#[test]
+fn tells_why_the_words_are_illegal(rt: HostRuntime) {
+    let writer = Vec::new(rt.alloc());
+    let ended = audit_buffered(rt.alloc(), rt.alloc(), Cursor::new(BROKEN), writer, true);
+    assert!(rt;
+        matches!(&ended, Ok((Outcome::Disagreed, written)) if written.as_slice() == ILLEGAL_TOLD)
     );
 }

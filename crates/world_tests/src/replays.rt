@@ -163,7 +163,7 @@ fn gives_back_what_was_written(rt: HostRuntime) {
     let ended = replay_buffered(rt.alloc(), rt.alloc(), boot_cut_short(), writer);
     assert!(rt; is_cut_after_boot(&ended));
     let writer = Vec::new(rt.alloc());
-    let ended = audit_buffered(rt.alloc(), rt.alloc(), boot_cut_short(), writer);
+    let ended = audit_buffered(rt.alloc(), rt.alloc(), boot_cut_short(), writer, false);
     assert!(rt; is_cut_after_boot(&ended));
 }
 

@@ -1,44 +1,31 @@
-use Rattle.std.proofs.Common.{arith, ap, subst}
-use Rattle.trace_text.specs.Reports as reports
-use Rattle.trace_audit.specs.Audited.{Audited, Ends, RunsLine}
-use Rattle.trace_audit.specs.View.{audited_of}
-use Rattle.trace_audit.proofs.Enough.{audit_enough}
-use Rattle.trace_text.proofs.ReplayLemmas.{begun_seen, enough_seen, mapped, when_err, written_seen}
+use Rattle.std.proofs.Common.{Bool, IfOk, OnErr, subst, sym}
+use Rattle.trace_audit.specs.Audited.{IsAuditBegun, IsAuditReported}
 use Rattle.trace_audit.proofs.auditing.audit.Goals as goal
 
-pub play_trace-outcome-requires-clause-enough : goal.play_trace-outcome-requires-clause-enough
-play_trace-outcome-requires-clause-enough g c = enough_seen audited_of (RunsLine {A = g.row.A.Denot}) Ends audit_enough
+pub returns-then-legal-clause-report : goal.returns-then-legal-clause-report
+returns-then-legal-clause-report g c =
+    subst
+    (λ (b : Bool). IfOk c.audit_told.result
+    (IsAuditReported g.row.A.Denot b (g.S.Source.remaining c.args.source.now) (g.K.Sink.contents c.args.sink.now)
+    (g.K.Sink.contents c.audit_told.new.sink))) (sym c.if-legal.true) c.audit_told.ensures.report
 
-pub play_trace-outcome-requires-clause-ready : goal.play_trace-outcome-requires-clause-ready
-play_trace-outcome-requires-clause-ready g c = (
-  c.new-audit.ensures.ready,
-  let none =
-      ap (λ (a : Audited g.row.A.Denot). a.session.steps) c.new-audit.ensures.start in
-      omega (arith, none),
-)
+pub returns-then-legal-clause-begun : goal.returns-then-legal-clause-begun
+returns-then-legal-clause-begun g c =
+    subst
+    (λ (b : Bool). OnErr c.audit_told.result
+    (IsAuditBegun g.row.A.Denot b (g.S.Source.remaining c.args.source.now) (g.K.Sink.contents c.args.sink.now)
+    (g.K.Sink.contents c.audit_told.new.sink))) (sym c.if-legal.true) c.audit_told.ensures.begun
 
-pub returns-clause-report : goal.returns-clause-report
-returns-clause-report g c =
-    mapped c.play_trace-outcome.result _ _
-    (λ outcome written. subst
-    (λ start. reports.IsWritten (RunsLine {A = g.row.A.Denot}) Ends start (g.S.Source.remaining c.args.source.now)
-    (g.K.Sink.contents c.args.sink.now)
-    (g.K.Sink.contents c.play_trace-outcome.new.sink) outcome) c.new-audit.ensures.start
-    (written_seen audited_of (RunsLine {A = g.row.A.Denot}) Ends c.new-audit.result _ _ _ outcome written))
-    c.play_trace-outcome.ensures.report
+pub returns-else-legal-clause-report : goal.returns-else-legal-clause-report
+returns-else-legal-clause-report g c =
+    subst
+    (λ (b : Bool). IfOk c.audit_found.result
+    (IsAuditReported g.row.A.Denot b (g.S.Source.remaining c.args.source.now) (g.K.Sink.contents c.args.sink.now)
+    (g.K.Sink.contents c.audit_found.new.sink))) (sym c.if-legal.false) c.audit_found.ensures.report
 
-pub returns-clause-begun : goal.returns-clause-begun
-returns-clause-begun g c =
-    when_err c.play_trace-outcome.result _ _
-    (λ begun. subst
-    (λ start. reports.IsWriteBegun (RunsLine {A = g.row.A.Denot}) Ends start
-    (g.S.Source.remaining c.args.source.now) (g.K.Sink.contents c.args.sink.now)
-    (g.K.Sink.contents c.play_trace-outcome.new.sink)) c.new-audit.ensures.start
-    (begun_seen audited_of (RunsLine {A = g.row.A.Denot}) Ends c.new-audit.result _ _ _ begun))
-    c.play_trace-outcome.ensures.begun
-
-pub returns-clause-reads : goal.returns-clause-reads
-returns-clause-reads g c = c.play_trace-outcome.ensures.reads
-
-pub returns-clause-writes : goal.returns-clause-writes
-returns-clause-writes g c = c.play_trace-outcome.ensures.writes
+pub returns-else-legal-clause-begun : goal.returns-else-legal-clause-begun
+returns-else-legal-clause-begun g c =
+    subst
+    (λ (b : Bool). OnErr c.audit_found.result
+    (IsAuditBegun g.row.A.Denot b (g.S.Source.remaining c.args.source.now) (g.K.Sink.contents c.args.sink.now)
+    (g.K.Sink.contents c.audit_found.new.sink))) (sym c.if-legal.false) c.audit_found.ensures.begun
