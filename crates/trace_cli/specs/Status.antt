@@ -41,9 +41,6 @@ use Rattle.trace_command.specs.declared.words.UsageFault.{UsageFault}
 use Rattle.trace_command.specs.declared.words.UsageFault.TheVariants.{NoMemory, Usage}
 use Rattle.trace_cli.specs.Covering.{HasCoverStatus}
 use Rattle.trace_cli.specs.Dumping.{HasDumpStatus}
-use Rattle.trace_cli.specs.declared.tasks.Opened.{Opened}
-use Rattle.trace_cli.specs.declared.tasks.Task.{Task}
-use Rattle.trace_cli.specs.declared.tasks.Task.TheVariants as tasks
 
 -- the report of a replay of these bytes, if they are known, has this outcome
 abbrev pub HasReplayReport : Option (List ℕ) → Outcome → Type 0
@@ -142,18 +139,6 @@ abbrev pub HasDrawn : Bool → Option (List ℕ) → Outcome → Type 0
 HasDrawn true bytes outcome = IfSome bytes (λ all. EndsAsReported all outcome)
 HasDrawn false bytes outcome = IfSome bytes (λ all. EndsAsDrawn all outcome)
 
--- the report that a task makes of these bytes has this outcome
-abbrev pub HasReport : Task → List ℕ → Option (List ℕ) → Outcome → Type 0
-HasReport (tasks.Replay heap looks output) path bytes outcome = HasReplayReport bytes outcome
-HasReport (tasks.Race ordered output) path bytes outcome = HasRaceReport ordered bytes outcome
-HasReport (tasks.Audit legal output) path bytes outcome = HasAuditReport legal bytes outcome
-HasReport (tasks.Outcomes limit output) path bytes outcome = HasOutcomes limit bytes outcome
-HasReport (tasks.Check looks output) path bytes outcome = HasChecked path bytes outcome
-HasReport tasks.Record path bytes outcome = HasRecorded bytes outcome
-HasReport tasks.Expand path bytes outcome = HasExpanded bytes outcome
-HasReport (tasks.Explain line output) path bytes outcome = HasExplained path line bytes outcome
-HasReport (tasks.Draw text) path bytes outcome = HasDrawn text bytes outcome
-
 -- what a fault is blamed on
 abbrev pub place_in : EngineFault → List ℕ → List ℕ
 place_in faults.Read path = path
@@ -167,34 +152,11 @@ status_of_end (Ok Disagreed) = 1
 status_of_end (Ok Fault) = 1
 status_of_end (Err halted) = 1
 
--- an opened file's status is that of what the run came to, whose report, if there is a whole one,
--- is that of the file's bytes
-pub record HasAnswer (task : Task) (path : List ℕ) (bytes : Option (List ℕ))
-    (status : ℕ) : Type 0 where
+-- the status is that of what a run came to; of its report, if there is a whole one, this is true
+pub record HasAnswer (report : Outcome → Type 0) (status : ℕ) : Type 0 where
   pub answer : Result Outcome Halted
-  pub report : IfOk answer (HasReport task path bytes)
+  pub whole : IfOk answer report
   pub told : status ≡ status_of_end answer
-
--- and the status of whether some order gives the replies of a report, of both files' bytes
-pub record HasOrderAnswer (name : List ℕ) (limit : ℕ) (bytes report : Option (List ℕ))
-    (status : ℕ) : Type 0 where
-  pub answer : Result Outcome Halted
-  pub order : IfOk answer (HasOrder name limit bytes report)
-  pub told : status ≡ status_of_end answer
-
--- the status of a task, by the result of opening its file: 2 if that was refused
-abbrev pub IsStatusOf : {F E : Type 0}
-    → (F → Option (List ℕ))
-    → Task
-    → List ℕ
-    → Result F E
-    → ℕ
-    → Type 0
-IsStatusOf bytes task path opened status =
-    MatchResult opened (λ file. HasAnswer task path (bytes file) status) (λ _. status ≡ 2)
-
-abbrev pub HasStatus : {F : Type 0} → (F → Option (List ℕ)) → Opened F → ℕ → Type 0
-HasStatus bytes opened status = IsStatusOf bytes opened.task opened.path.now opened.file status
 
 -- the status if the words ask for nothing: 2 for refused words and help, 1 if memory was refused.
 -- The version is written, or not
@@ -243,10 +205,13 @@ IsMade steps options old new status =
 
 -- the status of the program, by what opening a path may come to
 module _ {F E : Type 0} (bytes : F → Option (List ℕ)) (opens : List ℕ → Result F E → Type 0) where
-  -- of a task with the file at a path
-  abbrev pub HasFileStatus : Task → List ℕ → ℕ → Type 0
-  HasFileStatus task path status =
-      (opened : Result F E) × opens path opened × IsStatusOf bytes task path opened status
+  -- of a task with the file at a path, of whose report this is true by the file's bytes: 2 if the
+  -- file can't be opened
+  abbrev pub HasFileStatus : (Option (List ℕ) → Outcome → Type 0) → List ℕ → ℕ → Type 0
+  HasFileStatus report path status =
+      (opened : Result F E)
+      × opens path opened
+      × MatchResult opened (λ file. HasAnswer (report (bytes file)) status) (λ _. status ≡ 2)
 
   -- of a trace and a report, the trace opened first; 2 if one of them can't be
   abbrev pub HasReportStatus : List ℕ → ℕ → F → ℕ → Type 0
@@ -254,7 +219,7 @@ module _ {F E : Type 0} (bytes : F → Option (List ℕ)) (opens : List ℕ → 
       (opened : Result F E)
       × opens report opened
       × MatchResult opened
-      (λ observed. HasOrderAnswer report limit (bytes file) (bytes observed) status)
+      (λ observed. HasAnswer (HasOrder report limit (bytes file) (bytes observed)) status)
       (λ _. status ≡ 2)
 
   abbrev pub HasOrderStatus : List ℕ → List ℕ → ℕ → ℕ → Type 0
@@ -263,14 +228,14 @@ module _ {F E : Type 0} (bytes : F → Option (List ℕ)) (opens : List ℕ → 
       × opens path opened
       × MatchResult opened (λ file. HasReportStatus report limit file status) (λ _. status ≡ 2)
 
-  -- of a task with several files the greatest of theirs, and of none 0
-  abbrev pub HasGreatestStatus : Task → List (List ℕ) → ℕ → Type 0
-  HasGreatestStatus task [] status = status ≡ 0
-  HasGreatestStatus task (path ∷ more) status =
+  -- of checks of several files the greatest of theirs, and of none 0
+  abbrev pub HasGreatestStatus : List (List ℕ) → ℕ → Type 0
+  HasGreatestStatus [] status = status ≡ 0
+  HasGreatestStatus (path ∷ more) status =
       (own : ℕ)
       × (others : ℕ)
-      × HasFileStatus task path own
-      × HasGreatestStatus task more others
+      × HasFileStatus (HasChecked path) path own
+      × HasGreatestStatus more others
       × (status ≡ max own others)
 
 -- and of the program, by what opening an image may come to as well
@@ -280,23 +245,23 @@ module _ {F I E : Type 0} (bytes : F → Option (List ℕ)) (opens : List ℕ �
   -- of the requests
   abbrev pub HasAskedStatus : Asking → ℕ → Type 0
   HasAskedStatus (Replaying file heap looks output) status =
-      HasFileStatus bytes opens (tasks.Replay heap looks output) file status
+      HasFileStatus bytes opens HasReplayReport file status
   HasAskedStatus (Racing file ordered output) status =
-      HasFileStatus bytes opens (tasks.Race ordered output) file status
+      HasFileStatus bytes opens (HasRaceReport ordered) file status
   HasAskedStatus (Auditing file legal output) status =
-      HasFileStatus bytes opens (tasks.Audit legal output) file status
+      HasFileStatus bytes opens (HasAuditReport legal) file status
   HasAskedStatus (Finding file limit None output) status =
-      HasFileStatus bytes opens (tasks.Outcomes limit output) file status
+      HasFileStatus bytes opens (HasOutcomes limit) file status
   HasAskedStatus (Finding file limit (Some report) output) status =
       HasOrderStatus bytes opens file report limit status
   HasAskedStatus (Checking files looks output) status =
-      HasGreatestStatus bytes opens (tasks.Check looks output) files status
+      HasGreatestStatus bytes opens files status
   HasAskedStatus (Covering files missing quiet) status =
       HasCoverStatus bytes opens missing files status
-  HasAskedStatus (Recording file) status = HasFileStatus bytes opens tasks.Record file status
-  HasAskedStatus (Expanding file) status = HasFileStatus bytes opens tasks.Expand file status
+  HasAskedStatus (Recording file) status = HasFileStatus bytes opens HasRecorded file status
+  HasAskedStatus (Expanding file) status = HasFileStatus bytes opens HasExpanded file status
   HasAskedStatus (Explaining file line output) status =
-      HasFileStatus bytes opens (tasks.Explain line output) file status
+      HasFileStatus bytes opens (HasExplained file line) file status
   HasAskedStatus (Generating seed steps cpus pages geometry hostile) status =
       (old : Option (List ℕ))
       × (new : Option (List ℕ))
@@ -304,7 +269,7 @@ module _ {F I E : Type 0} (bytes : F → Option (List ℕ)) (opens : List ℕ �
       (record { cpus = cpus; pages = pages; geometry = geometry; hostile = hostile }) old
       new status
   HasAskedStatus (Drawing file text) status =
-      HasFileStatus bytes opens (tasks.Draw text) file status
+      HasFileStatus bytes opens (HasDrawn text) file status
   HasAskedStatus (Dumping dump) status = HasDumpStatus known may_fail opens_image dump status
 
   -- of what words were read as

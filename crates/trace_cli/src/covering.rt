@@ -3,8 +3,7 @@ ghost use Rattle.std.specs.Prelude.{◌≡◌, ◌||◌, IfOk, map};
 ghost use Rattle.trace_cli.specs.Covering.{AddsFile, AddsOpened, AddsSteps, HasCoverStatus, IsReportedStatus, is_faulty as is_faulty_by, status_of_cover as status_by};
 
 use crate::files::Opens;
-use crate::tasks::unopened;
-use crate::telling::{FAILED, REFUSED, no_memory, report_beside, tell};
+use crate::telling::{FAILED, REFUSED, no_memory, report_beside, tell, unopened};
 use crate::texts::{whole, write};
 use std::io;
 use trace_cover::{Seen, add_steps, cover};

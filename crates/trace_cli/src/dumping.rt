@@ -6,8 +6,7 @@ ghost use Rattle.trace_cli.specs.Dumping.{HasDumpStatus, IsDumpAnswer, form_by, 
 
 use crate::files::{OpensImage, ShowsWork};
 use crate::progress::WatchedImage;
-use crate::tasks::unopened;
-use crate::telling::REFUSED;
+use crate::telling::{REFUSED, unopened};
 use dump_words::{Given, NotGiven, read_words};
 use image_dump::{Dumped, Form, NotDumped, Shape, dump_image, dump_status};
 use memory_image::{ImageBytes, Refused};

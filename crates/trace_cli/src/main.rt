@@ -22,7 +22,7 @@
 #![tactic(auto)]
 
 ghost use Rattle.std.specs.Prelude.{IfOk, map};
-ghost use Rattle.trace_cli.specs.Status.{HasAskedStatus, HasFileStatus, HasGreatestStatus, HasOrderStatus, HasSomeStatus, HasWordsStatus};
+ghost use Rattle.trace_cli.specs.Status.{HasAskedStatus, HasChecked, HasFileStatus, HasGreatestStatus, HasOrderStatus, HasSomeStatus, HasWordsStatus};
 ghost use Rattle.trace_command.specs.Asked.{asking_of};
 
 mod covering;
@@ -33,24 +33,25 @@ mod generated;
 mod kept;
 mod progress;
 mod reports;
-mod tasks;
 mod telling;
 mod texts;
 
 use covering::covered;
 use dumping::dumped;
+use expansions::{expanded, recorded};
 use files::{HostFiles, Opens, OpensImage, ShowsWork};
 use generated::made;
 use memory_image::ImageBytes;
+use reports::{audited, raced, replayed};
 use std::io::IsTerminal;
 use std::process::ExitCode;
 use std::rt::Env;
 use std::sync::Wait;
 use std::thread::Threads;
 use std::{env, io};
-use tasks::{Opened, Task, order_status, status_of, unopened};
-use telling::{FAILED, refused};
-use trace_command::{Invocation, Output, command};
+use telling::{FAILED, refused, told, unopened};
+use texts::{checked, drawn, explained, order_reported, outcomes_reported};
+use trace_command::{Invocation, Looks, Output, command};
 use trace_generate::Options;
 use trace_reader::Progress;
 
@@ -106,56 +107,67 @@ fn done<
             heap,
             looks,
             output,
-        } => done_with(
-            rt,
-            files,
-            file,
-            Task::Replay {
-                heap,
-                looks,
-                output,
-            },
-        ),
+        } => match files.open(file, shows(output)) {
+            Ok(opened) => told(rt, file, replayed(rt, file, heap, looks, output, opened)),
+            Err(error) => unopened(rt, file, error),
+        },
         Invocation::Race {
             file,
             ordered,
             output,
-        } => done_with(rt, files, file, Task::Race { ordered, output }),
+        } => match files.open(file, shows(output)) {
+            Ok(opened) => told(rt, file, raced(rt, file, ordered, output, opened)),
+            Err(error) => unopened(rt, file, error),
+        },
         Invocation::Audit {
             file,
             legal,
             output,
-        } => done_with(rt, files, file, Task::Audit { legal, output }),
+        } => match files.open(file, shows(output)) {
+            Ok(opened) => told(rt, file, audited(rt, file, legal, output, opened)),
+            Err(error) => unopened(rt, file, error),
+        },
         Invocation::Outcomes {
             file,
             limit,
             observed: None,
             output,
-        } => done_with(rt, files, file, Task::Outcomes { limit, output }),
+        } => match files.open(file, false) {
+            Ok(opened) => {
+                let progress = files.progress("points", shows(output));
+                let answer = outcomes_reported(rt, file, limit, output, opened, &progress);
+                told(rt, file, answer)
+            }
+            Err(error) => unopened(rt, file, error),
+        },
         Invocation::Outcomes {
             file,
             limit,
             observed: Some(report),
             output,
-        } => done_with_both(rt, files, file, report, limit, output),
+        } => ordered_as(rt, files, file, report, limit, output),
         Invocation::Check {
             files: paths,
             looks,
             output,
-        } => done_with_each(rt, files, paths.as_slice(), Task::Check { looks, output }),
+        } => checked_each(rt, files, paths.as_slice(), looks, output),
         Invocation::Cover {
             files: paths,
             missing,
             quiet,
         } => covered(rt, files, paths.as_slice(), missing, quiet),
-        Invocation::Record { file } => done_with(rt, files, file, Task::Record),
-        Invocation::Expand { file } => done_with(rt, files, file, Task::Expand),
-        Invocation::Explain { file, line, output } => done_with(
-            rt,
-            files,
-            file,
-            Task::Explain { line, output },
-        ),
+        Invocation::Record { file } => match files.open(file, false) {
+            Ok(opened) => told(rt, file, recorded(rt, file, opened)),
+            Err(error) => unopened(rt, file, error),
+        },
+        Invocation::Expand { file } => match files.open(file, false) {
+            Ok(opened) => told(rt, file, expanded(rt, file, opened)),
+            Err(error) => unopened(rt, file, error),
+        },
+        Invocation::Explain { file, line, output } => match files.open(file, false) {
+            Ok(opened) => told(rt, file, explained(rt, file, line, output, opened)),
+            Err(error) => unopened(rt, file, error),
+        },
         Invocation::Generate {
             seed,
             steps,
@@ -176,44 +188,55 @@ fn done<
             },
             &files.progress("calls", true),
         ),
-        Invocation::Draw { file, text } => done_with(rt, files, file, Task::Draw { text }),
+        Invocation::Draw { file, text } => match files.open(file, false) {
+            Ok(opened) => told(rt, file, drawn(rt, file, text, opened)),
+            Err(error) => unopened(rt, file, error),
+        },
         Invocation::Dump(dump) => dumped(rt, files, dump),
     }
 }
 
-/// Does a task with each of these files, and gives the greatest status.
-fn done_with_each<
-    R: AllocGlobal + Print + Eprint + Threads + Wait + Sync,
-    F: io::Read + Drop,
-    P: Progress + Drop,
-    O: Opens<F> + ShowsWork<P>,
->(rt: &R, files: &O, paths: &[&str], task: Task) -> u8
-    ensures { HasGreatestStatus F.remaining (O.opens files.now) task
+/// Whether a report is written, so that the progress of its lines may be shown.
+fn shows(output: Output) -> bool {
+    output != Output::Nothing
+}
+
+/// Checks each of these traces, and gives the greatest status.
+fn checked_each<R: AllocGlobal + Print + Eprint, F: io::Read + Drop, O: Opens<F>>(
+    rt: &R,
+    files: &O,
+    paths: &[&str],
+    looks: Looks,
+    output: Output,
+) -> u8
+    ensures { HasGreatestStatus F.remaining (O.opens files.now)
         (map (λ path. path.now) paths.now) result }
 {
     let mut status = 0;
     for path in paths {
-        status = done_with(rt, files, path, task).max(status);
+        status = check_status(rt, files, path, looks, output).max(status);
     }
     status
 }
 
-/// Does a task with the file at a path, and gives the exit status.
-fn done_with<
-    R: AllocGlobal + Print + Eprint + Threads + Wait + Sync,
-    F: io::Read + Drop,
-    P: Progress + Drop,
-    O: Opens<F> + ShowsWork<P>,
->(rt: &R, files: &O, path: &str, task: Task) -> u8
-    ensures { HasFileStatus F.remaining (O.opens files.now) task path.now result }
+/// Checks the trace at a path, and gives the exit status.
+fn check_status<R: AllocGlobal + Print + Eprint, F: io::Read + Drop, O: Opens<F>>(
+    rt: &R,
+    files: &O,
+    path: &str,
+    looks: Looks,
+    output: Output,
+) -> u8
+    ensures { HasFileStatus F.remaining (O.opens files.now) (HasChecked path.now) path.now result }
 {
-    let file = files.open(path, task.shows());
-    let progress = files.progress("points", task.searches());
-    status_of(rt, Opened { task, path, file }, &progress)
+    match files.open(path, false) {
+        Ok(file) => told(rt, path, checked(rt, path, looks, output, file)),
+        Err(error) => unopened(rt, path, error),
+    }
 }
 
 /// Writes whether some order of steps gives the replies of the report at a path, and returns the exit status.
-fn done_with_both<
+fn ordered_as<
     R: AllocGlobal + Print + Eprint,
     F: io::Read + Drop,
     P: Progress + Drop,
@@ -227,8 +250,9 @@ fn done_with_both<
     };
     match files.open(report, false) {
         Ok(observed) => {
-            let progress = files.progress("points", output != Output::Nothing);
-            order_status(rt, path, report, limit, output, file, observed, &progress)
+            let progress = files.progress("points", shows(output));
+            let answer = order_reported(rt, path, report, limit, output, file, observed, &progress);
+            told(rt, path, answer)
         }
         Err(error) => {
             drop(file);

@@ -1,13 +1,14 @@
 //! Text that is in no report, and goes to standard error.
 ghost use Rattle.std.specs.Prelude.{◌≡◌};
-ghost use Rattle.trace_cli.specs.Status.{IsRefused, place_in};
+ghost use Rattle.trace_cli.specs.Status.{IsRefused, place_in, status_of_end};
 
 use clap::error::ErrorKind;
+use std::io;
 use std::str::from_utf8;
 use trace_command::UsageFault;
 use trace_faults::text_beside;
 use trace_race::{Halted, RaceFault};
-use trace_reader::EngineFault;
+use trace_reader::{EngineFault, Outcome, exit_status};
 use trace_text::Fault;
 
 /// The status if the words are refused or a file can't be opened.
@@ -36,6 +37,28 @@ pub fn refused<R: Print + Eprint>(rt: &R, fault: UsageFault) -> u8
             FAILED
         }
     }
+}
+
+/// Writes to standard error that a file can't be opened, and gives the exit status.
+pub fn unopened<R: Eprint>(rt: &R, path: &str, error: io::Error) -> u8
+    ensures { result ≡ 2 }
+{
+    let _ = eprintln!(rt; "./run: {path}: {error}");
+    REFUSED
+}
+
+/// Writes to standard error why there is no whole report, if there is none, and gives the exit status.
+pub fn told<R: Eprint>(rt: &R, path: &str, answer: Result<Outcome, Halted>) -> u8
+    ensures { result ≡ status_of_end answer }
+{
+    let outcome = match answer {
+        Ok(outcome) => outcome,
+        Err(halted) => {
+            tell(rt, path, &halted);
+            return FAILED;
+        }
+    };
+    exit_status(Ok(outcome))
 }
 
 /// Writes to standard error why there is no whole report.
