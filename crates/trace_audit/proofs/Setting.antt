@@ -1,5 +1,5 @@
 -- What setting a word comes to.
-use Rattle.std.proofs.Common.{◌≡◌, ℕ, false, true, refl, ap, subst, List, [], Option, Some, None, Result, Ok, Err, IsSome, MatchOption, inr}
+use Rattle.std.proofs.Common.{◌≡◌, ℕ, false, true, refl, subst, List, Option, Some, None, Result, Ok, Err, IsSome, MatchOption, inr}
 use Rattle.page_state.specs.declared.layout.Geometry.{Geometry}
 use Rattle.table_tree.specs.Said.{block_of}
 use Rattle.ghost_oracle.specs.declared.raw.Which.{Which}

@@ -1,14 +1,12 @@
 -- What the end of a report tells of legality.
-use Rattle.std.proofs.Common.{◌≡◌, ℕ, refl, subst, sym, List, Option, Some, None, Result, MatchOption, IfOk, IfSome, inl, inr}
+use Rattle.std.proofs.Common.{◌≡◌, ℕ, refl, subst, List, Option, Some, None, MatchOption, IfSome, inl, inr}
 use Rattle.std.specs.Prelude.{◌↔◌, ◌⊎◌}
 use Rattle.ghost_judge.specs.declared.disagreement.Disagreement.{Disagreement}
 use Rattle.ghost_legal.specs.declared.finding.Unlawful.{Unlawful}
 use Rattle.ghost_legal.specs.Unlawful.{IsUnlawful, MakesLegal}
 use Rattle.ghost_spec.specs.declared.lists.GhostLists.{GhostLists}
 use Rattle.trace_text.specs.declared.report.ReportLine.{ReportLine}
-use Rattle.trace_text.specs.Worlds.{Machine}
-use Rattle.world.specs.declared.raw.RawWorld.{RawWorld}
-use Rattle.trace_audit.specs.Audited.{Audited, IsRawWalk, IsTold, IsWalkOf, TellsWalk, told_lines}
+use Rattle.trace_audit.specs.Audited.{IsRawWalk, IsWalkOf, TellsWalk, told_lines}
 use Rattle.trace_audit.specs.Laws.{LegalReports, ReportsIllegal, ReportsLegal}
 
 legal_by : (steps : ℕ) (found : Option Disagreement) (lines : List ReportLine) (why : Option Unlawful)
@@ -40,33 +38,3 @@ legal_reports a world lines outcome poked h =
       t.walked_is,
       legal_by a.session.steps h.0 lines h.1 t.walked t.none t.some h.4,
     )
-
--- what is told of a world without a poke, and of a poked one
-module _ {A E : Type 0} (a : Audited A) (r : Result (Option Unlawful) E) where
-  abbrev pub Tells : Option (RawWorld A) → Option Machine → Type 0
-  Tells poked machine =
-      IfOk r
-      (λ why. MatchOption poked (MatchOption machine (why ≡ None) (λ m. TellsWalk (IsWalkOf m) why))
-      (λ world. TellsWalk (IsRawWalk world.parts) why))
-
-  pub told_world : (m : Machine)
-      → a.poked ≡ None
-      → a.session.machine ≡ Some m
-      → IfOk r (TellsWalk (IsWalkOf m))
-      → IfOk r (IsTold a)
-  told_world m none is h =
-      subst (λ p. Tells p a.session.machine) (sym none) (subst (Tells None) (sym is) h)
-
-  pub told_poked : (world : RawWorld A)
-      → a.poked ≡ Some world
-      → IfOk r (TellsWalk (IsRawWalk world.parts))
-      → IfOk r (IsTold a)
-  told_poked world is h = subst (λ p. Tells p a.session.machine) (sym is) h
-
--- and before the boot
-pub told_nothing : {A : Type 0} (a : Audited A) → a.poked ≡ None → a.session.machine ≡ None → IsTold a None
-told_nothing a none is =
-    subst
-    (λ p. MatchOption p (MatchOption a.session.machine (None ≡ None) (λ m. TellsWalk (IsWalkOf m) None))
-    (λ world. TellsWalk (IsRawWalk world.parts) None)) (sym none)
-    (subst (λ o. MatchOption o (None ≡ None) (λ m. TellsWalk (IsWalkOf m) None)) (sym is) refl)

@@ -1,4 +1,4 @@
-use Rattle.std.proofs.Common.{rules, ◌≡◌, ◌∙◌, [], ◌∷◌, ◌++◌, length, ap, subst, IfOk, OnErr}
+use Rattle.std.proofs.Common.{rules, ◌≡◌, [], ◌∷◌, ◌++◌, length, subst, IfOk, OnErr}
 use Rattle.trace_text.specs.declared.report.ReportLine.TheVariants as report
 use Rattle.trace_text.specs.Oracles.{audited_lines, illegal_lines}
 use Rattle.trace_text.specs.Played.{EndsWith, WritesFront}
