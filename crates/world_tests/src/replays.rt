@@ -1,4 +1,6 @@
 //! Replays.
+ghost use Rattle.std.specs.Prelude.{true};
+
 use call_table::{Reply, Step};
 use ghost_judge::disagreement::Disagreement;
 use ghost_oracle::compared::Compared;
